@@ -31,8 +31,8 @@ abbrev pub sealed_frame : List ℕ → Body → List Party → FrameData
 sealed_frame seed body receivers = sealed_for seed (body_data body) (map party_number receivers)
 
 -- The bytes spell that frame.
-abbrev pub Seals : List ℕ → Body → List Party → Vec ℕ Global → Type 0
-Seals seed body receivers bytes = SpellsFrame bytes.items (sealed_frame seed body receivers)
+abbrev pub SealsBody : List ℕ → Body → List Party → Vec ℕ Global → Type 0
+SealsBody seed body receivers bytes = SpellsFrame bytes.items (sealed_frame seed body receivers)
 
 -- The body is refused as too large exactly if its frame would be longer than it may be.
 abbrev pub TellsTooLong : List ℕ → Body → List Party → Result (Vec ℕ Global) SealFault → Type 0
@@ -50,5 +50,5 @@ OpensEach m party bytes result =
     (Opens m (party_number party) bytes) result
 
 -- why the party refuses a frame of this header, if it does
-abbrev pub refusal_of : Membership → Party → Header → Option OpenFault
-refusal_of m party header = header_refusal m (party_number party) (header_data header)
+abbrev pub refusal_of_header : Membership → Party → Header → Option OpenFault
+refusal_of_header m party header = header_refusal m (party_number party) (header_data header)

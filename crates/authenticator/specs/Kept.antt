@@ -17,19 +17,19 @@ abbrev pub pair_eq : ℕ × ℕ → ℕ × ℕ → Bool
 pair_eq x y = nat_eq x.0 y.0 && nat_eq x.1 y.1
 
 -- each value fits its two parties
-abbrev pub Fit : {V S : Type 0} → (ℕ → ℕ → V → Type 0) → HashMap (ℕ × ℕ) V S → Type 0
-Fit fits kept = (from to : ℕ) → ForSome (get pair_eq kept (from, to)) (fits from to)
+abbrev pub ValuesFit : {V S : Type 0} → (ℕ → ℕ → V → Type 0) → HashMap (ℕ × ℕ) V S → Type 0
+ValuesFit fits kept = (from to : ℕ) → ForSome (get pair_eq kept (from, to)) (fits from to)
 
 -- each kept key is the one between its two parties
 abbrev pub KeysFit : {S : Type 0} → List ℕ → HashMap (ℕ × ℕ) (List ℕ) S → Type 0
-KeysFit seed kept = Fit (λ from to key. key ≡ block_key (key_between seed from to)) kept
+KeysFit seed kept = ValuesFit (λ from to key. key ≡ block_key (key_between seed from to)) kept
 
 -- each kept code is that of its text from the one party to the other
 abbrev pub CodesFit : {S : Type 0} → List ℕ → HashMap (ℕ × ℕ) CodedText S → Type 0
-CodesFit seed kept = Fit (λ from to it. it.code ≡ mac_between seed from to it.text.items) kept
+CodesFit seed kept = ValuesFit (λ from to it. it.code ≡ mac_between seed from to it.text.items) kept
 
 -- the text and its code are taken, or those before stay
-abbrev pub Takes : List ℕ → List ℕ → CodedText → CodedText → Type 0
-Takes text code old new =
+abbrev pub KeepsOrTakesText : List ℕ → List ℕ → CodedText → CodedText → Type 0
+KeepsOrTakesText text code old new =
     ((new.text.items ≡ text) × (new.code ≡ code))
     ⊎ ((new.text.items ≡ old.text.items) × (new.code ≡ old.code))

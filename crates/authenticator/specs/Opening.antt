@@ -14,8 +14,8 @@ may_open seed party frame =
     authenticator_is_signed frame.authenticator || is_authentic seed party frame
 
 -- Why the party refuses the frame, if it does.
-abbrev pub refusal : Membership → ℕ → FrameData → Option OpenFault
-refusal m party frame =
+abbrev pub frame_refusal : Membership → ℕ → FrameData → Option OpenFault
+frame_refusal m party frame =
     if has_sender m frame.body
     then (if may_open m.seed party frame then None else Some faults.BadMac)
     else Some faults.UnknownSender
@@ -40,10 +40,10 @@ pub record HasNoMac (m : Membership) (party : ℕ) (bytes : List ℕ) : Type 0 w
   pub proved : may_open m.seed party frame ≡ false
 
 -- Why the bytes are refused. If several refusals hold, the first in this order counts.
-abbrev pub Refuses : Membership → ℕ → List ℕ → OpenFault → Type 0
-Refuses m party bytes faults.TooLarge = IsTooLarge bytes
-Refuses m party bytes faults.Malformed =
+abbrev pub RefusesFrame : Membership → ℕ → List ℕ → OpenFault → Type 0
+RefusesFrame m party bytes faults.TooLarge = IsTooLarge bytes
+RefusesFrame m party bytes faults.Malformed =
     ¬ IsTooLarge bytes × ((frame : FrameData) → ¬ SpellsFrame bytes frame)
-Refuses m party bytes faults.UnknownSender = HasNoSender m bytes
-Refuses m party bytes faults.BadMac = HasNoMac m party bytes
-Refuses m party bytes faults.NoMemory = (frame : FrameData) × Opens m party bytes frame
+RefusesFrame m party bytes faults.UnknownSender = HasNoSender m bytes
+RefusesFrame m party bytes faults.BadMac = HasNoMac m party bytes
+RefusesFrame m party bytes faults.NoMemory = (frame : FrameData) × Opens m party bytes frame

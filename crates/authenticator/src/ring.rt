@@ -2,7 +2,7 @@
 
 ghost use Rattle.std.specs.Prelude.{◌≡◌, ◌∷◌, ◌++◌, ◌<◌, IfSome};
 ghost use Rattle.std.specs.Int.{w16, to_be_bytes};
-ghost use Rattle.authenticator.specs.Kept.{Takes};
+ghost use Rattle.authenticator.specs.Kept.{KeepsOrTakesText};
 ghost use Rattle.authenticator.specs.Mac.{block_key};
 ghost use Rattle.authenticator.specs.Keys.{key_between, mac_between, signing_seed};
 ghost use Rattle.authenticator.specs.Headers.{takes_part};
@@ -27,7 +27,7 @@ pub struct CodedText {
 impl CodedText {
     // Takes another text with its code, if there is room for it.
     fn put(&mut self, text: &[u8], code: [u8; 32])
-        ensures { Takes text.now code self.old self.new }
+        ensures { KeepsOrTakesText text.now code self.old self.new }
     {
         if self.text.reserve(text.len()).is_err() {
             return;

@@ -9,10 +9,10 @@ ghost use Rattle.terms.specs.Parties.{party_number};
 ghost use Rattle.wire_format.specs.Views.{body_data, mac_data};
 ghost use Rattle.authenticator.specs.Authentic.{has_mac, is_mac_for};
 ghost use Rattle.authenticator.specs.Keys.{mac_between};
-ghost use Rattle.authenticator.specs.Opening.{Refuses};
+ghost use Rattle.authenticator.specs.Opening.{RefusesFrame};
 ghost use Rattle.authenticator.specs.Headers.{is_authenticated};
 ghost use Rattle.wire.specs.Headers.{header_data};
-ghost use Rattle.authenticator.specs.Giving.{AreMacsFor, Seals, TellsTooLong, IsOpened, OpensEach, refusal_of};
+ghost use Rattle.authenticator.specs.Giving.{AreMacsFor, SealsBody, TellsTooLong, IsOpened, OpensEach, refusal_of_header};
 
 use crate::mac::same;
 use crate::ring::Ring;
@@ -110,7 +110,7 @@ impl Ring {
         receivers: &[Party],
     ) -> Result<Vec<u8>, SealFault>
         requires { IsSealable (body_data body.now) (map party_number receivers.now) }
-        ensures sealed { IfOk result (Seals self.old.seed body.now receivers.now) }
+        ensures sealed { IfOk result (SealsBody self.old.seed body.now receivers.now) }
         ensures large { TellsTooLong self.old.seed body.now receivers.now result }
         ensures same { self.new ≡ self.old }
     {
@@ -154,7 +154,7 @@ impl Ring {
     pub fn open(&mut self, alloc: Global, bytes: &[u8], me: Party) -> Result<Opened, OpenFault>
         ensures opened { IfOk result (IsOpened self.old me bytes.now) }
         ensures all { OpensEach self.old me bytes.now result }
-        ensures refused { IfErr result (Refuses self.old (party_number me) bytes.now) }
+        ensures refused { IfErr result (RefusesFrame self.old (party_number me) bytes.now) }
         ensures same { self.new ≡ self.old }
     {
         let header = judge(bytes)?;
@@ -168,7 +168,7 @@ impl Ring {
     /// Why `me` refuses a frame of this header, if it does: the sender is unknown, or else the MAC is wrong.
     /// Signatures are not tested here. It takes no memory except for the keys and requests that the ring keeps.
     pub fn refusal(&mut self, header: &Header<'_>, me: Party) -> Option<OpenFault>
-        ensures value { result ≡ refusal_of self.old me header.now }
+        ensures value { result ≡ refusal_of_header self.old me header.now }
         ensures same { self.new ≡ self.old }
     {
         if !self.takes_part(header.sender.number(), header.is_request) {

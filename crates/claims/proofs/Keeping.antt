@@ -15,7 +15,7 @@ use Rattle.wire_format.specs.Lists.{Each}
 use Rattle.protocol.specs.Replica.Certificates.{low, is_in_marks, logged}
 use Rattle.protocol.proofs.Agreement.Marks.{low_grows}
 use Rattle.protocol.proofs.Words.Elements.{each_has, has_some, has_weaker, each_where, each_weaker}
-use Rattle.claims.specs.Recording.{same_number, same_name, later_of, with_claim, with_prepared, with_logged, with_all, above_mark, IsPreparedAs, IsLoggedAs, Adds, Ascends, IsLatest, IsEach, AreDigests, MovesUp, RecordsBegin, LatestIsRecorded, EachIsRecorded, PreparedIsRecorded, LoggedIsRecorded, RecordsAreLists}
+use Rattle.claims.specs.Recording.{same_number, same_name, later_of, with_claim, with_prepared, with_logged, with_all, above_mark, IsPreparedAs, IsLoggedAs, AddsClaims, Ascends, IsLatest, IsEach, AreDigests, MovesUp, RecordsBegin, LatestIsRecorded, EachIsRecorded, PreparedIsRecorded, LoggedIsRecorded, RecordsAreLists}
 use Rattle.claims.proofs.ByteOrder.{bytes_trans, bytes_irreflexive}
 
 -- ---- an order on claims that distinguishes those that name different numbers or digests
@@ -465,7 +465,7 @@ moves_up c me e past holds ahead =
       still = λ i t l. let m = marks_parts c (low c me past) i t in let n = m.1 in marks_from c (low c me (e ∷ past)) i l (omega arith) m.2;
     }
 
-is_added : (before after : ℕ → ℕ → List ℕ → Type 0) (in_marks : ℕ → Bool) (new : List Claim) → Adds before after in_marks new
+is_added : (before after : ℕ → ℕ → List ℕ → Type 0) (in_marks : ℕ → Bool) (new : List Claim) → AddsClaims before after in_marks new
     → (v i : ℕ) (digest : List ℕ) → WithAll before new v i digest → after v i digest
 is_added before after in_marks new adds v i digest (inl h) = adds.stays v i digest h
 is_added before after in_marks new adds v i digest (inr h) =

@@ -12,7 +12,7 @@ use Rattle.wire_format.specs.Messages.{BatchEntryData as Claim}
 use Rattle.wire_format.specs.Spelling.{batch_entry_before, named_before}
 use Rattle.protocol.proofs.Words.Elements.{each_append, each_where, each_weaker}
 use Rattle.claims.specs.declared.claim.Claim.{Claim as Kept}
-use Rattle.claims.specs.ClaimsView.{claims_of, digests_of, texts_in, IsAmong}
+use Rattle.claims.specs.ClaimsView.{claims_of, digests_of, texts_in, IsAmongTexts}
 use Rattle.claims.specs.Recording.{same_number, same_name, with_prepared, with_logged, above_mark, Ascends}
 use Rattle.claims.proofs.Keeping.{ascends_with, ascends_left, by_number, by_name}
 
@@ -66,18 +66,18 @@ texts_named (x ∷ xs) = ap₂ (λ (d : List ℕ) (ds : List (List ℕ)). d ∷ 
 
 -- ---- texts of the claims
 
-among_all : (texts : List (List ℕ)) → Each (IsAmong texts) texts
-among_all texts = each_where (IsAmong texts) texts (λ x has. has)
+among_all : (texts : List (List ℕ)) → Each (IsAmongTexts texts) texts
+among_all texts = each_where (IsAmongTexts texts) texts (λ x has. has)
 
-among_more : (one : List ℕ) (texts some : List (List ℕ)) → Each (IsAmong texts) some → Each (IsAmong (one ∷ texts)) some
-among_more one texts some h = each_weaker (IsAmong texts) (IsAmong (one ∷ texts)) (λ x has. inr has) some h
+among_more : (one : List ℕ) (texts some : List (List ℕ)) → Each (IsAmongTexts texts) some → Each (IsAmongTexts (one ∷ texts)) some
+among_more one texts some h = each_weaker (IsAmongTexts texts) (IsAmongTexts (one ∷ texts)) (λ x has. inr has) some h
 
-pub texts_same : (one : List ℕ) (texts : List (List ℕ)) → Each (IsAmong (one ∷ texts)) texts
+pub texts_same : (one : List ℕ) (texts : List (List ℕ)) → Each (IsAmongTexts (one ∷ texts)) texts
 texts_same one texts = among_more one texts texts (among_all texts)
 
 -- a list of some texts and the one, in two parts round it
-between : (one : List ℕ) (texts front behind : List (List ℕ)) → Each (IsAmong texts) front → Each (IsAmong texts) behind → Each (IsAmong (one ∷ texts)) (front ++ one ∷ behind)
-between one texts front behind a b = each_append (IsAmong (one ∷ texts)) front (one ∷ behind) (among_more one texts front a) (inl refl, among_more one texts behind b)
+between : (one : List ℕ) (texts front behind : List (List ℕ)) → Each (IsAmongTexts texts) front → Each (IsAmongTexts texts) behind → Each (IsAmongTexts (one ∷ texts)) (front ++ one ∷ behind)
+between one texts front behind a b = each_append (IsAmongTexts (one ∷ texts)) front (one ∷ behind) (among_more one texts front a) (inl refl, among_more one texts behind b)
 
 each_taken : {A : Type 0} (P : A → Type 0) (n : ℕ) (xs : List A) → Each P xs → Each P (take n xs)
 each_taken P zero xs h = tt
@@ -89,32 +89,32 @@ each_dropped P zero xs h = h
 each_dropped P (suc n) [] h = tt
 each_dropped P (suc n) (x ∷ xs) h = each_dropped P n xs h.1
 
-texts_taken : (n : ℕ) (claims : List Kept) → Each (IsAmong (texts_in claims)) (texts_in (take n claims))
-texts_taken n claims = subst (Each (IsAmong (texts_in claims))) (take-map (λ (x : Kept). arc_value x.batch) n claims) (each_taken (IsAmong (texts_in claims)) n (texts_in claims) (among_all (texts_in claims)))
+texts_taken : (n : ℕ) (claims : List Kept) → Each (IsAmongTexts (texts_in claims)) (texts_in (take n claims))
+texts_taken n claims = subst (Each (IsAmongTexts (texts_in claims))) (take-map (λ (x : Kept). arc_value x.batch) n claims) (each_taken (IsAmongTexts (texts_in claims)) n (texts_in claims) (among_all (texts_in claims)))
 
-texts_dropped : (n : ℕ) (claims : List Kept) → Each (IsAmong (texts_in claims)) (texts_in (drop n claims))
-texts_dropped n claims = subst (Each (IsAmong (texts_in claims))) (drop_map n claims) (each_dropped (IsAmong (texts_in claims)) n (texts_in claims) (among_all (texts_in claims)))
+texts_dropped : (n : ℕ) (claims : List Kept) → Each (IsAmongTexts (texts_in claims)) (texts_in (drop n claims))
+texts_dropped n claims = subst (Each (IsAmongTexts (texts_in claims))) (drop_map n claims) (each_dropped (IsAmongTexts (texts_in claims)) n (texts_in claims) (among_all (texts_in claims)))
   where
     drop_map : (n : ℕ) (xs : List Kept) → drop n (texts_in xs) ≡ texts_in (drop n xs)
     drop_map zero xs = refl
     drop_map (suc n) [] = refl
     drop_map (suc n) (x ∷ xs) = drop_map n xs
 
-pub texts_inserted : (k : Kept) (claims : List Kept) (n : ℕ) → Each (IsAmong (arc_value k.batch ∷ texts_in claims)) (texts_in (insert claims n k))
+pub texts_inserted : (k : Kept) (claims : List Kept) (n : ℕ) → Each (IsAmongTexts (arc_value k.batch ∷ texts_in claims)) (texts_in (insert claims n k))
 texts_inserted k claims n =
-    subst (Each (IsAmong (arc_value k.batch ∷ texts_in claims))) (sym (map-append (λ (x : Kept). arc_value x.batch) (take n claims) (k ∷ drop n claims)))
+    subst (Each (IsAmongTexts (arc_value k.batch ∷ texts_in claims))) (sym (map-append (λ (x : Kept). arc_value x.batch) (take n claims) (k ∷ drop n claims)))
     (between (arc_value k.batch) (texts_in claims) (texts_in (take n claims)) (texts_in (drop n claims)) (texts_taken n claims) (texts_dropped n claims))
 
-pub texts_replaced : (k : Kept) (claims : List Kept) (n : ℕ) → n < length claims → Each (IsAmong (arc_value k.batch ∷ texts_in claims)) (texts_in (set claims n k))
+pub texts_replaced : (k : Kept) (claims : List Kept) (n : ℕ) → n < length claims → Each (IsAmongTexts (arc_value k.batch ∷ texts_in claims)) (texts_in (set claims n k))
 texts_replaced k claims n l =
-    subst (λ (xs : List Kept). Each (IsAmong (arc_value k.batch ∷ texts_in claims)) (texts_in xs)) (sym (set_split claims n k l))
-    (subst (Each (IsAmong (arc_value k.batch ∷ texts_in claims))) (sym (map-append (λ (x : Kept). arc_value x.batch) (take n claims) (k ∷ drop (suc n) claims)))
+    subst (λ (xs : List Kept). Each (IsAmongTexts (arc_value k.batch ∷ texts_in claims)) (texts_in xs)) (sym (set_split claims n k l))
+    (subst (Each (IsAmongTexts (arc_value k.batch ∷ texts_in claims))) (sym (map-append (λ (x : Kept). arc_value x.batch) (take n claims) (k ∷ drop (suc n) claims)))
     (between (arc_value k.batch) (texts_in claims) (texts_in (take n claims)) (texts_in (drop (suc n) claims)) (texts_taken n claims) (texts_dropped (suc n) claims)))
 
-pub texts_left : (test : Kept → Bool) (claims : List Kept) → Each (IsAmong (texts_in claims)) (texts_in (filter test claims))
+pub texts_left : (test : Kept → Bool) (claims : List Kept) → Each (IsAmongTexts (texts_in claims)) (texts_in (filter test claims))
 texts_left test [] = tt
 texts_left test (x ∷ xs) = go (test x) (texts_left test xs)
   where
-    go : (b : Bool) → Each (IsAmong (texts_in xs)) (texts_in (filter test xs)) → Each (IsAmong (texts_in (x ∷ xs))) (texts_in (cond b (x ∷ filter test xs) (filter test xs)))
+    go : (b : Bool) → Each (IsAmongTexts (texts_in xs)) (texts_in (filter test xs)) → Each (IsAmongTexts (texts_in (x ∷ xs))) (texts_in (cond b (x ∷ filter test xs) (filter test xs)))
     go true below = (inl refl, among_more (arc_value x.batch) (texts_in xs) (texts_in (filter test xs)) below)
     go false below = among_more (arc_value x.batch) (texts_in xs) (texts_in (filter test xs)) below

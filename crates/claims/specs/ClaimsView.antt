@@ -47,5 +47,5 @@ abbrev pub digests_of : List BatchEntryData → List (List ℕ)
 digests_of claims = map (λ claim. claim.digest) claims
 
 -- one of these texts
-abbrev pub IsAmong : List (List ℕ) → List ℕ → Type 0
-IsAmong texts text = Has (λ t. t ≡ text) texts
+abbrev pub IsAmongTexts : List (List ℕ) → List ℕ → Type 0
+IsAmongTexts texts text = Has (λ t. t ≡ text) texts

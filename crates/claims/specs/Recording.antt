@@ -57,7 +57,7 @@ abbrev pub IsLoggedAs : Configuration → ℕ → List Entry → ℕ → ℕ →
 IsLoggedAs c me past v i digest = (batch : List ℕ) × (logged c me past v i ≡ Some batch) × (sha256 batch ≡ digest)
 
 -- after the entry, in the marks, exactly these claims hold beside what held before, and they are in the marks
-pub record Adds (before after : ℕ → ℕ → List ℕ → Type 0) (in_marks : ℕ → Bool) (claims : List Claim) : Type 0 where
+pub record AddsClaims (before after : ℕ → ℕ → List ℕ → Type 0) (in_marks : ℕ → Bool) (claims : List Claim) : Type 0 where
   pub stays : (v i : ℕ) (digest : List ℕ) → before v i digest → after v i digest
   pub new : Each (λ claim. after claim.view claim.number claim.digest × (in_marks claim.number ≡ true)) claims
   pub only : (v i : ℕ) (digest : List ℕ) → in_marks i ≡ true → after v i digest
@@ -120,27 +120,27 @@ abbrev pub LatestIsRecorded : Type 1
 LatestIsRecorded =
     (before after : ℕ → ℕ → List ℕ → Type 0) (in_marks later : ℕ → Bool) (low : ℕ) (claims new : List Claim)
     → AreDigests before → AreDigests after → MovesUp before in_marks later low → IsLatest before in_marks claims
-    → Adds before after later new → IsLatest after later (with_all with_prepared new (above_mark low claims))
+    → AddsClaims before after later new → IsLatest after later (with_all with_prepared new (above_mark low claims))
 
 abbrev pub EachIsRecorded : Type 1
 EachIsRecorded =
     (before after : ℕ → ℕ → List ℕ → Type 0) (in_marks later : ℕ → Bool) (low : ℕ) (claims new : List Claim)
     → AreDigests before → AreDigests after → MovesUp before in_marks later low → IsEach before in_marks claims
-    → Adds before after later new → IsEach after later (with_all with_logged new (above_mark low claims))
+    → AddsClaims before after later new → IsEach after later (with_all with_logged new (above_mark low claims))
 
 -- So the claims after an entry record the history with the entry.
 abbrev pub PreparedIsRecorded : Type 0
 PreparedIsRecorded =
     (c : Configuration) (me : ℕ) (e : Entry) (past : List Entry) (claims new : List Claim)
     → NothingAhead c me past → RecordsPrepared c me past claims
-    → Adds (IsPreparedAs c me past) (IsPreparedAs c me (e ∷ past)) (is_in_marks c (low c me (e ∷ past))) new
+    → AddsClaims (IsPreparedAs c me past) (IsPreparedAs c me (e ∷ past)) (is_in_marks c (low c me (e ∷ past))) new
     → RecordsPrepared c me (e ∷ past) (with_all with_prepared new (above_mark (low c me (e ∷ past)) claims))
 
 abbrev pub LoggedIsRecorded : Type 0
 LoggedIsRecorded =
     (c : Configuration) (me : ℕ) (e : Entry) (past : List Entry) (claims new : List Claim)
     → NothingAhead c me past → RecordsLogged c me past claims
-    → Adds (IsLoggedAs c me past) (IsLoggedAs c me (e ∷ past)) (is_in_marks c (low c me (e ∷ past))) new
+    → AddsClaims (IsLoggedAs c me past) (IsLoggedAs c me (e ∷ past)) (is_in_marks c (low c me (e ∷ past))) new
     → RecordsLogged c me (e ∷ past) (with_all with_logged new (above_mark (low c me (e ∷ past)) claims))
 
 -- The recorded claims are the lists of a view change.

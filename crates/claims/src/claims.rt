@@ -7,7 +7,7 @@ ghost use Rattle.wire_format.specs.Lists.{Each, ascends};
 ghost use Rattle.wire_format.specs.Spelling.{batch_entry_before, named_before};
 ghost use Rattle.wire_format.specs.Views.{batch_entry_data};
 ghost use Rattle.claims.specs.ClaimsView as spec;
-ghost use Rattle.claims.specs.ClaimsView.{claims_of, digests_of, texts_in, IsAmong};
+ghost use Rattle.claims.specs.ClaimsView.{claims_of, digests_of, texts_in, IsAmongTexts};
 ghost use Rattle.claims.specs.Places as places;
 ghost use Rattle.claims.specs.Recording as recording;
 
@@ -95,7 +95,7 @@ impl Claims {
         ensures logged { OnOk result (self.new.logged
             ≡ recording.with_logged (spec.claim_of number.0 view.0 (arc_value batch)) self.old.logged) }
         ensures prepared { OnOk result (self.new.prepared ≡ self.old.prepared) }
-        ensures texts { OnOk result (Each (IsAmong (arc_value batch ∷ self.old.texts)) self.new.texts) }
+        ensures texts { OnOk result (Each (IsAmongTexts (arc_value batch ∷ self.old.texts)) self.new.texts) }
         ensures err { OnErr result (self.new ≡ self.old) }
     {
         add(
@@ -109,7 +109,7 @@ impl Claims {
     pub fn cut(&mut self, low: Number)
         ensures prepared { self.new.prepared ≡ recording.above_mark low.0 self.old.prepared }
         ensures logged { self.new.logged ≡ recording.above_mark low.0 self.old.logged }
-        ensures texts { Each (IsAmong self.old.texts) self.new.texts }
+        ensures texts { Each (IsAmongTexts self.old.texts) self.new.texts }
     {
         keep_above(&mut self.prepared, low);
         keep_above(&mut self.logged, low);
@@ -200,7 +200,7 @@ fn is_same_at(claims: &[Claim], place: usize, order: ClaimOrder, entry: &BatchEn
 fn add(claims: &mut Vec<Claim>, order: ClaimOrder, claim: Claim) -> Result<(), NoMemory>
     ensures ok { OnOk result (claims_of claims.new.items
         ≡ places.with_claim_by order (spec.claim_data claim) (claims_of claims.old.items)) }
-    ensures texts { OnOk result (Each (IsAmong (arc_value claim.batch ∷ texts_in claims.old.items))
+    ensures texts { OnOk result (Each (IsAmongTexts (arc_value claim.batch ∷ texts_in claims.old.items))
         (texts_in claims.new.items)) }
     ensures err { OnErr result (claims.new.items ≡ claims.old.items) }
 {
@@ -217,7 +217,7 @@ fn add(claims: &mut Vec<Claim>, order: ClaimOrder, claim: Claim) -> Result<(), N
 
 fn keep_above(claims: &mut Vec<Claim>, low: Number)
     ensures claims { claims_of claims.new.items ≡ recording.above_mark low.0 (claims_of claims.old.items) }
-    ensures texts { Each (IsAmong (texts_in claims.old.items)) (texts_in claims.new.items) }
+    ensures texts { Each (IsAmongTexts (texts_in claims.old.items)) (texts_in claims.new.items) }
 {
     claims.retain(|claim| low.0 < claim.entry.number.0);
 }

@@ -12,8 +12,8 @@ use Rattle.protocol.specs.Client.RightClient.Reaction.{nothing, asks, accepts}
 use Rattle.events.specs.declared.output.Output.{Output}
 use Rattle.events.specs.Outputs.{entry_of, after_entries}
 use Rattle.client_cert.specs.State.{CallState, ClientState, me_of, called, went}
-use Rattle.client_cert.specs.Fits.{Runs, Fits}
-use Rattle.client_cert.specs.Steps.{HistoryStaysRight, Weighs, Becomes, Keeps, Asks}
+use Rattle.client_cert.specs.Fits.{FitsRunningClient, Fits}
+use Rattle.client_cert.specs.Steps.{HistoryStaysRight, CallWeighsBytes, ChangesOnlyCall, KeepsWhetherOpen, SendsRequest}
 use Rattle.client_cert.proofs.Holding.{holds_begun, holds_sent}
 use Rattle.client_cert.proofs.Fitting.{gives_request, true_not}
 use Rattle.client_cert.proofs.Stepping.{fits_moved, nothing_given, request_given, answer_given, got_unasked, tick_unasked, tick_asked, stops_got, stops_tick}
@@ -22,16 +22,16 @@ use Rattle.client_cert.proofs.Stepping.{fits_moved, nothing_given, request_given
 one_output : (c : Configuration) (new : ClientState) (es : List Entry) (e : Entry) (now : List Entry) → es ≡ e ∷ [] → Fits c new (e ∷ now) → Fits c new (after_entries es now)
 one_output c new es e now is f = subst (λ (xs : List Entry). Fits c new (after_entries xs now)) (sym is) f
 
-pub got_none_leads : (old new : ClientState) (bytes : List ℕ) → old.stopped ≡ false → old.call ≡ None → Becomes old new None → HistoryStaysRight old (Got (me_of old) bytes) [] new
+pub got_none_leads : (old new : ClientState) (bytes : List ℕ) → old.stopped ≡ false → old.call ≡ None → ChangesOnlyCall old new None → HistoryStaysRight old (Got (me_of old) bytes) [] new
 got_none_leads old new bytes runs is b c history f = got_unasked c old new history f runs bytes is b
 
 pub got_nothing_leads : (old new : ClientState) (call more : CallState) (bytes : List ℕ) → old.stopped ≡ false → old.call ≡ Some call
-    → Weighs old.membership (me_of old) old.calls call bytes more nothing → Becomes old new (Some more) → HistoryStaysRight old (Got (me_of old) bytes) [] new
+    → CallWeighsBytes old.membership (me_of old) old.calls call bytes more nothing → ChangesOnlyCall old new (Some more) → HistoryStaysRight old (Got (me_of old) bytes) [] new
 got_nothing_leads old new call more bytes runs is w b c history f = nothing_given c old new history f runs call more bytes is w b
 
 pub got_answer_leads : (old new : ClientState) (call more : CallState) (bytes : List ℕ) (answer : Outcome) (outs : List Output) → old.stopped ≡ false → old.call ≡ Some call
-    → Weighs old.membership (me_of old) old.calls call bytes more (accepts old.calls answer) → map (entry_of (me_of old)) outs ≡ Accepted (me_of old - 256) old.calls answer ∷ []
-    → Becomes old new None → HistoryStaysRight old (Got (me_of old) bytes) outs new
+    → CallWeighsBytes old.membership (me_of old) old.calls call bytes more (accepts old.calls answer) → map (entry_of (me_of old)) outs ≡ Accepted (me_of old - 256) old.calls answer ∷ []
+    → ChangesOnlyCall old new None → HistoryStaysRight old (Got (me_of old) bytes) outs new
 got_answer_leads old new call more bytes answer outs runs is w given b c history f =
     one_output c new (map (entry_of (me_of old)) outs) (Accepted (me_of old - 256) old.calls answer) (Got (me_of old) bytes ∷ history) given
     (answer_given c old new history f runs call more bytes is answer w b)
@@ -40,21 +40,21 @@ same_call : (x y : CallState) → Some x ≡ Some y → x ≡ y
 same_call x y e = cc
 
 pub got_asks_leads : (old mid new : ClientState) (call more : CallState) (bytes : List ℕ) (outs : List Output) → old.stopped ≡ false → old.call ≡ Some call
-    → Weighs old.membership (me_of old) old.calls call bytes more (asks modes.Ordered (record { timestamp = old.calls; op = more.op }))
-    → mid ≡ record old { call = Some more } → Asks mid modes.Ordered outs new → HistoryStaysRight old (Got (me_of old) bytes) outs new
-got_asks_leads old mid new call more bytes outs runs is w e a c history f = go (subst (λ m. Asks m modes.Ordered outs new) e a)
+    → CallWeighsBytes old.membership (me_of old) old.calls call bytes more (asks modes.Ordered (record { timestamp = old.calls; op = more.op }))
+    → mid ≡ record old { call = Some more } → SendsRequest mid modes.Ordered outs new → HistoryStaysRight old (Got (me_of old) bytes) outs new
+got_asks_leads old mid new call more bytes outs runs is w e a c history f = go (subst (λ m. SendsRequest m modes.Ordered outs new) e a)
   where
-    go : Asks (record old { call = Some more }) modes.Ordered outs new → Fits c new (after_entries (map (entry_of (me_of old)) outs) (Got (me_of old) bytes ∷ history))
+    go : SendsRequest (record old { call = Some more }) modes.Ordered outs new → Fits c new (after_entries (map (entry_of (me_of old)) outs) (Got (me_of old) bytes ∷ history))
     go x =
         let same = same_call more x.call x.was in
         one_output c new (map (entry_of (me_of old)) outs) (Sent (me_of old) x.text) (Got (me_of old) bytes ∷ history) x.given
         (request_given c old new history f runs call more bytes is x.text w (rw same x.asks)
         (record { number = x.becomes.number; membership = x.becomes.membership; calls = x.becomes.calls; call_is = rw same x.becomes.call_is }))
 
-pub retry_none_leads : (old new : ClientState) → old.stopped ≡ false → old.call ≡ None → Becomes old new None → HistoryStaysRight old (Tick (me_of old)) [] new
+pub retry_none_leads : (old new : ClientState) → old.stopped ≡ false → old.call ≡ None → ChangesOnlyCall old new None → HistoryStaysRight old (Tick (me_of old)) [] new
 retry_none_leads old new runs is b c history f = tick_unasked c old new history f runs is b
 
-pub retry_leads : (old new : ClientState) (outs : List Output) → old.stopped ≡ false → Asks old modes.Ordered outs new → HistoryStaysRight old (Tick (me_of old)) outs new
+pub retry_leads : (old new : ClientState) (outs : List Output) → old.stopped ≡ false → SendsRequest old modes.Ordered outs new → HistoryStaysRight old (Tick (me_of old)) outs new
 retry_leads old new outs runs a c history f =
     one_output c new (map (entry_of (me_of old)) outs) (Sent (me_of old) a.text) (Tick (me_of old) ∷ history) a.given
     (tick_asked c old new history f runs a.call a.text a.was a.asks a.becomes)
@@ -81,10 +81,10 @@ abbrev first_call : Operation → CallState
 first_call op = record { op = op; ordered = false; ordered_ballots = []; read_ballots = [] }
 
 pub call_leads : (old mid new : ClientState) (op : Operation) (mode : Mode) (outs : List Output) → IsOperation op → is_some old.call ≡ false → old.stopped ≡ false
-    → mid ≡ called (suc old.calls) op old → mode ≡ first_mode op → Asks mid mode outs new → HistoryStaysRight old (Invoke old.number (suc old.calls) op) outs new
-call_leads old mid new op mode outs is none runs e kind a c history f = go (subst (λ m. Asks m mode outs new) e a)
+    → mid ≡ called (suc old.calls) op old → mode ≡ first_mode op → SendsRequest mid mode outs new → HistoryStaysRight old (Invoke old.number (suc old.calls) op) outs new
+call_leads old mid new op mode outs is none runs e kind a c history f = go (subst (λ m. SendsRequest m mode outs new) e a)
   where
-    go : Asks (called (suc old.calls) op old) mode outs new → Fits c new (after_entries (map (entry_of (me_of old)) outs) (Invoke old.number (suc old.calls) op ∷ history))
+    go : SendsRequest (called (suc old.calls) op old) mode outs new → Fits c new (after_entries (map (entry_of (me_of old)) outs) (Invoke old.number (suc old.calls) op ∷ history))
     go x =
         let same = same_call (first_call op) x.call x.was in
         let r = x.asks c f.members_are in
@@ -112,7 +112,7 @@ call_stops old new op is none e c history f =
       last_is = sym e.calls;
       open_is = sym e.is_open;
       right = subst (λ n. IsClient c (256 + n) (Invoke old.number (suc old.calls) op ∷ history)) (sym e.number) (inr (refl, may_call c old history op f none is, f.right));
-      running = λ r. true_not new.stopped e.stopped r (Runs c (me_of new) new (Invoke old.number (suc old.calls) op ∷ history));
+      running = λ r. true_not new.stopped e.stopped r (FitsRunningClient c (me_of new) new (Invoke old.number (suc old.calls) op ∷ history));
     }
 
 pub call_ends : (old new : ClientState) (op : Operation) → IsOperation op → is_some old.call ≡ false → new ≡ called (suc old.calls) op (record old { stopped = true })
@@ -121,22 +121,22 @@ call_ends old new op is none e =
     let P : ClientState → Type 0 = λ s. HistoryStaysRight old (Invoke old.number (suc old.calls) op) [] s in
     subst P (sym e) (call_stops old (called (suc old.calls) op (record old { stopped = true })) op is none (record { number = refl; membership = refl; calls = refl; is_open = refl; stopped = refl }))
 
-pub call_fails : (old mid last new : ClientState) (op : Operation) → IsOperation op → is_some old.call ≡ false → mid ≡ called (suc old.calls) op old → Keeps mid last → new ≡ record last { stopped = true }
+pub call_fails : (old mid last new : ClientState) (op : Operation) → IsOperation op → is_some old.call ≡ false → mid ≡ called (suc old.calls) op old → KeepsWhetherOpen mid last → new ≡ record last { stopped = true }
     → HistoryStaysRight old (Invoke old.number (suc old.calls) op) [] new
 call_fails old mid last new op is none e k f =
     let P : ClientState → Type 0 = λ s. HistoryStaysRight old (Invoke old.number (suc old.calls) op) [] s in
-    let g : Keeps (called (suc old.calls) op old) last = subst (λ m. Keeps m last) e k in
+    let g : KeepsWhetherOpen (called (suc old.calls) op old) last = subst (λ m. KeepsWhetherOpen m last) e k in
     subst P (sym f) (call_stops old (record last { stopped = true }) op is none (record { number = g.number; membership = g.membership; calls = g.calls; is_open = g.is_open; stopped = refl }))
 
 -- ---- events at which the client stops
 
-pub got_fails : (old mid new : ClientState) (bytes : List ℕ) → Keeps old mid → new ≡ record mid { stopped = true } → HistoryStaysRight old (Got (me_of old) bytes) [] new
+pub got_fails : (old mid new : ClientState) (bytes : List ℕ) → KeepsWhetherOpen old mid → new ≡ record mid { stopped = true } → HistoryStaysRight old (Got (me_of old) bytes) [] new
 got_fails old mid new bytes k e =
     stops_got old new bytes
     (record { number = ap (λ s. s.number) e ∙ k.number; membership = ap (λ s. s.membership) e ∙ k.membership; calls = ap (λ s. s.calls) e ∙ k.calls; is_open = ap (λ s. is_some s.call) e ∙ k.is_open })
     (ap (λ s. s.stopped) e)
 
-pub tick_fails : (old mid new : ClientState) → Keeps old mid → new ≡ record mid { stopped = true } → HistoryStaysRight old (Tick (me_of old)) [] new
+pub tick_fails : (old mid new : ClientState) → KeepsWhetherOpen old mid → new ≡ record mid { stopped = true } → HistoryStaysRight old (Tick (me_of old)) [] new
 tick_fails old mid new k e =
     stops_tick old new
     (record { number = ap (λ s. s.number) e ∙ k.number; membership = ap (λ s. s.membership) e ∙ k.membership; calls = ap (λ s. s.calls) e ∙ k.calls; is_open = ap (λ s. is_some s.call) e ∙ k.is_open })

@@ -9,7 +9,7 @@ use Rattle.protocol.specs.System.Trace.Entry.{Got, Tick, Sent, Accepted}
 use Rattle.protocol.specs.Client.RightClient.{OpenCall, open_call, Reaction, IsReaction, IsRequest, MayInput, Reacts, IsClientBy, IsClient, reaction}
 use Rattle.protocol.specs.Client.RightClient.Reaction.{nothing, asks, accepts}
 use Rattle.client_cert.specs.State.{CallState, ClientState, me_of}
-use Rattle.client_cert.specs.Fits.{FitsOpen, Holds, Runs, Fits}
+use Rattle.client_cert.specs.Fits.{FitsOpenCall, FitsWithinEvents, FitsRunningClient, Fits}
 
 module _ (c : Configuration) (me : ℕ) (react : List Entry → Reaction) where
   -- an input that gives nothing, or one output
@@ -37,13 +37,13 @@ module _ (c : Configuration) (me : ℕ) (react : List Entry → Reaction) where
   right_of [] gave = tt
   right_of (e ∷ history) gave = inl gave
 
-opened_is : (c : Configuration) (me t : ℕ) (history : List Entry) (call : Option CallState) → FitsOpen c me history t call → is_some (open_call history) ≡ is_some call
+opened_is : (c : Configuration) (me t : ℕ) (history : List Entry) (call : Option CallState) → FitsOpenCall c me history t call → is_some (open_call history) ≡ is_some call
 opened_is c me t history None h = ap is_some h
 opened_is c me t history (Some call) h = ap is_some h.open_is
 
 -- between events, of a client that hasn't stopped
 pub fits_run : (c : Configuration) (client : ClientState) (history : List Entry) → members c ≡ client.membership
-    → Holds c (me_of client) history client.calls client.call → Reacts c (me_of client) (reaction c (me_of client)) [] history → Fits c client history
+    → FitsWithinEvents c (me_of client) history client.calls client.call → Reacts c (me_of client) (reaction c (me_of client)) [] history → Fits c client history
 fits_run c client history known h gave =
     record {
       members_are = known;
@@ -55,7 +55,7 @@ fits_run c client history known h gave =
 
 pub fits_new : (c : Configuration) (client : ClientState) → members c ≡ client.membership → client.calls ≡ 0 → client.call ≡ None → Fits c client []
 fits_new c client known calls call =
-    fits_run c client [] known (record { last_is = sym calls; call_is = subst (λ o. FitsOpen c (me_of client) [] client.calls o) (sym call) refl }) refl
+    fits_run c client [] known (record { last_is = sym calls; call_is = subst (λ o. FitsOpenCall c (me_of client) [] client.calls o) (sym call) refl }) refl
 
 -- a client that stopped, after an input without outputs
 pub record Stops (old new : ClientState) : Type 0 where
@@ -81,7 +81,7 @@ module _ (c : Configuration) (old new : ClientState) (history : List Entry) (s :
         last_is = f.last_is ∙ sym s.calls;
         open_is = f.open_is ∙ sym s.is_open;
         right = stopped_right (Got p bytes) at tt f;
-        running = λ e. true_not new.stopped s.stopped e (Runs c (me_of new) new (Got p bytes ∷ history));
+        running = λ e. true_not new.stopped s.stopped e (FitsRunningClient c (me_of new) new (Got p bytes ∷ history));
       }
 
   pub fits_stop_tick : (p : ℕ) → p ≡ me_of old → Fits c old history → Fits c new (Tick p ∷ history)
@@ -91,5 +91,5 @@ module _ (c : Configuration) (old new : ClientState) (history : List Entry) (s :
         last_is = f.last_is ∙ sym s.calls;
         open_is = f.open_is ∙ sym s.is_open;
         right = stopped_right (Tick p) at tt f;
-        running = λ e. true_not new.stopped s.stopped e (Runs c (me_of new) new (Tick p ∷ history));
+        running = λ e. true_not new.stopped s.stopped e (FitsRunningClient c (me_of new) new (Tick p ∷ history));
       }

@@ -14,9 +14,9 @@ use Rattle.protocol.specs.System.Configuration.{Configuration, members}
 use Rattle.protocol.specs.System.Frames.{same_mode}
 use Rattle.protocol.specs.System.Trace.{Entry}
 use Rattle.protocol.specs.System.Trace.Entry.{Invoke, Got, Tick, Sent, Accepted}
-use Rattle.protocol.specs.Client.RightClient.{Vote, vote_of, later_vote, latest, went_ordered, is_ordered_request}
-use Rattle.client_cert.specs.State.{CallState, Takes, ballot_of, ballots_of, held, went}
-use Rattle.client_cert.specs.Fits.{Holds}
+use Rattle.protocol.specs.Client.RightClient.{Vote, vote_of, later_vote, latest, went_ordered, is_ordered_request_of}
+use Rattle.client_cert.specs.State.{CallState, TakesReply, ballot_of, ballots_of, held, went}
+use Rattle.client_cert.specs.Fits.{FitsWithinEvents}
 
 -- ---- entries
 
@@ -27,21 +27,21 @@ first_ballots c me k t op history modes.Ordered s = refl
 first_ballots c me k t op history modes.ReadOnly s = refl
 
 pub holds_begun : (c : Configuration) (me k t : ℕ) (op : Operation) (history : List Entry)
-    → Holds c me (Invoke k t op ∷ history) t (Some (record { op = op; ordered = false; ordered_ballots = []; read_ballots = [] }))
+    → FitsWithinEvents c me (Invoke k t op ∷ history) t (Some (record { op = op; ordered = false; ordered_ballots = []; read_ballots = [] }))
 holds_begun c me k t op history =
     record { last_is = refl; call_is = record { open_is = refl; ordered_is = refl; ballots_are = first_ballots c me k t op history } }
 
-pub holds_tick : (c : Configuration) (me p t : ℕ) (history : List Entry) (call : Option CallState) → Holds c me history t call → Holds c me (Tick p ∷ history) t call
+pub holds_tick : (c : Configuration) (me p t : ℕ) (history : List Entry) (call : Option CallState) → FitsWithinEvents c me history t call → FitsWithinEvents c me (Tick p ∷ history) t call
 unfolding latest
 holds_tick c me p t history None h = record { last_is = h.last_is; call_is = h.call_is }
 holds_tick c me p t history (Some call) h =
     record { last_is = h.last_is; call_is = record { open_is = h.call_is.open_is; ordered_is = h.call_is.ordered_is; ballots_are = h.call_is.ballots_are } }
 
-pub holds_closed : (c : Configuration) (me p t : ℕ) (bytes : List ℕ) (history : List Entry) → Holds c me history t None → Holds c me (Got p bytes ∷ history) t None
+pub holds_closed : (c : Configuration) (me p t : ℕ) (bytes : List ℕ) (history : List Entry) → FitsWithinEvents c me history t None → FitsWithinEvents c me (Got p bytes ∷ history) t None
 holds_closed c me p t bytes history h = record { last_is = h.last_is; call_is = h.call_is }
 
 pub holds_got : (c : Configuration) (me p t : ℕ) (bytes : List ℕ) (history : List Entry) (call : CallState)
-    → ((s : ℕ) → option_and_then (vote_of me t s) (heard (members c) me bytes) ≡ None) → Holds c me history t (Some call) → Holds c me (Got p bytes ∷ history) t (Some call)
+    → ((s : ℕ) → option_and_then (vote_of me t s) (heard (members c) me bytes) ≡ None) → FitsWithinEvents c me history t (Some call) → FitsWithinEvents c me (Got p bytes ∷ history) t (Some call)
 unfolding latest
 holds_got c me p t bytes history call none h =
     record {
@@ -81,8 +81,8 @@ vote_heard me t s sender mode number answer =
 pub holds_noted : (c : Configuration) (me p t : ℕ) (bytes : List ℕ) (history : List Entry) (call more : CallState)
     (sender : ℕ) (mode : Mode) (number : ℕ) (answer : Outcome)
     → heard (members c) me bytes ≡ Some (record { sender = sender; message = Reply me t mode number answer })
-    → Takes call mode sender (ballot_of (record { mode = mode; number = number; answer = answer })) more
-    → Holds c me history t (Some call) → Holds c me (Got p bytes ∷ history) t (Some more)
+    → TakesReply call mode sender (ballot_of (record { mode = mode; number = number; answer = answer })) more
+    → FitsWithinEvents c me history t (Some call) → FitsWithinEvents c me (Got p bytes ∷ history) t (Some more)
 unfolding latest
 holds_noted c me p t bytes history call more sender mode number answer is takes h =
     record {
@@ -104,7 +104,7 @@ sent_ballots call m modes.ReadOnly s = refl
 
 pub holds_sent : (c : Configuration) (me p t : ℕ) (bytes : List ℕ) (history : List Entry) (mode : Mode) (op : Operation) (call : CallState)
     → said bytes ≡ Some (record { sender = me; message = Request t mode op })
-    → Holds c me history t (Some call) → Holds c me (Sent p bytes ∷ history) t (Some (went mode call))
+    → FitsWithinEvents c me history t (Some call) → FitsWithinEvents c me (Sent p bytes ∷ history) t (Some (went mode call))
 unfolding latest
 holds_sent c me p t bytes history mode op call says h =
     record {
@@ -112,12 +112,12 @@ holds_sent c me p t bytes history mode op call says h =
       call_is = record {
         open_is = h.call_is.open_is;
         ordered_is =
-            ap (λ b. option_map_or (is_ordered_request t) b false || went_ordered history t) says
+            ap (λ b. option_map_or (is_ordered_request_of t) b false || went_ordered history t) says
             ∙ ap (λ b. ((t == t) && same_mode mode modes.Ordered) || b) h.call_is.ordered_is
             ∙ ap (λ b. (b && same_mode mode modes.Ordered) || call.ordered) (eq-eqb t t refl);
         ballots_are = λ m s. sent_ballots call mode m s ∙ h.call_is.ballots_are m s;
       };
     }
 
-pub holds_accepted : (c : Configuration) (me k t : ℕ) (answer : Outcome) (history : List Entry) (call : Option CallState) → Holds c me history t call → Holds c me (Accepted k t answer ∷ history) t None
+pub holds_accepted : (c : Configuration) (me k t : ℕ) (answer : Outcome) (history : List Entry) (call : Option CallState) → FitsWithinEvents c me history t call → FitsWithinEvents c me (Accepted k t answer ∷ history) t None
 holds_accepted c me k t answer history call h = record { last_is = h.last_is; call_is = refl }

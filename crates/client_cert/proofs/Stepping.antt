@@ -16,19 +16,19 @@ use Rattle.protocol.specs.System.Trace.Entry.{Got, Tick, Sent, Accepted}
 use Rattle.protocol.specs.Client.RightClient.{Reacts, reaction}
 use Rattle.protocol.specs.Client.RightClient.Reaction.{nothing, asks, accepts}
 use Rattle.client_cert.specs.declared.hearing.Heard.{Heard}
-use Rattle.client_cert.specs.Hearing.{HearsAnswer, HearsVote, IsAnswerIn, body_of}
+use Rattle.client_cert.specs.Hearing.{HearsAnswer, HearsVote, IsAnswerIn, reply_body}
 use Rattle.client_cert.specs.State.Turn.{accepts_it}
-use Rattle.client_cert.specs.State.{Ballot, CallState, ClientState, Takes, Turn, turn_of, ballot_of, ballots_of, held, me_of, went}
-use Rattle.client_cert.specs.Fits.{Holds, Fits}
+use Rattle.client_cert.specs.State.{Ballot, CallState, ClientState, TakesReply, Turn, turn_of, ballot_of, ballots_of, held, me_of, went}
+use Rattle.client_cert.specs.Fits.{FitsWithinEvents, Fits}
 use Rattle.client_cert.specs.Asking.{AsksWith}
-use Rattle.client_cert.specs.Steps.{Weighs, Becomes, Keeps}
+use Rattle.client_cert.specs.Steps.{CallWeighsBytes, ChangesOnlyCall, KeepsWhetherOpen}
 use Rattle.client_cert.proofs.Holding.{holds_got, holds_noted, holds_tick, holds_closed, holds_sent, holds_accepted}
 use Rattle.client_cert.proofs.Turning.{turns, reaction_is, no_reaction, no_call_reaction, tick_reaction, no_tick_reaction}
 use Rattle.client_cert.proofs.Fitting.{gives_none, gives_request, gives_answer, fits_run, Stops, fits_stop_got, fits_stop_tick}
 
 -- ---- an open call after bytes
 
-pub weigh_none : (m : Membership) (me t : ℕ) (call : CallState) (bytes : List ℕ) → HearsVote me t (heard m me bytes) None → Weighs m me t call bytes call nothing
+pub weigh_none : (m : Membership) (me t : ℕ) (call : CallState) (bytes : List ℕ) → HearsVote me t (heard m me bytes) None → CallWeighsBytes m me t call bytes call nothing
 weigh_none m me t call bytes hears c history known h =
     let here : HearsVote me t (heard (members c) me bytes) None = subst (λ (x : Membership). HearsVote me t (heard x me bytes) None) (sym known) hears in
     (holds_got c me me t bytes history call here h, no_reaction c me me t bytes history call here h)
@@ -38,7 +38,7 @@ same_key : (mode : Mode) (s : ℕ) → (same_mode mode mode && (s == s)) ≡ tru
 same_key modes.Ordered s = eq-eqb s s refl
 same_key modes.ReadOnly s = eq-eqb s s refl
 
-taken : (call more : CallState) (mode : Mode) (sender : ℕ) (ballot : Ballot) → Takes call mode sender ballot more → held (ballots_of mode more) sender ≡ Some ballot
+taken : (call more : CallState) (mode : Mode) (sender : ℕ) (ballot : Ballot) → TakesReply call mode sender ballot more → held (ballots_of mode more) sender ≡ Some ballot
 taken call more mode sender ballot takes =
     takes.at mode sender ∙ ap (λ b. cond b (Some ballot) (held (ballots_of mode call) sender)) (same_key mode sender)
 
@@ -46,14 +46,14 @@ pub weigh_reply : (m : Membership) (me t faults : ℕ) (call more : CallState) (
     → (v : HearsAnswer me t (heard m me bytes) x)
     → faults ≡ m.faults
     → ballot ≡ record { number = x.number.0; text = x.text.now }
-    → Takes call x.mode x.sender ballot more
+    → TakesReply call x.mode x.sender ballot more
     → turn_of faults more x.mode x.sender ≡ turn
-    → Weighs m me t call bytes more (turns turn t more.op v.answer)
+    → CallWeighsBytes m me t call bytes more (turns turn t more.op v.answer)
 weigh_reply m me t faults call more bytes x ballot turn v size kept takes turned c history known h =
-    let here : heard (members c) me bytes ≡ Some (body_of me t x v.answer) = ap (λ (k : Membership). heard k me bytes) known ∙ v.heard_is in
+    let here : heard (members c) me bytes ≡ Some (reply_body me t x v.answer) = ap (λ (k : Membership). heard k me bytes) known ∙ v.heard_is in
     let is : ballot ≡ ballot_of (record { mode = x.mode; number = x.number.0; answer = v.answer }) =
     kept ∙ ap (λ text. let b : Ballot = record { number = x.number.0; text = text } in b) v.spelled.spelled in
-    let now : Holds c me (Got me bytes ∷ history) t (Some more) =
+    let now : FitsWithinEvents c me (Got me bytes ∷ history) t (Some more) =
     holds_noted c me me t bytes history call more x.sender x.mode x.number.0 v.answer here (rw is at takes) h in (
       now,
       reaction_is c me me t bytes history more x.sender x.mode x.number.0 v.answer here now
@@ -68,10 +68,10 @@ pub weigh_accepts : (m : Membership) (me t faults : ℕ) (call more : CallState)
     → (v : HearsAnswer me t (heard m me bytes) x)
     → faults ≡ m.faults
     → ballot ≡ record { number = x.number.0; text = x.text.now }
-    → Takes call x.mode x.sender ballot more
+    → TakesReply call x.mode x.sender ballot more
     → turn_of faults more x.mode x.sender ≡ accepts_it
     → (answer : Answer Global) → IsAnswerIn x.text.now answer
-    → Weighs m me t call bytes more (accepts t (outcome_of answer))
+    → CallWeighsBytes m me t call bytes more (accepts t (outcome_of answer))
 weigh_accepts m me t faults call more bytes x ballot v size kept takes turned answer said c history known h =
     let w = weigh_reply m me t faults call more bytes x ballot accepts_it v size kept takes turned c history known h in
     (w.0, w.1 ∙ ap (accepts t) (sym (said v.answer v.spelled)))
@@ -79,7 +79,7 @@ weigh_accepts m me t faults call more bytes x ballot v size kept takes turned an
 -- a history that fits the parts of the old client fits the new one
 pub fits_moved : (c : Configuration) (number t : ℕ) (call : Option CallState) (new : ClientState) (now : List Entry) → members c ≡ new.membership
     → new.number ≡ number → new.calls ≡ t → new.call ≡ call
-    → Holds c (256 + number) now t call → Reacts c (256 + number) (reaction c (256 + number)) [] now → Fits c new now
+    → FitsWithinEvents c (256 + number) now t call → Reacts c (256 + number) (reaction c (256 + number)) [] now → Fits c new now
 fits_moved c number t call new now known same calls is h gave = fits_run c new now known (rw (same, calls, is) h) (rw same gave)
 
 module _ (c : Configuration) (old new : ClientState) (history : List Entry) (f : Fits c old history) (runs : old.stopped ≡ false) where
@@ -87,24 +87,24 @@ module _ (c : Configuration) (old new : ClientState) (history : List Entry) (f :
   me = me_of old
 
   -- a history that fits the old client's number and timestamp fits the new one
-  goes_on : (call : Option CallState) (now : List Entry) → Becomes old new call → Holds c (me_of old) now old.calls call → Reacts c (me_of old) (reaction c (me_of old)) [] now → Fits c new now
+  goes_on : (call : Option CallState) (now : List Entry) → ChangesOnlyCall old new call → FitsWithinEvents c (me_of old) now old.calls call → Reacts c (me_of old) (reaction c (me_of old)) [] now → Fits c new now
   goes_on call now b h gave =
       fits_run c new now (f.members_are ∙ sym b.membership)
       (rw (b.number, b.calls, b.call_is) h)
       (rw b.number gave)
 
-  open_holds : (call : Option CallState) → old.call ≡ call → Holds c (me_of old) history old.calls call
-  open_holds call e = subst (λ o. Holds c (me_of old) history old.calls o) e (f.running runs).holds
+  open_holds : (call : Option CallState) → old.call ≡ call → FitsWithinEvents c (me_of old) history old.calls call
+  open_holds call e = subst (λ o. FitsWithinEvents c (me_of old) history old.calls o) e (f.running runs).holds
 
   module _ (call more : CallState) (bytes : List ℕ) (is : old.call ≡ Some call) where
-    pub nothing_given : Weighs old.membership (me_of old) old.calls call bytes more nothing → Becomes old new (Some more) → Fits c new (Got (me_of old) bytes ∷ history)
+    pub nothing_given : CallWeighsBytes old.membership (me_of old) old.calls call bytes more nothing → ChangesOnlyCall old new (Some more) → Fits c new (Got (me_of old) bytes ∷ history)
     nothing_given w b =
         let x = w c history f.members_are (open_holds (Some call) is) in
         goes_on (Some more) (Got (me_of old) bytes ∷ history) b x.0
         (gives_none c (me_of old) (reaction c (me_of old)) (Got (me_of old) bytes) history refl refl tt x.1 (f.running runs).gave)
 
-    pub request_given : (text : List ℕ) → Weighs old.membership (me_of old) old.calls call bytes more (asks modes.Ordered (record { timestamp = old.calls; op = more.op }))
-        → AsksWith old.membership (me_of old) modes.Ordered old.calls more.op text → Becomes old new (Some (went modes.Ordered more)) → Fits c new (Sent (me_of old) text ∷ Got (me_of old) bytes ∷ history)
+    pub request_given : (text : List ℕ) → CallWeighsBytes old.membership (me_of old) old.calls call bytes more (asks modes.Ordered (record { timestamp = old.calls; op = more.op }))
+        → AsksWith old.membership (me_of old) modes.Ordered old.calls more.op text → ChangesOnlyCall old new (Some (went modes.Ordered more)) → Fits c new (Sent (me_of old) text ∷ Got (me_of old) bytes ∷ history)
     request_given text w a b =
         let x = w c history f.members_are (open_holds (Some call) is) in
         let r = a c f.members_are in
@@ -112,28 +112,28 @@ module _ (c : Configuration) (old new : ClientState) (history : List Entry) (f :
         (holds_sent c (me_of old) (me_of old) old.calls text (Got (me_of old) bytes ∷ history) modes.Ordered more.op more r.says x.0)
         (gives_request c (me_of old) (reaction c (me_of old)) (Got (me_of old) bytes) text modes.Ordered (record { timestamp = old.calls; op = more.op }) history refl refl tt x.1 r (f.running runs).gave)
 
-    pub answer_given : (answer : Outcome) → Weighs old.membership (me_of old) old.calls call bytes more (accepts old.calls answer)
-        → Becomes old new None → Fits c new (Accepted (me_of old - 256) old.calls answer ∷ Got (me_of old) bytes ∷ history)
+    pub answer_given : (answer : Outcome) → CallWeighsBytes old.membership (me_of old) old.calls call bytes more (accepts old.calls answer)
+        → ChangesOnlyCall old new None → Fits c new (Accepted (me_of old - 256) old.calls answer ∷ Got (me_of old) bytes ∷ history)
     answer_given answer w b =
         let x = w c history f.members_are (open_holds (Some call) is) in
         goes_on None (Accepted (me_of old - 256) old.calls answer ∷ Got (me_of old) bytes ∷ history) b
         (holds_accepted c (me_of old) (me_of old - 256) old.calls answer (Got (me_of old) bytes ∷ history) (Some more) x.0)
         (gives_answer c (me_of old) (reaction c (me_of old)) (Got (me_of old) bytes) (me_of old - 256) old.calls answer history (omega arith) refl refl tt x.1 (f.running runs).gave)
 
-  pub got_unasked : (bytes : List ℕ) → old.call ≡ None → Becomes old new None → Fits c new (Got (me_of old) bytes ∷ history)
+  pub got_unasked : (bytes : List ℕ) → old.call ≡ None → ChangesOnlyCall old new None → Fits c new (Got (me_of old) bytes ∷ history)
   got_unasked bytes is b =
       let h = open_holds None is in
       goes_on None (Got (me_of old) bytes ∷ history) b (holds_closed c (me_of old) (me_of old) old.calls bytes history h)
       (gives_none c (me_of old) (reaction c (me_of old)) (Got (me_of old) bytes) history refl refl tt (no_call_reaction c (me_of old) (me_of old) old.calls bytes history h) (f.running runs).gave)
 
-  pub tick_unasked : old.call ≡ None → Becomes old new None → Fits c new (Tick (me_of old) ∷ history)
+  pub tick_unasked : old.call ≡ None → ChangesOnlyCall old new None → Fits c new (Tick (me_of old) ∷ history)
   tick_unasked is b =
       let h = open_holds None is in
       goes_on None (Tick (me_of old) ∷ history) b (holds_tick c (me_of old) (me_of old) old.calls history None h)
       (gives_none c (me_of old) (reaction c (me_of old)) (Tick (me_of old)) history refl refl tt (no_tick_reaction c (me_of old) (me_of old) old.calls history h) (f.running runs).gave)
 
   pub tick_asked : (call : CallState) (text : List ℕ) → old.call ≡ Some call → AsksWith old.membership (me_of old) modes.Ordered old.calls call.op text
-      → Becomes old new (Some (went modes.Ordered call)) → Fits c new (Sent (me_of old) text ∷ Tick (me_of old) ∷ history)
+      → ChangesOnlyCall old new (Some (went modes.Ordered call)) → Fits c new (Sent (me_of old) text ∷ Tick (me_of old) ∷ history)
   tick_asked call text is a b =
       let h = open_holds (Some call) is in
       let r = a c f.members_are in
@@ -142,11 +142,11 @@ module _ (c : Configuration) (old new : ClientState) (history : List Entry) (f :
       (gives_request c (me_of old) (reaction c (me_of old)) (Tick (me_of old)) text modes.Ordered (record { timestamp = old.calls; op = call.op }) history refl refl tt (tick_reaction c (me_of old) (me_of old) old.calls history call h) r (f.running runs).gave)
 
 -- an event of a client that stops, or had stopped
-stops_of : (old new : ClientState) → Keeps old new → new.stopped ≡ true → Stops old new
+stops_of : (old new : ClientState) → KeepsWhetherOpen old new → new.stopped ≡ true → Stops old new
 stops_of old new k s = record { number = k.number; membership = k.membership; calls = k.calls; is_open = k.is_open; stopped = s }
 
-pub stops_got : (old new : ClientState) (bytes : List ℕ) → Keeps old new → new.stopped ≡ true → (c : Configuration) (history : List Entry) → Fits c old history → Fits c new (Got (me_of old) bytes ∷ history)
+pub stops_got : (old new : ClientState) (bytes : List ℕ) → KeepsWhetherOpen old new → new.stopped ≡ true → (c : Configuration) (history : List Entry) → Fits c old history → Fits c new (Got (me_of old) bytes ∷ history)
 stops_got old new bytes k s c history f = fits_stop_got c old new history (stops_of old new k s) (me_of old) bytes refl f
 
-pub stops_tick : (old new : ClientState) → Keeps old new → new.stopped ≡ true → (c : Configuration) (history : List Entry) → Fits c old history → Fits c new (Tick (me_of old) ∷ history)
+pub stops_tick : (old new : ClientState) → KeepsWhetherOpen old new → new.stopped ≡ true → (c : Configuration) (history : List Entry) → Fits c old history → Fits c new (Tick (me_of old) ∷ history)
 stops_tick old new k s c history f = fits_stop_tick c old new history (stops_of old new k s) (me_of old) refl f

@@ -17,7 +17,7 @@ use Rattle.protocol.specs.Client.RightClient.{Vote, vote_of, latest, newest_vote
 use Rattle.protocol.specs.Client.RightClient.Reaction.{nothing, asks, accepts}
 use Rattle.client_cert.specs.State.{CallState, ballot_of, ballots_of, held, is_like, count_like, count_alike, count_held, Turn, turn_of}
 use Rattle.client_cert.specs.State.Turn.{waits, asks_ordered, accepts_it}
-use Rattle.client_cert.specs.Fits.{FitsCall, Holds}
+use Rattle.client_cert.specs.Fits.{FitsCall, FitsWithinEvents}
 use Rattle.client_cert.proofs.Holding.{vote_heard}
 
 -- the reaction that a turn is
@@ -84,7 +84,7 @@ newest_is c me p t bytes history sender mode number answer is =
 -- a reply to the call, once it is kept
 pub reaction_is : (c : Configuration) (me p t : ℕ) (bytes : List ℕ) (history : List Entry) (call : CallState) (sender : ℕ) (mode : Mode) (number : ℕ) (answer : Outcome)
     → heard (members c) me bytes ≡ Some (record { sender = sender; message = Reply me t mode number answer })
-    → Holds c me (Got p bytes ∷ history) t (Some call)
+    → FitsWithinEvents c me (Got p bytes ∷ history) t (Some call)
     → held (ballots_of mode call) sender ≡ Some (ballot_of (record { mode = mode; number = number; answer = answer }))
     → reaction c me (Got p bytes ∷ history) ≡ turns (turn_of c.faults call mode sender) t call.op answer
 reaction_is c me p t bytes history call sender mode number answer is h kept =
@@ -94,7 +94,7 @@ reaction_is c me p t bytes history call sender mode number answer is h kept =
 
 -- anything else
 pub no_reaction : (c : Configuration) (me p t : ℕ) (bytes : List ℕ) (history : List Entry) (call : CallState)
-    → ((s : ℕ) → option_and_then (vote_of me t s) (heard (members c) me bytes) ≡ None) → Holds c me history t (Some call) → reaction c me (Got p bytes ∷ history) ≡ nothing
+    → ((s : ℕ) → option_and_then (vote_of me t s) (heard (members c) me bytes) ≡ None) → FitsWithinEvents c me history t (Some call) → reaction c me (Got p bytes ∷ history) ≡ nothing
 no_reaction c me p t bytes history call unheard h =
     ap (λ o. option_map_or (on_got c me (Got p bytes ∷ history)) o nothing) h.call_is.open_is
     ∙ ap (λ v. option_map_or (on_reply c me (Got p bytes ∷ history) (record { timestamp = t; op = call.op })) v nothing) (none (heard (members c) me bytes) unheard)
@@ -104,13 +104,13 @@ no_reaction c me p t bytes history call unheard h =
     none (Some body) unheard = unheard body.sender
 
 -- without a call
-pub no_call_reaction : (c : Configuration) (me p t : ℕ) (bytes : List ℕ) (history : List Entry) → Holds c me history t None → reaction c me (Got p bytes ∷ history) ≡ nothing
+pub no_call_reaction : (c : Configuration) (me p t : ℕ) (bytes : List ℕ) (history : List Entry) → FitsWithinEvents c me history t None → reaction c me (Got p bytes ∷ history) ≡ nothing
 no_call_reaction c me p t bytes history h = ap (λ o. option_map_or (on_got c me (Got p bytes ∷ history)) o nothing) h.call_is
 
 -- ticks
-pub tick_reaction : (c : Configuration) (me p t : ℕ) (history : List Entry) (call : CallState) → Holds c me history t (Some call)
+pub tick_reaction : (c : Configuration) (me p t : ℕ) (history : List Entry) (call : CallState) → FitsWithinEvents c me history t (Some call)
     → reaction c me (Tick p ∷ history) ≡ asks modes.Ordered (record { timestamp = t; op = call.op })
 tick_reaction c me p t history call h = ap (λ o. option_map_or (asks modes.Ordered) o nothing) h.call_is.open_is
 
-pub no_tick_reaction : (c : Configuration) (me p t : ℕ) (history : List Entry) → Holds c me history t None → reaction c me (Tick p ∷ history) ≡ nothing
+pub no_tick_reaction : (c : Configuration) (me p t : ℕ) (history : List Entry) → FitsWithinEvents c me history t None → reaction c me (Tick p ∷ history) ≡ nothing
 no_tick_reaction c me p t history h = ap (λ o. option_map_or (asks modes.Ordered) o nothing) h.call_is

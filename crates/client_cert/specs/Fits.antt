@@ -13,18 +13,18 @@ pub record FitsCall (c : Configuration) (me : ℕ) (history : List Entry) (times
   pub ballots_are : (mode : Mode) (s : ℕ)
       → held (ballots_of mode call) s ≡ option_map ballot_of (latest c me history timestamp mode s)
 
-abbrev pub FitsOpen : Configuration → ℕ → List Entry → ℕ → Option CallState → Type 0
-FitsOpen c me history timestamp None = open_call history ≡ None
-FitsOpen c me history timestamp (Some call) = FitsCall c me history timestamp call
+abbrev pub FitsOpenCall : Configuration → ℕ → List Entry → ℕ → Option CallState → Type 0
+FitsOpenCall c me history timestamp None = open_call history ≡ None
+FitsOpenCall c me history timestamp (Some call) = FitsCall c me history timestamp call
 
 -- at each entry, also within an event
-pub record Holds (c : Configuration) (me : ℕ) (history : List Entry) (timestamp : ℕ) (call : Option CallState) : Type 0 where
+pub record FitsWithinEvents (c : Configuration) (me : ℕ) (history : List Entry) (timestamp : ℕ) (call : Option CallState) : Type 0 where
   pub last_is : last_call history ≡ timestamp
-  pub call_is : FitsOpen c me history timestamp call
+  pub call_is : FitsOpenCall c me history timestamp call
 
 -- between events, of a client that hasn't stopped
-pub record Runs (c : Configuration) (me : ℕ) (client : ClientState) (history : List Entry) : Type 0 where
-  pub holds : Holds c me history client.calls client.call
+pub record FitsRunningClient (c : Configuration) (me : ℕ) (client : ClientState) (history : List Entry) : Type 0 where
+  pub holds : FitsWithinEvents c me history client.calls client.call
   pub gave : Reacts c me (reaction c me) [] history
 
 -- Between events. A client that stopped still knows its last call, and whether it is open.
@@ -33,4 +33,4 @@ pub record Fits (c : Configuration) (client : ClientState) (history : List Entry
   pub last_is : last_call history ≡ client.calls
   pub open_is : is_some (open_call history) ≡ is_some client.call
   pub right : IsClient c (me_of client) history
-  pub running : client.stopped ≡ false → Runs c (me_of client) client history
+  pub running : client.stopped ≡ false → FitsRunningClient c (me_of client) client history

@@ -18,14 +18,14 @@ use Rattle.client_cert.specs.State.{Ballot}
 use Rattle.client_cert.specs.declared.hearing.Heard.{Heard}
 
 -- the body of a reply to the client's call of this timestamp, with this answer
-abbrev pub body_of : ℕ → ℕ → Heard → Outcome → Body
-body_of me timestamp h answer =
+abbrev pub reply_body : ℕ → ℕ → Heard → Outcome → Body
+reply_body me timestamp h answer =
     record { sender = h.sender; message = says me timestamp h.mode h.number.0 answer }
 
 -- The body is that of a reply to the call, and the text spells its answer.
 pub record HearsAnswer (me timestamp : ℕ) (body : Option Body) (h : Heard) : Type 0 where
   pub answer : Outcome
-  pub heard_is : body ≡ Some (body_of me timestamp h answer)
+  pub heard_is : body ≡ Some (reply_body me timestamp h answer)
   pub spelled : SpellsOutcome h.text.now answer
 
 -- a reply to the call was heard, or nothing that votes on it

@@ -39,8 +39,8 @@ pub record ClientState : Type 0 where
   pub stopped : Bool
 
 -- The faults and the keys are the members'. A timestamp is left if the client hasn't stopped, or if no call is open.
-abbrev pub IsOfMembers : ℕ → List ℕ → Membership → ℕ → Option CallState → Bool → Type 0
-IsOfMembers faults seed m calls call stopped =
+abbrev pub ClientIsOfMembers : ℕ → List ℕ → Membership → ℕ → Option CallState → Bool → Type 0
+ClientIsOfMembers faults seed m calls call stopped =
     (faults ≡ m.faults) × (faults ≤ 3) × (seed ≡ m.seed) × (calls ≤ 2 ^ 62 + 1)
     × (stopped ≡ false → calls ≤ 2 ^ 62) × (is_some call ≡ false → calls ≤ 2 ^ 62)
     × (stopped ≡ true → is_some call ≡ true)
@@ -99,11 +99,11 @@ abbrev pub ballot_of : Vote → Ballot
 ballot_of vote = record { number = vote.number; text = outcome_spelling vote.answer }
 
 -- the replies and one more, which replaces its sender's earlier one
-pub record Adds (old : Ballots) (sender : ℕ) (ballot : Ballot) (new : Ballots) : Type 0 where
+pub record AddsBallot (old : Ballots) (sender : ℕ) (ballot : Ballot) (new : Ballots) : Type 0 where
   pub at : (s : ℕ) → held new s ≡ cond (sender == s) (Some ballot) (held old s)
 
 -- the call with one more reply of the mode
-pub record Takes (old : CallState) (mode : Mode) (sender : ℕ) (ballot : Ballot) (new : CallState) : Type 0 where
+pub record TakesReply (old : CallState) (mode : Mode) (sender : ℕ) (ballot : Ballot) (new : CallState) : Type 0 where
   pub op : new.op ≡ old.op
   pub ordered : new.ordered ≡ old.ordered
   pub at : (m : Mode) (s : ℕ)

@@ -21,7 +21,7 @@ use Rattle.client_cert.specs.declared.hearing.Turned.{Turned}
 use Rattle.client_cert.specs.declared.hearing.Turned.TheVariants as turned
 use Rattle.client_cert.specs.State.{CallState, ClientState, me_of, went}
 use Rattle.client_cert.specs.Asking.{AsksWith}
-use Rattle.client_cert.specs.Fits.{Holds, Fits}
+use Rattle.client_cert.specs.Fits.{FitsWithinEvents, Fits}
 
 -- the input entry of an event
 abbrev pub input_of : ℕ → Event → Entry
@@ -70,38 +70,38 @@ reaction_of timestamp call turned.Ask = asks modes.Ordered (record { timestamp =
 reaction_of timestamp call (turned.Accept answer) = accepts timestamp (outcome_of answer)
 
 -- the open call after these bytes, and the reaction to them
-abbrev pub Weighs : Membership → ℕ → ℕ → CallState → List ℕ → CallState → Reaction → Type 0
-Weighs m me timestamp old bytes new given =
-    (c : Configuration) (history : List Entry) → members c ≡ m → Holds c me history timestamp (Some old)
-    → Holds c me (Got me bytes ∷ history) timestamp (Some new) × (reaction c me (Got me bytes ∷ history) ≡ given)
+abbrev pub CallWeighsBytes : Membership → ℕ → ℕ → CallState → List ℕ → CallState → Reaction → Type 0
+CallWeighsBytes m me timestamp old bytes new given =
+    (c : Configuration) (history : List Entry) → members c ≡ m → FitsWithinEvents c me history timestamp (Some old)
+    → FitsWithinEvents c me (Got me bytes ∷ history) timestamp (Some new) × (reaction c me (Got me bytes ∷ history) ≡ given)
 
 -- the same, of the client with this number, for Rust values
 abbrev pub TurnsTo :
     Membership → ClientId → Timestamp → CallState → List ℕ → CallState → Turned → Type 0
 TurnsTo m client timestamp old bytes new turned =
-    Weighs m (client_party client.number) timestamp.0 old bytes new
+    CallWeighsBytes m (client_party client.number) timestamp.0 old bytes new
     (reaction_of timestamp.0 new turned)
 
 -- the client changes only its call
-pub record Becomes (old new : ClientState) (call : Option CallState) : Type 0 where
+pub record ChangesOnlyCall (old new : ClientState) (call : Option CallState) : Type 0 where
   pub number : new.number ≡ old.number
   pub membership : new.membership ≡ old.membership
   pub calls : new.calls ≡ old.calls
   pub call_is : new.call ≡ call
 
 -- the client may change its call, but not whether one is open
-pub record Keeps (old new : ClientState) : Type 0 where
+pub record KeepsWhetherOpen (old new : ClientState) : Type 0 where
   pub number : new.number ≡ old.number
   pub membership : new.membership ≡ old.membership
   pub calls : new.calls ≡ old.calls
   pub is_open : is_some new.call ≡ is_some old.call
 
 -- the client sends a request of its open call, and changes nothing but that it went
-pub record Asks (old : ClientState) (mode : Mode) (outs : List Output) (new : ClientState) : Type 0 where
+pub record SendsRequest (old : ClientState) (mode : Mode) (outs : List Output) (new : ClientState) : Type 0 where
   pub text : List ℕ
   pub call : CallState
   pub given : map (entry_of (me_of old)) outs ≡ Sent (me_of old) text ∷ []
   pub was : old.call ≡ Some call
   pub asks : AsksWith old.membership (me_of old) mode old.calls call.op text
-  pub becomes : Becomes old new (Some (went mode call))
+  pub becomes : ChangesOnlyCall old new (Some (went mode call))
   pub meant : SendsAsMeant old outs

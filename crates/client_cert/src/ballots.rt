@@ -1,7 +1,7 @@
 //! The replies to a call, of one mode.
 
 ghost use Rattle.std.specs.Prelude.{◌≡◌, ◌≤◌, [], OnOk, Some, is_some};
-ghost use Rattle.client_cert.specs.State.{Adds, count_alike, count_held, count_like, held, is_like};
+ghost use Rattle.client_cert.specs.State.{AddsBallot, count_alike, count_held, count_like, held, is_like};
 
 use events::Stop;
 use indexmap::IndexMap;
@@ -69,7 +69,7 @@ impl Ballots {
 
     /// Keeps a reply, in place of that replica's earlier one.
     pub(crate) fn note(&mut self, sender: u16, ballot: Ballot) -> Result<(), Stop>
-        ensures added { OnOk result (Adds self.old sender ballot self.new) }
+        ensures added { OnOk result (AddsBallot self.old sender ballot self.new) }
     {
         match self.cast.insert(sender, ballot) {
             Ok(_) => Ok(()),

@@ -5,7 +5,7 @@ ghost use Rattle.terms.specs.declared.order.Mode.TheVariants as modes;
 ghost use Rattle.tuple_codec.specs.OperationView.{operation_of};
 ghost use Rattle.protocol.specs.System.Frames.{same_mode};
 ghost use Rattle.client_cert.specs.Asking.{AsksAs};
-ghost use Rattle.client_cert.specs.State.{Takes, ballots_of, count_alike, new_call, turn_of, went};
+ghost use Rattle.client_cert.specs.State.{TakesReply, ballots_of, count_alike, new_call, turn_of, went};
 ghost use Rattle.client_cert.specs.TurnView.{turn_is};
 
 use crate::asking::seal_request;
@@ -66,7 +66,7 @@ impl Call {
 
     /// Keeps a reply, in place of that replica's earlier one in this mode.
     pub(crate) fn note(&mut self, sender: u16, mode: Mode, ballot: Ballot) -> Result<(), Stop>
-        ensures taken { OnOk result (Takes self.old mode sender ballot self.new) }
+        ensures taken { OnOk result (TakesReply self.old mode sender ballot self.new) }
     {
         match mode {
             Mode::Ordered => self.ordered_ballots.note(sender, ballot),

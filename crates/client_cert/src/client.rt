@@ -8,7 +8,7 @@ ghost use Rattle.client_cert.specs.State.{IsSpent, called};
 ghost use Rattle.events.specs.declared.output.Stop.TheVariants as Stop;
 ghost use Rattle.client_cert.specs.Fits.{Fits};
 ghost use Rattle.client_cert.specs.Steps.{CallLeads, CallStops, EventLeads, SendsAsMeant};
-ghost use Rattle.client_cert.specs.Steps.{Asks, BytesLead, Keeps, RetryLeads};
+ghost use Rattle.client_cert.specs.Steps.{SendsRequest, BytesLead, KeepsWhetherOpen, RetryLeads};
 
 use crate::asking::{all_replicas, first_mode};
 use crate::call::{Call, request};
@@ -61,7 +61,7 @@ pub struct Client {
 }
 
 impl Model for Client {
-    ghost use Rattle.client_cert.specs.State.{ClientState, IsOfMembers, client_code};
+    ghost use Rattle.client_cert.specs.State.{ClientState, ClientIsOfMembers, client_code};
 
     ghost Value = { ClientState };
 
@@ -75,7 +75,7 @@ impl Model for Client {
       stopped = a.stopped;
     } };
 
-    ghost invariant = { λ a. IsOfMembers a.faults a.publics a.ring a.calls a.call a.stopped };
+    ghost invariant = { λ a. ClientIsOfMembers a.faults a.publics a.ring a.calls a.call a.stopped };
 }
 
 impl Client {
@@ -213,7 +213,7 @@ impl Client {
         ensures leads { IfOk result (λ outs. BytesLead self.old bytes.now outs.items self.new) }
         ensures meant { IfOk result (λ outs. SendsAsMeant self.old outs.items) }
         ensures runs { IfOk result (λ _. self.new.stopped ≡ false) }
-        ensures keeps { OnErr result (Keeps self.old self.new) }
+        ensures keeps { OnErr result (KeepsWhetherOpen self.old self.new) }
         ensures is_open { OnErr result (is_some self.old.call ≡ true) }
         ensures number { self.new.number ≡ self.old.number }
     {
@@ -250,7 +250,7 @@ impl Client {
         ensures leads { IfOk result (λ outs. RetryLeads self.old outs.items self.new) }
         ensures meant { IfOk result (λ outs. SendsAsMeant self.old outs.items) }
         ensures runs { IfOk result (λ _. self.new.stopped ≡ false) }
-        ensures keeps { OnErr result (Keeps self.old self.new) }
+        ensures keeps { OnErr result (KeepsWhetherOpen self.old self.new) }
         ensures is_open { OnErr result (is_some self.old.call ≡ true) }
         ensures number { self.new.number ≡ self.old.number }
     {
@@ -264,8 +264,8 @@ impl Client {
     // The open call's request.
     fn ask(&mut self, alloc: Global, mode: Mode) -> Result<Outputs, Stop>
         requires { is_some self.old.call ≡ true }
-        ensures asked { IfOk result (λ outs. Asks self.old mode outs.items self.new) }
-        ensures keeps { OnErr result (Keeps self.old self.new) }
+        ensures asked { IfOk result (λ outs. SendsRequest self.old mode outs.items self.new) }
+        ensures keeps { OnErr result (KeepsWhetherOpen self.old self.new) }
         ensures same { (self.new.number ≡ self.old.number) × (self.new.stopped ≡ self.old.stopped) }
     {
         let Some(call) = self.call.take() else {

@@ -20,7 +20,7 @@ use Rattle.protocol.specs.Client.RightClient.{last_call}
 use Rattle.space_node.specs.Calls.{Called}
 use Rattle.space_node.specs.Seats.{Seated}
 use Rattle.space_node.proofs.Calling.{last_quiet}
-use Rattle.cluster_run.specs.Answers.{AnswersRun, AreAnswered, IsAnswered}
+use Rattle.cluster_run.specs.Answers.{AnswersRun, AreAnswered, CallIsAnswered}
 use Rattle.cluster_run.specs.Hands.{AreDealt, AreGathered, Hands, HandsAreCalled, HasCalled, HasTrace, dealt_at}
 use Rattle.cluster_run.proofs.Turns.{dealt_in, get_before, get_pushed}
 
@@ -29,13 +29,13 @@ use Rattle.cluster_run.proofs.Turns.{dealt_in, get_before, get_pushed}
 first_of : (e : Entry) (es : List Entry) → Contains (e ∷ es) e
 first_of e es = (0, omega arith, refl)
 
-still_answered : (more es : List Entry) (k t : ℕ) (op : Operation) (answer : Outcome) → IsAnswered es k t op answer → IsAnswered (more ++ es) k t op answer
+still_answered : (more es : List Entry) (k t : ℕ) (op : Operation) (answer : Outcome) → CallIsAnswered es k t op answer → CallIsAnswered (more ++ es) k t op answer
 still_answered more es k t op answer h = record {
   invoked = Contains-append_right more es (Invoke k t op) h.invoked;
   accepted = Contains-append_right more es (Accepted k t answer) h.accepted;
 }
 
-just_answered : (between old : List Entry) (k t : ℕ) (op : Operation) (answer : Outcome) → IsAnswered (Accepted k t answer ∷ (between ++ Invoke k t op ∷ old)) k t op answer
+just_answered : (between old : List Entry) (k t : ℕ) (op : Operation) (answer : Outcome) → CallIsAnswered (Accepted k t answer ∷ (between ++ Invoke k t op ∷ old)) k t op answer
 just_answered between old k t op answer = record {
   invoked = Contains-append_right (Accepted k t answer ∷ between) (Invoke k t op ∷ old) (Invoke k t op) (first_of (Invoke k t op) old);
   accepted = first_of (Accepted k t answer) (between ++ Invoke k t op ∷ old);
@@ -61,15 +61,15 @@ one_call start old new ops answers op answer so_far call =
     let when : t ≡ suc (length ops) = ap suc so_far.calls in
     let invoke = Invoke k t op in
     let longer = Accepted k t answer ∷ (call.between ++ invoke ∷ old.history) in
-    let here : IsAnswered longer (start.party - 256) (suc (length ops)) op answer =
-    subst (λ i. IsAnswered longer i (suc (length ops)) op answer) client (subst (λ s. IsAnswered longer k s op answer) when (just_answered call.between old.history k t op answer)) in
+    let here : CallIsAnswered longer (start.party - 256) (suc (length ops)) op answer =
+    subst (λ i. CallIsAnswered longer i (suc (length ops)) op answer) client (subst (λ s. CallIsAnswered longer k s op answer) when (just_answered call.between old.history k t op answer)) in
     record {
       party = call.party ∙ so_far.party;
       calls = ap last_call call.history ∙ (last_quiet call.between (invoke ∷ old.history) call.quiet ∙ (when ∙ (omega arith ∙ sym (length_push ops op))));
       count = length_push answers answer ∙ (ap (λ n. n + 1) so_far.count ∙ sym (length_push ops op));
-      each = last_or ops answers op answer (λ j o a. IsAnswered new.history (start.party - 256) (suc j) o a) so_far.count
-          (subst (λ es. IsAnswered es (start.party - 256) (suc (length ops)) op answer) (sym call.history) here)
-          (λ j o a at bt. subst (λ es. IsAnswered es (start.party - 256) (suc j) o a) (sym call.history)
+      each = last_or ops answers op answer (λ j o a. CallIsAnswered new.history (start.party - 256) (suc j) o a) so_far.count
+          (subst (λ es. CallIsAnswered es (start.party - 256) (suc (length ops)) op answer) (sym call.history) here)
+          (λ j o a at bt. subst (λ es. CallIsAnswered es (start.party - 256) (suc j) o a) (sym call.history)
           (still_answered (Accepted k t answer ∷ call.between) (invoke ∷ old.history) (start.party - 256) (suc j) o a
           (still_answered (invoke ∷ []) old.history (start.party - 256) (suc j) o a (so_far.each j o a at bt))));
     }
@@ -104,7 +104,7 @@ module _ (c : Configuration) (ops : List (Op Global)) (answers : List (Answer Gl
         let asked : slice_get (map operation_of k.hand.items) q ≡ Some op =
         slice_get-map operation_of k.hand.items q ∙ (ap (option_map operation_of) (sym (dealt_in hands r q k.hand k.hand_is) ∙ (dealt.each r q low ∙ ap (slice_get ops) lies))
         ∙ (sym (slice_get-map operation_of ops i) ∙ at)) in
-        let there : IsAnswered k.client.history r (suc q) op answer = subst (λ n. IsAnswered k.client.history n (suc q) op answer) (omega arith) (k.called.each q op answer asked v.2) in
+        let there : CallIsAnswered k.client.history r (suc q) op answer = subst (λ n. CallIsAnswered k.client.history n (suc q) op answer) (omega arith) (k.called.each q op answer asked v.2) in
         let within = slice_get_within clients r k.client k.client_is in
         let same : history_of k.client.party done.trace ≡ k.client.history =
         subst (λ s. history_of s.party done.trace ≡ s.history) (get_or_from_slice_get clients r k.client k.client k.client_is)

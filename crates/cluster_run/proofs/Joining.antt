@@ -12,13 +12,13 @@ use Rattle.tuple_codec.specs.declared.operations.Answer.{Answer}
 use Rattle.tuple_codec.specs.declared.operations.Op.{Op}
 use Rattle.space_node.specs.Seats.{Seated}
 use Rattle.cluster_run.specs.Hands.{Hands, HandsAreCalled, HasCalledHand}
-use Rattle.cluster_run.specs.Threads.{AddsCalled, AreJoined, AreStarted, Starts, promises_of}
+use Rattle.cluster_run.specs.Threads.{AddsCalled, AreJoined, AreStarted, StartsThread, promises_of}
 use Rattle.cluster_run.specs.declared.calling.AllCalled.{AllCalled}
 use Rattle.cluster_run.specs.declared.calling.Called.{Called}
 use Rattle.cluster_run.specs.declared.calling.CallsHand.{CallsHand}
 use Rattle.cluster_run.proofs.Turns.{get_before, get_pushed, got}
 
-pub started_more : (hands : Hands (Op Global)) (hand : Vec (Op Global) Global) (old new : List CallsHand) (n : ℕ) → AreStarted hands old → Starts old n hand new → n ≡ length old
+pub started_more : (hands : Hands (Op Global)) (hand : Vec (Op Global) Global) (old new : List CallsHand) (n : ℕ) → AreStarted hands old → StartsThread old n hand new → n ≡ length old
     → slice_get hands n ≡ Some hand → AreStarted hands new × (length new ≡ length old + 1)
 started_more hands hand old new n so_far starts at is = (
   (λ h p e. elim (cases_eq h (length old)) [
@@ -81,7 +81,7 @@ promises_more [] thread = refl
 promises_more (t ∷ threads) thread = ap (λ ps. t.promise ∷ ps) (promises_more threads thread)
 
 pub starts : {T : Type 0} (old new : List (PromisedHandle T CallsHand)) (thread : PromisedHandle T CallsHand) (n : ℕ) (hand : Vec (Op Global) Global) → new ≡ old ++ thread ∷ []
-    → thread.promise.number ≡ n → thread.promise.ops.value ≡ hand → Starts (promises_of old) n hand (promises_of new)
+    → thread.promise.number ≡ n → thread.promise.ops.value ≡ hand → StartsThread (promises_of old) n hand (promises_of new)
 starts old new thread n hand is number_is hand_is = record {
   promise = thread.promise;
   number_is = number_is;

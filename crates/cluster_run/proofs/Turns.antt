@@ -11,7 +11,7 @@ use lib.ListN.{length-set}
 use Rattle.std.proofs.lemmas.List.{length_push}
 use Rattle.std.proofs.lemmas.Option.{slice_get_past, slice_get_within, none-some}
 use Rattle.std.proofs.lemmas.Bool.{cases_eq, cases_lt}
-use Rattle.cluster_run.specs.Hands.{AreDealt, AreGathered, Hands, Takes, dealt_at}
+use Rattle.cluster_run.specs.Hands.{AreDealt, AreGathered, Hands, TakesItem, dealt_at}
 
 -- ---- numbers
 
@@ -143,7 +143,7 @@ dealt_more xs n i hands more hand later x some dealt at was is set =
 -- ---- taking back
 
 pub gathered_more : {X : Type 0} (all hands more : Hands X) (n i : ℕ) (xs ys : List X) (x : X) → AreGathered all n i xs
-    → ((h j : ℕ) → i ≤ h + j * n → dealt_at hands h j ≡ dealt_at all h j) → Takes hands (i % n) (i / n) x more → ys ≡ xs ++ x ∷ []
+    → ((h j : ℕ) → i ≤ h + j * n → dealt_at hands h j ≡ dealt_at all h j) → TakesItem hands (i % n) (i / n) x more → ys ≡ xs ++ x ∷ []
     → AreGathered all n (i + 1) ys × ((h j : ℕ) → i + 1 ≤ h + j * n → dealt_at more h j ≡ dealt_at all h j)
 gathered_more all hands more n i xs ys x so_far left takes is =
     let whole = div-add-mod' i n in (

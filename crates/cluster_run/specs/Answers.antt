@@ -10,7 +10,7 @@ use Rattle.protocol.specs.System.Trace.Entry.{Invoke, Accepted}
 use Rattle.protocol.specs.Space.Linear.{points, IsLinear}
 
 -- The client invoked the operation at this timestamp, and accepted this answer to it.
-pub record IsAnswered (entries : List Entry) (client timestamp : ℕ) (op : Operation) (answer : Outcome) : Type 0 where
+pub record CallIsAnswered (entries : List Entry) (client timestamp : ℕ) (op : Operation) (answer : Outcome) : Type 0 where
   pub invoked : Contains entries (Invoke client timestamp op)
   pub accepted : Contains entries (Accepted client timestamp answer)
 
@@ -19,7 +19,7 @@ pub record IsAnswered (entries : List Entry) (client timestamp : ℕ) (op : Oper
 pub record AreAnswered (trace : List Entry) (clients : ℕ) (ops : List Operation) (answers : List Outcome) : Type 0 where
   pub count : length answers ≡ length ops
   pub each : (i : ℕ) (op : Operation) (answer : Outcome) → slice_get ops i ≡ Some op
-      → slice_get answers i ≡ Some answer → IsAnswered trace (i % clients) (suc (i / clients)) op answer
+      → slice_get answers i ≡ Some answer → CallIsAnswered trace (i % clients) (suc (i / clients)) op answer
 
 -- A trace of the system in which nothing is forged. If its texts do not collide it is linear: the answers that
 -- clients accept are those of one sequential tuple space.

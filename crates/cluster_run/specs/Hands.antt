@@ -13,7 +13,7 @@ use Rattle.protocol.specs.System.Trace.{Entry}
 use Rattle.protocol.specs.Client.RightClient.{last_call}
 use Rattle.space_node.specs.Runs.{HasHistories}
 use Rattle.space_node.specs.Seats.{Seated, new_seat}
-use Rattle.cluster_run.specs.Answers.{IsAnswered, IsProper}
+use Rattle.cluster_run.specs.Answers.{CallIsAnswered, IsProper}
 
 -- ---- dealing
 
@@ -35,7 +35,7 @@ pub record AreGathered {X : Type 0} (hands : Hands X) (clients count : ℕ) (xs 
   pub each : (i : ℕ) → i < count → slice_get xs i ≡ dealt_at hands (i % clients) (i / clients)
 
 -- the item at this place was taken, and all others stay where they are
-pub record Takes {X : Type 0} (old : Hands X) (hand place : ℕ) (x : X) (new : Hands X) : Type 0 where
+pub record TakesItem {X : Type 0} (old : Hands X) (hand place : ℕ) (x : X) (new : Hands X) : Type 0 where
   pub taken : dealt_at old hand place ≡ Some x
   pub others : (h j : ℕ) → (h ≢ hand) ⊎ (j ≢ place) → dealt_at new h j ≡ dealt_at old h j
 
@@ -47,7 +47,7 @@ pub record HasCalled (start : Seated) (ops : List Operation) (answers : List Out
   pub calls : last_call now.history ≡ length ops
   pub count : length answers ≡ length ops
   pub each : (j : ℕ) (op : Operation) (answer : Outcome) → slice_get ops j ≡ Some op
-      → slice_get answers j ≡ Some answer → IsAnswered now.history (client_number start.party) (suc j) op answer
+      → slice_get answers j ≡ Some answer → CallIsAnswered now.history (client_number start.party) (suc j) op answer
 
 -- the client called the operations of its hand, and got these answers
 abbrev pub HasCalledHand : Vec (Op Global) Global → ℕ → Vec (Answer Global) Global → Seated → Type 0

@@ -15,7 +15,7 @@ abbrev pub promises_of : {T : Type 0} → List (PromisedHandle T CallsHand) → 
 promises_of threads = map (λ t. t.promise) threads
 
 -- one more thread promises to call this hand
-pub record Starts (old : List CallsHand) (number : ℕ) (hand : Vec (Op Global) Global) (new : List CallsHand) : Type 0 where
+pub record StartsThread (old : List CallsHand) (number : ℕ) (hand : Vec (Op Global) Global) (new : List CallsHand) : Type 0 where
   pub promise : CallsHand
   pub number_is : promise.number ≡ number
   pub hand_is : promise.ops.value ≡ hand

@@ -3,7 +3,7 @@
 ghost use Rattle.std.specs.Prelude.{◌≡◌, ◌+◌, [], IfOk, OnOk, map};
 ghost use Rattle.tuple_codec.specs.OperationView.{operation_of, outcome_of};
 ghost use Rattle.cluster_run.specs.Hands.{HasCalled};
-ghost use Rattle.cluster_run.specs.Threads.{AddsCalled, AreJoined, AreStarted, Starts, promises_of};
+ghost use Rattle.cluster_run.specs.Threads.{AddsCalled, AreJoined, AreStarted, StartsThread, promises_of};
 
 use crate::fault::LateFault;
 use crate::patience::Patience;
@@ -98,7 +98,7 @@ fn start_client<N: Naming + Send + Sync + 'static, R: Threads + Wait + Copy + Se
     progress: &Arc<Progress, Global>,
     callers: &mut Callers<N>,
 ) -> Result<(), LateFault>
-    ensures { OnOk result (Starts (promises_of callers.old.threads.items) number ops
+    ensures { OnOk result (StartsThread (promises_of callers.old.threads.items) number ops
         (promises_of callers.new.threads.items)) }
 {
     callers.parties.reserve(1)?;

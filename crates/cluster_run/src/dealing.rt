@@ -1,7 +1,7 @@
 //! The operations of each client.
 
 ghost use Rattle.std.specs.Prelude.{◌≡◌, ◌<◌, [], IfOk, IfSome};
-ghost use Rattle.cluster_run.specs.Hands.{AreDealt, AreGathered, Takes};
+ghost use Rattle.cluster_run.specs.Hands.{AreDealt, AreGathered, TakesItem};
 
 use crate::fault::LateFault;
 use std::alloc::Global;
@@ -64,7 +64,7 @@ fn take_answer(
     hand: usize,
     place: usize,
 ) -> Option<Answer<Global>>
-    ensures { IfSome result (λ answer. Takes hands.old.items hand place answer hands.new.items) }
+    ensures { IfSome result (λ answer. TakesItem hands.old.items hand place answer hands.new.items) }
 {
     if hand >= hands.len() || place >= hands[hand].len() {
         return None;

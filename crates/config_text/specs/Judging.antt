@@ -8,7 +8,7 @@ use Rattle.protocol.specs.System.Configuration.{Configuration, IsConfiguration}
 use Rattle.config_text.specs.declared.fault.ConfigFault.{ConfigFault}
 use Rattle.config_text.specs.declared.fault.ConfigFault.TheVariants.{Refused, NoMemory}
 use Rattle.config_text.specs.declared.settings.Settings.{Settings}
-use Rattle.config_text.specs.Reading.{known_keys, SaysParties, SaysAll, Says}
+use Rattle.config_text.specs.Reading.{known_keys, SaysParties, SaysAll, SaysSettings}
 
 -- whether a configuration may have this key
 unfoldable pub is_known : List ℕ → Bool
@@ -20,10 +20,10 @@ Because Refused why = why
 Because NoMemory why = Unit {0}
 
 -- The given settings are those that the text says, and a refused text says no configuration.
-abbrev pub Judges : List ℕ → Result Settings ConfigFault → Type 0
-Judges text result =
-    MatchResult result (λ s. Says text s.config s.journal)
-    (λ fault. Because fault ((c : Configuration) (journal : ℕ) → Says text c journal → ⊥))
+abbrev pub JudgesSettings : List ℕ → Result Settings ConfigFault → Type 0
+JudgesSettings text result =
+    MatchResult result (λ s. SaysSettings text s.config s.journal)
+    (λ fault. Because fault ((c : Configuration) (journal : ℕ) → SaysSettings text c journal → ⊥))
 
 abbrev pub JudgesTable : Members → Result Settings ConfigFault → Type 0
 JudgesTable table result =
@@ -41,8 +41,8 @@ JudgesNumber bits Has result =
     MatchResult result Has (λ fault. Because fault ((n : ℕ) → n < 2 ^ bits → Has n → ⊥))
 
 -- the number as it is, or it has more bits
-abbrev pub Narrows : ℕ → ℕ → Result ℕ ConfigFault → Type 0
-Narrows bits number result =
+abbrev pub NarrowsNumber : ℕ → ℕ → Result ℕ ConfigFault → Type 0
+NarrowsNumber bits number result =
     MatchResult result (λ n. n ≡ number) (λ fault. Because fault (2 ^ bits ≤ number))
 
 -- numbers of 16 bits with the property Have, or none have it

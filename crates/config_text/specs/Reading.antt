@@ -7,8 +7,8 @@ use Rattle.toml.specs.Parse.{parse_document}
 use Rattle.protocol.specs.System.Configuration.{Configuration, IsConfiguration}
 
 -- The number stands under the key.
-abbrev pub HasNumber : Members → List ℕ → ℕ → Type 0
-HasNumber table key n = option_and_then as_integer (get_member key table) ≡ Some (pos n)
+abbrev pub KeyHasNumber : Members → List ℕ → ℕ → Type 0
+KeyHasNumber table key n = option_and_then as_integer (get_member key table) ≡ Some (pos n)
 
 abbrev pub IsFoundOr : ℕ → ℕ → Option Data → Type 0
 IsFoundOr default n None = n ≡ default
@@ -55,8 +55,8 @@ HasKnownKeys table = All (Contains known_keys) (keys_of table)
 
 -- the values of a configuration, each under its key
 pub record SaysParties (table : Members) (c : Configuration) : Type 0 where
-  pub faults : HasNumber table (codes "f") c.faults
-  pub clients : HasNumber table (codes "clients") c.clients
+  pub faults : KeyHasNumber table (codes "f") c.faults
+  pub clients : KeyHasNumber table (codes "clients") c.clients
   pub seed : HasSeed table c.seed
   pub period : HasNumberOr table (codes "checkpoint") 16 c.period
   pub replicas : HasNumbers table (codes "faulty_replicas") c.faulty_replicas
@@ -75,7 +75,7 @@ pub record SaysAll (table : Members) (c : Configuration) (journal : ℕ) : Type 
   pub range : IsJournal journal
 
 -- The text is TOML, and its table is that of the configuration and the journal.
-pub record Says (text : List ℕ) (c : Configuration) (journal : ℕ) : Type 0 where
+pub record SaysSettings (text : List ℕ) (c : Configuration) (journal : ℕ) : Type 0 where
   pub table : Members
   pub utf8 : IsUtf8 text
   pub parsed : parse_document text ≡ Some table

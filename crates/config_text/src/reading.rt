@@ -7,8 +7,8 @@ ghost use Rattle.std.specs.Str.{bytes_eq};
 ghost use Rattle.toml.specs.Data.{get_member, as_integer};
 ghost use Rattle.toml.specs.View.{view, items_view, table_view};
 ghost use Rattle.protocol.specs.System.Configuration.{IsConfiguration};
-ghost use Rattle.config_text.specs.Reading.{HasNumber, HasNumberOr, HasNumbers, AreNumbers, HasSeed, IsJournal};
-ghost use Rattle.config_text.specs.Judging.{is_known, Judges, JudgesTable, JudgesParties, JudgesNumber, JudgesNumbers, JudgesSeed, Narrows};
+ghost use Rattle.config_text.specs.Reading.{KeyHasNumber, HasNumberOr, HasNumbers, AreNumbers, HasSeed, IsJournal};
+ghost use Rattle.config_text.specs.Judging.{is_known, JudgesSettings, JudgesTable, JudgesParties, JudgesNumber, JudgesNumbers, JudgesSeed, NarrowsNumber};
 
 use crate::fault::ConfigFault;
 use crate::settings::Settings;
@@ -54,7 +54,7 @@ const MAX_JOURNAL: u32 = 65_536;
 /// [`ConfigFault::Refused`] if the text gives no configuration, and [`ConfigFault::NoMemory`] if memory runs out.
 pub fn read_config(alloc: Global, text: &[u8]) -> Result<Settings, ConfigFault>
     // The given settings are those that the text says, and a refused text says no configuration.
-    ensures { Judges text.now result }
+    ensures { JudgesSettings text.now result }
 {
     match toml::table_from_slice(alloc, text) {
         Ok(table) => read_table(alloc, &table),
@@ -117,14 +117,14 @@ fn note_valid(config: &Config)
 }
 
 fn read_faults(table: &Table) -> Result<u8, ConfigFault>
-    ensures { JudgesNumber 8 (HasNumber (table_view table.now) (codes "f")) result }
+    ensures { JudgesNumber 8 (KeyHasNumber (table_view table.now) (codes "f")) result }
 {
     let number = number(table, FAULTS)?;
     to_u8(number)
 }
 
 fn read_clients(table: &Table) -> Result<u16, ConfigFault>
-    ensures { JudgesNumber 16 (HasNumber (table_view table.now) (codes "clients")) result }
+    ensures { JudgesNumber 16 (KeyHasNumber (table_view table.now) (codes "clients")) result }
 {
     let number = number(table, CLIENTS)?;
     to_u16(number)
@@ -162,7 +162,7 @@ fn find<'a>(table: &'a Table, key: &str) -> Option<&'a Value>
 }
 
 fn number(table: &Table, key: &str) -> Result<u32, ConfigFault>
-    ensures { JudgesNumber 32 (HasNumber (table_view table.now) key.now) result }
+    ensures { JudgesNumber 32 (KeyHasNumber (table_view table.now) key.now) result }
 {
     match find(table, key) {
         Some(value) => to_number(value),
@@ -234,7 +234,7 @@ fn to_number(value: &Value) -> Result<u32, ConfigFault>
 }
 
 fn to_u16(number: u32) -> Result<u16, ConfigFault>
-    ensures { Narrows 16 number result }
+    ensures { NarrowsNumber 16 number result }
 {
     match u16::try_from(number) {
         Ok(number) => Ok(number),
@@ -243,7 +243,7 @@ fn to_u16(number: u32) -> Result<u16, ConfigFault>
 }
 
 fn to_u8(number: u32) -> Result<u8, ConfigFault>
-    ensures { Narrows 8 number result }
+    ensures { NarrowsNumber 8 number result }
 {
     match u8::try_from(number) {
         Ok(number) => Ok(number),

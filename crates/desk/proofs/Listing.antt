@@ -2,14 +2,14 @@
 use Rattle.std.proofs.Common.{◌≡◌, List, [], ◌∷◌, map, drop, refl, ap}
 use mathlib.Core.List.{reverse_aux}
 use Rattle.wire_format.specs.Messages.{CheckpointEntryData as CheckpointEntry}
-use Rattle.replica_histories.specs.Views.{entry_of, entries_of}
+use Rattle.replica_histories.specs.Views.{checkpoint_entry_of, entries_of}
 use Rattle.desk.specs.declared.snapshots.KeptState.{KeptState}
 use Rattle.desk.specs.SnapshotsView.{kept_data}
 
 abbrev pub listed : KeptState → CheckpointEntry
-listed state = entry_of (kept_data state)
+listed state = checkpoint_entry_of (kept_data state)
 
-listed_mapped : (xs : List KeptState) → map listed xs ≡ map entry_of (map kept_data xs)
+listed_mapped : (xs : List KeptState) → map listed xs ≡ map checkpoint_entry_of (map kept_data xs)
 listed_mapped [] = refl
 listed_mapped (x ∷ xs) = ap (λ (ys : List CheckpointEntry). listed x ∷ ys) (listed_mapped xs)
 

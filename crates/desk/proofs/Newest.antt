@@ -7,7 +7,7 @@ use Rattle.protocol.proofs.Words.Elements.{each_filtered}
 use Rattle.replica_histories.specs.Desk.{Snapshot, snapshot_of, kept_from}
 use Rattle.replica_histories.specs.Views.{entries_of}
 use Rattle.desk.specs.State.{DeskData, IsDesk}
-use Rattle.desk.specs.Desking.{MayKeep, is_due}
+use Rattle.desk.specs.Desking.{MayKeep, checkpoint_is_due}
 use Rattle.desk.specs.Keeping.{Descend, AreFew, AreDue, AreKept}
 
 -- ---- the kept states
@@ -87,7 +87,7 @@ pub desk_drops : (d : DeskData) (low : ℕ) (snapshots : List Snapshot) → IsDe
 desk_drops d low snapshots is are =
     subst (λ (xs : List Snapshot). IsDesk (record d { snapshots = xs })) (sym are) (is.0, is.1, is.2, kept_on d.period d.executed.state.number low d.snapshots is.3)
 
-pub may_keep_due : (d : DeskData) (due : Bool) → IsDesk d → Each (λ x. x.number < d.executed.state.number) d.snapshots → due ≡ is_due d → due ≡ true → MayKeep d
+pub may_keep_due : (d : DeskData) (due : Bool) → IsDesk d → Each (λ x. x.number < d.executed.state.number) d.snapshots → due ≡ checkpoint_is_due d → due ≡ true → MayKeep d
 may_keep_due d due is newer tells held = record {
   newer = newer;
   due = due_first d.period (snapshot_of d.executed.state) d.snapshots (eqb-true (d.executed.state.number % d.period) 0 (sym tells ∙ held)) is.3.due;

@@ -21,7 +21,7 @@ named message = elim message [ Reply client t mode number outcome ↦ client | _
 
 -- The answer to the received read, from the executed state, goes to its client.
 pub answered : (d : DeskData) (bytes : List ℕ) (shelf : Shelf) (request : ReadRequest) (reply : WireReply) (before after : List Output)
-    → HearsRead d.membership d.me bytes request.client.number request.timestamp.0 request.op.now → answers.AnswersRead shelf request reply
+    → HearsRead d.membership d.me bytes request.client.number request.timestamp.0 request.op.now → answers.RepliesToRead shelf request reply
     → shelf.space.now ≡ d.executed.state.space → shelf.number.0 ≡ d.executed.state.number
     → SaysTo d reply.client (message_of reply) before after → AnswersBytes d bytes before after
 answered d bytes shelf request reply before after h answer space number says = inl (record {

@@ -3,13 +3,13 @@ use Rattle.std.proofs.Common.{◌≡◌, ℕ, suc, ◌+◌, Bool, true, false, c
 use Rattle.events.specs.declared.output.Output.{Output}
 use Rattle.events.specs.Outputs.{entry_of}
 use Rattle.execution.specs.declared.running.Ran.{Ran}
-use Rattle.execution.specs.Executed.{ExecutedData, Executes, told}
+use Rattle.execution.specs.Executed.{ExecutedData, ExecutesBatchText, told}
 use Rattle.protocol.specs.System.Trace.Entry.{Executed}
 use Rattle.replica_histories.specs.Desk.{snapshot_of}
 use Rattle.desk.specs.Keeping.{newest_with}
 use Rattle.desk.specs.State.{DeskData}
 use Rattle.desk.specs.Waiting.{WaitingData, forgotten}
-use Rattle.desk.specs.Desking.{HoldsState, RepliesToAll, RunsBatch, SaysReply, above_number, is_due, keeping_due, keeping_state, snapshots_with}
+use Rattle.desk.specs.Desking.{HoldsState, RepliesToAll, RunsBatch, SaysReply, above_number, checkpoint_is_due, keeping_due, keeping_state, snapshots_with}
 use Rattle.desk.specs.Fetching.{closing_reached}
 
 -- ---- executions
@@ -25,7 +25,7 @@ behind_run d executed = record d {
 
 -- the state is kept if it is due, a reached transfer is closed, and requests that ran wait no more
 keeping_is : (d : DeskData) → keeping_due d ≡ record d { snapshots = snapshots_with d.period d.executed.state d.snapshots }
-keeping_is d = go (is_due d)
+keeping_is d = go (checkpoint_is_due d)
   where
     go : (b : Bool) → cond b (keeping_state d) d ≡ record d { snapshots = cond b (newest_with (snapshot_of d.executed.state) d.snapshots) d.snapshots }
     go true = refl
@@ -44,7 +44,7 @@ pub one_more : (n : ℕ) → n + 1 ≡ suc n
 one_more n = omega arith
 
 pub runs_batch : (old new : DeskData) (executed : ExecutedData) (text : List ℕ) (ran : List Ran) (output : Output) (before after : List Output) → new ≡ behind_run old executed → HoldsState old
-    → Executes old.executed text (map told ran) executed → executed.state.number ≡ old.executed.state.number + 1
+    → ExecutesBatchText old.executed text (map told ran) executed → executed.state.number ≡ old.executed.state.number + 1
     → entry_of old.me output ≡ Executed old.me (suc old.executed.state.number) text → after ≡ before ++ output ∷ [] → RunsBatch old text before new ran after
 runs_batch old new executed text ran output before after same held runs number entry more = subst (λ (d : DeskData). RunsBatch old text before d ran after) (sym same) (record {
   held = held;

@@ -10,18 +10,18 @@ use Rattle.wire_format.specs.Spelling.{IsCarried, is_ordered_request}
 use Rattle.wire_format.specs.Views.{texts_of}
 use Rattle.desk.specs.declared.waiting.WaitingRequest.{WaitingRequest}
 use Rattle.desk.specs.declared.waiting.BegunCall.{BegunCall}
-use Rattle.desk.specs.Waiting.{WaitingData, IsRequest, IsWaiting, keeping, texts, all_unnumbered, unnumbered, count_unnumbered, all_numbered, with_numbered, renumbered, with_view}
+use Rattle.desk.specs.Waiting.{WaitingData, HasRequestFrame, IsWaiting, keeping, texts, all_unnumbered, unnumbered, count_unnumbered, all_numbered, with_numbered, renumbered, with_view}
 
-each_taken : (n : ℕ) (xs : List WaitingRequest) → Each IsRequest xs → Each IsRequest (take n xs)
+each_taken : (n : ℕ) (xs : List WaitingRequest) → Each HasRequestFrame xs → Each HasRequestFrame (take n xs)
 each_taken zero xs h = tt
 each_taken (suc n) [] h = tt
 each_taken (suc n) (x ∷ xs) h = (h.0, each_taken n xs h.1)
 
-each_kept : (p : WaitingRequest → Bool) (xs : List WaitingRequest) → Each IsRequest xs → Each IsRequest (filter p xs)
+each_kept : (p : WaitingRequest → Bool) (xs : List WaitingRequest) → Each HasRequestFrame xs → Each HasRequestFrame (filter p xs)
 each_kept p [] h = h
 each_kept p (x ∷ xs) h = go (p x) (each_kept p xs h.1)
   where
-    go : (b : Bool) → Each IsRequest (filter p xs) → Each IsRequest (cond b (x ∷ filter p xs) (filter p xs))
+    go : (b : Bool) → Each HasRequestFrame (filter p xs) → Each HasRequestFrame (cond b (x ∷ filter p xs) (filter p xs))
     go true rest = (h.0, rest)
     go false rest = rest
 
@@ -30,20 +30,20 @@ kept_waits p w h = record { each = each_kept p w.requests h.each }
 
 -- ---- numbers
 
-each_numbered : (n : ℕ) (xs : List WaitingRequest) → Each IsRequest xs → Each IsRequest (all_numbered n xs)
+each_numbered : (n : ℕ) (xs : List WaitingRequest) → Each HasRequestFrame xs → Each HasRequestFrame (all_numbered n xs)
 each_numbered n [] h = tt
 each_numbered zero (x ∷ xs) h = h
 each_numbered (suc n) (x ∷ xs) h = go x.numbered (each_numbered (suc n) xs h.1) (each_numbered n xs h.1)
   where
-    go : (b : Bool) → Each IsRequest (all_numbered (suc n) xs) → Each IsRequest (all_numbered n xs)
-        → Each IsRequest (cond b (x ∷ all_numbered (suc n) xs) (record x { numbered = true } ∷ all_numbered n xs))
+    go : (b : Bool) → Each HasRequestFrame (all_numbered (suc n) xs) → Each HasRequestFrame (all_numbered n xs)
+        → Each HasRequestFrame (cond b (x ∷ all_numbered (suc n) xs) (record x { numbered = true } ∷ all_numbered n xs))
     go true rest fewer = (h.0, rest)
     go false rest fewer = (h.0, fewer)
 
 pub numbered_waits : (n : ℕ) (w : WaitingData) → IsWaiting w → IsWaiting (with_numbered n w)
 numbered_waits n w h = record { each = each_numbered n w.requests h.each }
 
-each_renumbered : (begun : List BegunCall) (xs : List WaitingRequest) → Each IsRequest xs → Each IsRequest (map (renumbered begun) xs)
+each_renumbered : (begun : List BegunCall) (xs : List WaitingRequest) → Each HasRequestFrame xs → Each HasRequestFrame (map (renumbered begun) xs)
 each_renumbered begun [] h = tt
 each_renumbered begun (x ∷ xs) h = (h.0, each_renumbered begun xs h.1)
 
@@ -98,14 +98,14 @@ module _ (xs : List WaitingRequest) (i : ℕ) (d : WaitingRequest) (within : i <
 
 -- ---- those without a number
 
-pub each_unnumbered : (w : WaitingData) → IsWaiting w → Each IsRequest (unnumbered w)
+pub each_unnumbered : (w : WaitingData) → IsWaiting w → Each HasRequestFrame (unnumbered w)
 each_unnumbered w h = each_taken 16 (all_unnumbered w.requests) (each_kept (λ r. not r.numbered) w.requests h.each)
 
 pub few_unnumbered : (w : WaitingData) → length (unnumbered w) ≤ 16
 few_unnumbered w = omega (arith, length-take 16 (all_unnumbered w.requests))
 
 -- the frames are those of ordered requests
-pub frames_carried : (rs : List WaitingRequest) → Each IsRequest rs → Each (IsCarried is_ordered_request) (texts rs)
+pub frames_carried : (rs : List WaitingRequest) → Each HasRequestFrame rs → Each (IsCarried is_ordered_request) (texts rs)
 frames_carried [] h = tt
 frames_carried (r ∷ rs) h = (h.0, frames_carried rs h.1)
 

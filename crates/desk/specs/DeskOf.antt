@@ -9,7 +9,7 @@ use Rattle.replica_histories.specs.Desk.{Desk}
 use Rattle.replica_histories.specs.Transfers.{RestsOnState}
 use Rattle.desk.specs.declared.waiting.WaitingRequest.{WaitingRequest}
 use Rattle.desk.specs.State.{OpenData, DeskData}
-use Rattle.desk.specs.Waiting.{frames_of}
+use Rattle.desk.specs.Waiting.{frames_waiting}
 
 -- ---- the desk
 
@@ -32,7 +32,7 @@ desk_of c d = record {
   state = d.executed.state;
   snapshots = d.snapshots;
   waiting = waiting_calls c d.waiting.requests;
-  frames = frames_of d.waiting;
+  frames = frames_waiting d.waiting;
   transfer = option_map (λ o. o.transfer) d.transfer;
 }
 

@@ -16,7 +16,7 @@ use Rattle.reply_cache.specs.Replies.{Kept}
 use Rattle.posting.specs.Endpoint.{SealsForOne}
 use Rattle.events.specs.declared.output.Output.{Output}
 use Rattle.events.specs.Outputs.{entry_of}
-use Rattle.execution.specs.Executed.{Executes, told}
+use Rattle.execution.specs.Executed.{ExecutesBatchText, told}
 use Rattle.execution.specs.declared.running.Ran.{Ran}
 use Rattle.protocol.specs.System.Configuration.{Configuration, members}
 use Rattle.protocol.specs.System.Trace.Entry.{Executed}
@@ -26,7 +26,7 @@ use Rattle.replica_histories.specs.Desk.{Snapshot, snapshot_of, kept_from}
 use Rattle.replica_histories.specs.Inputs.{again_for}
 use Rattle.desk.specs.Keeping.{AreDue, AreFew, newest_with}
 use Rattle.desk.specs.State.{OpenData, DeskData, IsDesk}
-use Rattle.desk.specs.Waiting.{none_waiting, forgotten, with_request, without}
+use Rattle.desk.specs.Waiting.{none_waiting, forgotten, with_request, without_client}
 
 -- the opening state, which is kept; nothing waits
 abbrev pub IsNewDesk : Configuration → ℕ → DeskData → Type 0
@@ -41,10 +41,10 @@ IsNewDesk c me d = d ≡ record {
 }
 
 -- The client's request in this frame waits after all others, and no other one of this client.
-abbrev pub Waits : ClientId → Timestamp → List ℕ → DeskData → DeskData → Type 0
-Waits client timestamp frame old new =
+abbrev pub RequestWaits : ClientId → Timestamp → List ℕ → DeskData → DeskData → Type 0
+RequestWaits client timestamp frame old new =
     (text : Vec ℕ Global) × (text.items ≡ frame)
-    × (new ≡ record old { waiting = with_request client timestamp text (without client.number old.waiting) })
+    × (new ≡ record old { waiting = with_request client timestamp text (without_client client.number old.waiting) })
 
 -- ---- replies
 
@@ -110,7 +110,7 @@ pub record RunsBatch (old : DeskData) (text : List ℕ) (before : List Output) (
     waiting = forgotten new.executed.state old.waiting;
   }
   pub number : new.executed.state.number ≡ suc old.executed.state.number
-  pub executes : Executes old.executed text (map told ran) new.executed
+  pub executes : ExecutesBatchText old.executed text (map told ran) new.executed
   pub output : Output
   pub entry_is : entry_of old.me output ≡ Executed old.me (suc old.executed.state.number) text
   pub given_is : after ≡ before ++ output ∷ []
@@ -133,11 +133,11 @@ pub record MayKeep (d : DeskData) : Type 0 where
   pub newer : Each (λ x. x.number < d.executed.state.number) d.snapshots
   pub due : AreDue d.period (snapshot_of d.executed.state ∷ d.snapshots)
 
-abbrev pub is_due : DeskData → Bool
-is_due d = d.executed.state.number % d.period == 0
+abbrev pub checkpoint_is_due : DeskData → Bool
+checkpoint_is_due d = d.executed.state.number % d.period == 0
 
 abbrev pub keeping_due : DeskData → DeskData
-keeping_due d = if is_due d then keeping_state d else d
+keeping_due d = if checkpoint_is_due d then keeping_state d else d
 
 -- the number and root of the newest kept state; or of the executed state, if it is to have a checkpoint
 abbrev pub newest_entry : List Snapshot → Option CheckpointEntry
@@ -145,7 +145,7 @@ newest_entry [] = None
 newest_entry (snapshot ∷ older) = Some (record { number = snapshot.number; digest = root_of_pages snapshot.pages })
 
 abbrev pub due_entry : DeskData → Option CheckpointEntry
-due_entry d = if is_due d then newest_entry d.snapshots else None
+due_entry d = if checkpoint_is_due d then newest_entry d.snapshots else None
 
 -- the kept states below a low mark are dropped
 abbrev pub desk_above : ℕ → DeskData → DeskData

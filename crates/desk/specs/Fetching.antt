@@ -34,18 +34,18 @@ use Rattle.desk.specs.Transferring.{started, moved, AreOtherDigests, IsOtherPage
 abbrev pub HasKept : DeskData → ℕ → List (List ℕ) → Type 0
 HasKept d k pages = Has (λ x. x ≡ record { number = k; pages = pages }) d.snapshots
 
-abbrev pub HasNone : DeskData → ℕ → Type 0
-HasNone d k = Each (λ x. x.number ≢ k) d.snapshots
+abbrev pub KeepsNoState : DeskData → ℕ → Type 0
+KeepsNoState d k = Each (λ x. x.number ≢ k) d.snapshots
 
 -- The message has the requested part of a kept state; there is none if no state of the number is kept.
-abbrev pub HasPart : DeskData → Fetch → Option Message → Type 0
-HasPart d fetch (Some message) = (pages : List (List ℕ)) × HasKept d fetch.number.0 pages
+abbrev pub MessageHasPart : DeskData → Fetch → Option Message → Type 0
+MessageHasPart d fetch (Some message) = (pages : List (List ℕ)) × HasKept d fetch.number.0 pages
     × (message_data message ≡ answer_by pages fetch.number.0 fetch.level fetch.index)
-HasPart d fetch None = HasNone d fetch.number.0
+MessageHasPart d fetch None = KeepsNoState d fetch.number.0
 
 -- The desk sends that part to the asking replica alone; if no state of the number is kept, it sends nothing.
 abbrev pub GivesPart : DeskData → ReplicaId → Fetch → List Output → List Output → Type 0
-GivesPart d asker fetch before after = ((after ≡ before) × HasNone d fetch.number.0)
+GivesPart d asker fetch before after = ((after ≡ before) × KeepsNoState d fetch.number.0)
     ⊎ ((pages : List (List ℕ)) × (output : Output) × HasKept d fetch.number.0 pages
     × SealsForOne d.membership d.me (answer_by pages fetch.number.0 fetch.level fetch.index)
     (parties.Replica asker) output
@@ -58,12 +58,12 @@ abbrev pub aimed_at : DeskData → ℕ
 aimed_at d = elim d.transfer [ Some o ↦ o.transfer.number | None ↦ d.executed.state.number ]
 
 -- the transfer of a checkpoint's state: a new one, or the open one, moved to it
-abbrev pub opened : State → Option OpenData → CheckpointEntry → OpenData
-opened st None entry = started st entry
-opened st (Some o) entry = moved o entry
+abbrev pub opened_transfer : State → Option OpenData → CheckpointEntry → OpenData
+opened_transfer st None entry = started st entry
+opened_transfer st (Some o) entry = moved o entry
 
 abbrev pub aiming : CheckpointEntry → DeskData → DeskData
-aiming entry d = record d { transfer = Some (opened d.executed.state d.transfer entry) }
+aiming entry d = record d { transfer = Some (opened_transfer d.executed.state d.transfer entry) }
 
 -- The transfer's target becomes a checkpoint above that number; else nothing changes.
 abbrev pub AimsAt : CheckpointEntry → DeskData → DeskData → Bool → Type 0
@@ -125,8 +125,8 @@ CannotInstall d = ForSome d.transfer (λ o. root_of_pages o.transfer.held ≡ o.
 
 -- The state of the held pages is installed and kept alone, since no kept state is above the executed number, and no
 -- transfer is open any more. Or there is no state that may be installed.
-abbrev pub Installs : DeskData → DeskData → Option CheckpointEntry → Type 0
-Installs old new (Some entry) =
+abbrev pub InstallsHeldPages : DeskData → DeskData → Option CheckpointEntry → Type 0
+InstallsHeldPages old new (Some entry) =
     (o : OpenData) × (old.transfer ≡ Some o)
     × (entry ≡ record { number = o.transfer.number; digest = o.transfer.root })
     × HasPagesAt o.transfer.number o.transfer.held new.executed.state
@@ -138,4 +138,4 @@ Installs old new (Some entry) =
       waiting = forgotten new.executed.state old.waiting;
     })
     × Each (λ x. x.number ≤ old.executed.state.number) old.snapshots
-Installs old new None = (new ≡ old) × CannotInstall old
+InstallsHeldPages old new None = (new ≡ old) × CannotInstall old

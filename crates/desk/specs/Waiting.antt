@@ -23,8 +23,8 @@ none_waiting = record { requests = []; begun = [] }
 abbrev pub texts : List WaitingRequest → List (List ℕ)
 texts requests = map (λ r. r.frame.items) requests
 
-abbrev pub frames_of : WaitingData → List (List ℕ)
-frames_of w = texts w.requests
+abbrev pub frames_waiting : WaitingData → List (List ℕ)
+frames_waiting w = texts w.requests
 
 -- it is the client's
 abbrev pub is_of : ℕ → WaitingRequest → Bool
@@ -98,8 +98,8 @@ abbrev pub keeping : (WaitingRequest → Bool) → WaitingData → WaitingData
 keeping p w = record w { requests = filter p w.requests }
 
 -- without the client's
-abbrev pub without : ℕ → WaitingData → WaitingData
-without client w = keeping (λ r. not (is_of client r)) w
+abbrev pub without_client : ℕ → WaitingData → WaitingData
+without_client client w = keeping (λ r. not (is_of client r)) w
 
 -- without those that ran, or are older
 abbrev pub forgotten : State → WaitingData → WaitingData
@@ -108,8 +108,8 @@ forgotten st w = keeping (is_new st) w
 -- ---- what is kept
 
 -- the frame is that of an ordered request
-abbrev pub IsRequest : WaitingRequest → Type 0
-IsRequest r = IsCarried is_ordered_request r.frame.items
+abbrev pub HasRequestFrame : WaitingRequest → Type 0
+HasRequestFrame r = IsCarried is_ordered_request r.frame.items
 
 pub record IsWaiting (w : WaitingData) : Type 0 where
-  pub each : Each IsRequest w.requests
+  pub each : Each HasRequestFrame w.requests

@@ -8,7 +8,7 @@ ghost use Rattle.wire_format.specs.Spelling.{IsCarried, is_ordered_request};
 ghost use Rattle.wire_format.specs.Views.{texts_of};
 ghost use Rattle.desk.specs.State.{IsDesk};
 ghost use Rattle.desk.specs.Waiting.{count_unnumbered, texts, unnumbered, with_numbered};
-ghost use Rattle.desk.specs.Desking.{IsNewDesk, HasReply, RepliesAgain, RepliesToAll, RunsBatch, RunsWhole, SaysTo, Waits, message_of};
+ghost use Rattle.desk.specs.Desking.{IsNewDesk, HasReply, RepliesAgain, RepliesToAll, RunsBatch, RunsWhole, SaysTo, RequestWaits, message_of};
 
 use crate::keeping::pages_of;
 use crate::open_transfer::OpenTransfer;
@@ -176,7 +176,7 @@ impl Desk {
         frame: &[u8],
     ) -> Result<(), Stop>
         requires { IsCarried is_ordered_request frame.now }
-        ensures ok { OnOk result (Waits client timestamp frame.now self.old self.new) }
+        ensures ok { OnOk result (RequestWaits client timestamp frame.now self.old self.new) }
         ensures me { self.new.me ≡ self.old.me }
         ensures membership { self.new.membership ≡ self.old.membership }
         ensures period { self.new.period ≡ self.old.period }

@@ -5,7 +5,7 @@ ghost use Rattle.wire_format.specs.Views.{checkpoint_entry_data, message_data};
 ghost use Rattle.wire_format.specs.Spelling.{IsMessage, is_signed, last_index};
 ghost use Rattle.posting.specs.Endpoint.{FitsFrame};
 ghost use Rattle.state_transfer.specs.Places.{IsPlace};
-ghost use Rattle.desk.specs.Fetching.{AimsAt, AsksPart, GivesBack, GivesPart, HasPart, Installs, IsAskedFor, TakesDigests, TakesPage, aimed_at, closing_reached};
+ghost use Rattle.desk.specs.Fetching.{AimsAt, AsksPart, GivesBack, GivesPart, MessageHasPart, InstallsHeldPages, IsAskedFor, TakesDigests, TakesPage, aimed_at, closing_reached};
 ghost use Rattle.desk.specs.Transferring.{MayBeSaid};
 
 use crate::desk::Desk;
@@ -46,7 +46,7 @@ impl Desk {
     // The requested part, if the state is kept: the digests below a place, or the text of a page.
     fn part_message(&self, alloc: Global, fetch: &Fetch) -> Result<Option<Message>, NoMemory>
         requires { fetch.now.index ≤ last_index fetch.now.level }
-        ensures part { IfOk result (HasPart self.now fetch.now) }
+        ensures part { IfOk result (MessageHasPart self.now fetch.now) }
         ensures may { IfOk result (λ part. IfSome part (λ message. IsMessage (message_data message))) }
         ensures unsigned { IfOk result
             (λ part. IfSome part (λ message. is_signed (message_data message) ≡ false)) }
@@ -157,7 +157,7 @@ impl Desk {
     /// transfer. Returns its checkpoint. None if the fetched pages are no state of that number, or if some client's
     /// timestamp would fall. NoMemory if memory runs out.
     pub fn install(&mut self) -> Result<Option<CheckpointEntry>, NoMemory>
-        ensures ok { IfOk result (λ entry. Installs self.old self.new (option_map checkpoint_entry_data entry)) }
+        ensures ok { IfOk result (λ entry. InstallsHeldPages self.old self.new (option_map checkpoint_entry_data entry)) }
         ensures me { self.new.me ≡ self.old.me }
         ensures membership { self.new.membership ≡ self.old.membership }
         ensures period { self.new.period ≡ self.old.period }

@@ -6,7 +6,7 @@ ghost use Rattle.wire_format.specs.Views.{checkpoint_entries_data, checkpoint_en
 ghost use Rattle.protocol.specs.Replica.State.{pages_of};
 ghost use Rattle.replica_histories.specs.Views.{entries_of};
 ghost use Rattle.desk.specs.Keeping.{HaveShortPages, is_ascending};
-ghost use Rattle.desk.specs.Desking.{MayKeep, desk_above, due_entry, is_due, keeping_due, keeping_state};
+ghost use Rattle.desk.specs.Desking.{MayKeep, desk_above, due_entry, checkpoint_is_due, keeping_due, keeping_state};
 
 use crate::desk::Desk;
 use execution::Executed;
@@ -45,7 +45,7 @@ impl Desk {
 
     // Whether the executed state is to have a checkpoint: its number is a multiple of the period.
     fn is_checkpoint_due(&self) -> bool
-        ensures { result ≡ is_due self.now }
+        ensures { result ≡ checkpoint_is_due self.now }
     {
         self.executed.number().0 % u64::from(self.period) == 0
     }

@@ -4,7 +4,7 @@ ghost use Rattle.std.specs.Prelude.{◌≡◌, ◌≤◌, ◌++◌, ◌∷◌, [
 ghost use Rattle.wire_format.specs.Lists.{Each};
 ghost use Rattle.wire_format.specs.Spelling.{IsCarried, is_ordered_request};
 ghost use Rattle.wire_format.specs.Views.{texts_of};
-ghost use Rattle.desk.specs.Waiting.{IsRequest, count_unnumbered, none_waiting, lent, request_of, texts, unnumbered, unnumbered_texts, is_of, is_new, is_begun, all_numbered, renumbered, with_request, with_numbered, with_view, without, forgotten};
+ghost use Rattle.desk.specs.Waiting.{HasRequestFrame, count_unnumbered, none_waiting, lent, request_of, texts, unnumbered, unnumbered_texts, is_of, is_new, is_begun, all_numbered, renumbered, with_request, with_numbered, with_view, without_client, forgotten};
 
 use events::Stop;
 use execution::Executed;
@@ -61,7 +61,7 @@ impl Waiting {
     /// The client's request, if one waits.
     pub(crate) fn request_of(&self, client: ClientId) -> Option<&WaitingRequest>
         ensures value { lent result ≡ request_of client.number self.now }
-        ensures request { IfSome result (λ r. IsRequest r.now) }
+        ensures request { IfSome result (λ r. HasRequestFrame r.now) }
     {
         self.requests
             .iter()
@@ -140,7 +140,7 @@ impl Waiting {
 
     /// Removes the client's request, if one waits.
     pub(crate) fn remove(&mut self, client: ClientId)
-        ensures { self.new ≡ without client.number self.old }
+        ensures { self.new ≡ without_client client.number self.old }
     {
         keep_others(client, &mut self.requests);
     }

@@ -6,7 +6,7 @@ use Rattle.std.proofs.lemmas.List.Elements.{All-cons, All-tail}
 use Rattle.std.proofs.lemmas.List.Kept.{AllPairs-cons}
 use Rattle.quorum.specs.Quorum.{member}
 use Rattle.protocol.specs.System.Configuration.{Configuration, IsConfiguration, replicas}
-use Rattle.events.specs.Checking.{each_once, is_within, is_configuration}
+use Rattle.events.specs.Checking.{each_once, is_within_limit, is_configuration}
 
 -- ---- lists
 
@@ -46,7 +46,7 @@ once_of bound (x ∷ xs) a p =
 
 module _ (c : Configuration) where
   abbrev numbers : Bool
-  numbers = (is_within 3 c.faults && is_within 256 c.clients) && is_within 16 c.period
+  numbers = (is_within_limit 3 c.faults && is_within_limit 256 c.clients) && is_within_limit 16 c.period
 
   abbrev few : Bool
   few = nat_le (length c.faulty_replicas) c.faults
@@ -59,8 +59,8 @@ module _ (c : Configuration) where
       let x = and_parts ((numbers && few) && replicas_once) (each_once c.clients c.faulty_clients) e in
       let y = and_parts (numbers && few) replicas_once x.0 in
       let z = and_parts numbers few y.0 in
-      let u = and_parts (is_within 3 c.faults && is_within 256 c.clients) (is_within 16 c.period) z.0 in
-      let v = and_parts (is_within 3 c.faults) (is_within 256 c.clients) u.0 in
+      let u = and_parts (is_within_limit 3 c.faults && is_within_limit 256 c.clients) (is_within_limit 16 c.period) z.0 in
+      let v = and_parts (is_within_limit 3 c.faults) (is_within_limit 256 c.clients) u.0 in
       let faults = and_parts (nat_le 1 c.faults) (nat_le c.faults 3) v.0 in
       let clients = and_parts (nat_le 1 c.clients) (nat_le c.clients 256) v.1 in
       let period = and_parts (nat_le 1 c.period) (nat_le c.period 16) u.1 in
@@ -79,7 +79,7 @@ module _ (c : Configuration) where
         clients_differ = differ c.clients c.faulty_clients x.1;
       }
 
-  within : (most n : ℕ) → 1 ≤ n → n ≤ most → is_within most n ≡ true
+  within : (most n : ℕ) → 1 ≤ n → n ≤ most → is_within_limit most n ≡ true
   within most n a b = and_from (nat_le 1 n) (nat_le n most) (le-leb 1 n a) (le-leb n most b)
 
   pub passes : IsConfiguration c → is_configuration c ≡ true
@@ -87,8 +87,8 @@ module _ (c : Configuration) where
       and_from ((numbers && few) && replicas_once) (each_once c.clients c.faulty_clients)
       (and_from (numbers && few) replicas_once
       (and_from numbers few
-      (and_from (is_within 3 c.faults && is_within 256 c.clients) (is_within 16 c.period)
-      (and_from (is_within 3 c.faults) (is_within 256 c.clients) (within 3 c.faults v.some_faults v.most) (within 256 c.clients v.some_clients v.clients))
+      (and_from (is_within_limit 3 c.faults && is_within_limit 256 c.clients) (is_within_limit 16 c.period)
+      (and_from (is_within_limit 3 c.faults) (is_within_limit 256 c.clients) (within 3 c.faults v.some_faults v.most) (within 256 c.clients v.some_clients v.clients))
       (within 16 c.period v.period v.period_most))
       (le-leb (length c.faulty_replicas) c.faults v.few))
       (once_of (replicas c) c.faulty_replicas v.replicas_are v.replicas_differ))

@@ -10,13 +10,13 @@ abbrev pub each_once : ℕ → List ℕ → Bool
 each_once bound [] = true
 each_once bound (x ∷ xs) = (nat_lt x bound && not (member xs x)) && each_once bound xs
 
-abbrev pub is_within : ℕ → ℕ → Bool
-is_within most n = nat_le 1 n && nat_le n most
+abbrev pub is_within_limit : ℕ → ℕ → Bool
+is_within_limit most n = nat_le 1 n && nat_le n most
 
 -- the configuration is valid, except perhaps for its seed
 abbrev pub is_configuration : Configuration → Bool
 is_configuration c =
-    ((((is_within 3 c.faults && is_within MAX_CLIENTS c.clients) && is_within 16 c.period)
+    ((((is_within_limit 3 c.faults && is_within_limit MAX_CLIENTS c.clients) && is_within_limit 16 c.period)
     && nat_le (length c.faulty_replicas) c.faults)
     && each_once (replicas c) c.faulty_replicas)
     && each_once c.clients c.faulty_clients

@@ -10,8 +10,8 @@ use Rattle.protocol.specs.System.Trace.{Entry, party_of, history_of, Once, Sends
 use Rattle.protocol.specs.System.Trace.Entry.{Invoke, Got, Sent}
 use Rattle.protocol.specs.Replica.Certificates.{view, target, is_later, is_active_in, new_view_in, new_view_from, taken, checkpoint_from, low, is_in_marks, are_genuine, batch_from, batch_begun, proposal, entry_proposal, logged, commit_from, vote_in, commit_of}
 use Rattle.protocol.specs.Replica.RightReplica.{Point, MaySay, MaySend, May}
-use Rattle.protocol.specs.Laws.Histories.{Takes}
-use Rattle.evidence.specs.Certified.{Brings, ExecutesWithOwnCommit, ExecutesNotByOthersAlone, ExecutesWhatItCommits, TakesLater, TakesInOrder, LogsInMarks, LogsWhatBegins}
+use Rattle.protocol.specs.Laws.Histories.{TakesOrSendsNewView}
+use Rattle.evidence.specs.Certified.{EntryBringsBody, ExecutesWithOwnCommit, ExecutesNotByOthersAlone, ExecutesWhatItCommits, TakesLater, TakesInOrder, LogsInMarks, LogsWhatBegins}
 use Rattle.protocol.proofs.Words.Temporal.{once_weaker, once_stays_from, once_in_trace}
 use Rattle.protocol.proofs.Words.Options.{and_then_some, then_some_gives, some_injective, or_else_cases, given_once}
 use Rattle.protocol.proofs.Agreement.Voting.{right_always}
@@ -33,7 +33,7 @@ executes_not_by_others_alone c me k batch past none right =
     let votes : Once (λ past e. vote_in c me past e (commit_from me own.0 k) own.0 k ≡ Some (sha256 batch)) past =
     given_once (λ past e. vote_in c me past e (commit_from me own.0 k) own.0 k) (sha256 batch) past own.2 in
     none own.0
-    (once_weaker (λ past e. vote_in c me past e (commit_from me own.0 k) own.0 k ≡ Some (sha256 batch)) (Brings c (committing me own.0 k (sha256 batch)))
+    (once_weaker (λ past e. vote_in c me past e (commit_from me own.0 k) own.0 k ≡ Some (sha256 batch)) (EntryBringsBody c (committing me own.0 k (sha256 batch)))
     (commit_source c me me own.0 k (sha256 batch)) past votes)
 
 -- if a replica's history says a commit, the trace sends the commit
@@ -64,7 +64,7 @@ pub takes_in_order : TakesInOrder
 takes_in_order c past e earlier new before h =
     let reached : earlier.view ≤ view c past =
     once_stays_from (λ xs. earlier.view ≤ view c xs) (λ x xs l. let grows = view_grows c x xs in omega arith) past
-    (once_weaker (Takes c earlier) (λ xs x. earlier.view ≤ view c (x ∷ xs)) (λ xs x t. let is = (takes c 0 xs x earlier t).view_is in omega arith) past before) in
+    (once_weaker (TakesOrSendsNewView c earlier) (λ xs x. earlier.view ≤ view c (x ∷ xs)) (λ xs x t. let is = (takes c 0 xs x earlier t).view_is in omega arith) past before) in
     let above = (takes_later c past e new h).0 in
     omega arith
 

@@ -6,7 +6,7 @@ use Rattle.std.proofs.lemmas.Option.{slice_get_within}
 use Rattle.protocol.specs.System.Configuration.{Configuration}
 use Rattle.protocol.specs.System.Trace.{Entry, is_output, AreOutputs}
 use Rattle.protocol.specs.System.Trace.Entry.{Invoke, Got, Tick}
-use Rattle.protocol.specs.System.Schedule.{Step, World, StepsLead, AtInput, new_world, with_entry, with_frame, sealed_bytes, signed_bytes, Feeds}
+use Rattle.protocol.specs.System.Schedule.{Step, World, StepsLead, NoOutputIsNext, new_world, with_entry, with_frame, sealed_bytes, signed_bytes, Feeds}
 use Rattle.protocol.specs.System.Schedule.Step.{calls, deliver, feed, seal, sign, ticks}
 use Rattle.protocol.specs.System.Schedule.StepsLead.{ends, gives, called, delivers, gets, ticked, seals, signs, flushes, flushed}
 use Rattle.evidence.specs.Fed.{CallsAreFed, DeliveriesAreFed, BytesAreFed, TicksAreFed, SealedAreMade, SignedAreMade}
@@ -17,12 +17,12 @@ use Rattle.wire_format.specs.Lists.{Each}
 -- ---- one schedule after another
 
 -- entries may follow a faulty party's frame if they are empty or start with an input
-at_input : (entries later : List Entry) → AtInput entries → AtInput later → AtInput (entries ++ later)
+at_input : (entries later : List Entry) → NoOutputIsNext entries → NoOutputIsNext later → NoOutputIsNext (entries ++ later)
 at_input [] later h i = i
 at_input (e ∷ entries) later h i = h
 
 pub joins : (c : Configuration) (w u v : World) (steps : List Step) (entries : List Entry) → StepsLead c w steps entries u
-    → (more : List Step) (later : List Entry) → AtInput later → StepsLead c u more later v → StepsLead c w (steps ++ more) (entries ++ later) v
+    → (more : List Step) (later : List Entry) → NoOutputIsNext later → StepsLead c u more later v → StepsLead c w (steps ++ more) (entries ++ later) v
 joins c w u v _ _ ends more later i h = h
 joins c w u v _ _ (gives o g) more later i h = gives o (joins c _ u v _ _ g more later i h)
 joins c w u v _ _ (called a g) more later i h = called a (joins c _ u v _ _ g more later i h)

@@ -21,8 +21,8 @@ use Rattle.protocol.specs.Replica.Owed.{has_number, Counts, HistoryIsPrompt, IsP
 use Rattle.protocol.specs.Client.RightClient.{IsClient}
 use Rattle.protocol.specs.System.Run.{OutputFollows, IsRun}
 use Rattle.evidence.specs.Examples.{four}
-use Rattle.evidence.specs.FirstOperation.{IsFrom}
-use Rattle.evidence.specs.Fetched.{FetchFrames, AreFetchFrames, with_first, AreDifferentPages, asking, fetching_pages, FetchingIsRun, FetchedAreTaken}
+use Rattle.evidence.specs.FirstOperation.{IsFrameFrom}
+use Rattle.evidence.specs.Fetched.{FetchFrames, AreFetchFrames, with_first, AreDifferentPages, fetching_page, fetching_pages, FetchingIsRun, FetchedAreTaken}
 use Rattle.protocol.proofs.Words.Options.{some_injective}
 use Rattle.protocol.proofs.Words.Taking.{same_on_range}
 use Rattle.protocol.proofs.Words.Roots.{pages_part}
@@ -251,7 +251,7 @@ module _ (clients : ℕ) (seed : List ℕ) (page : ℕ → List ℕ) (w : FetchF
       past : List Entry
       past = Sent 0 (w.fetch_inner (n / 32)) ∷ Got 0 bytes ∷ before
 
-      asks : IsFrom c 0 (Fetch 16 levels.Inner (n / 32)) (others c 0) (w.fetch_inner (n / 32))
+      asks : IsFrameFrom c 0 (Fetch 16 levels.Inner (n / 32)) (others c 0) (w.fetch_inner (n / 32))
       asks = f.asks_inner (n / 32) low
 
       hears : heard (members c) 0 (w.below_inner (n / 32)) ≡ Some (inner_given (n / 32))
@@ -262,7 +262,7 @@ module _ (clients : ℕ) (seed : List ℕ) (page : ℕ → List ℕ) (w : FetchF
 
   -- the fetch of a page, with that of its inner part before it if it is its first
   asks : (n : ℕ) (before : List Entry) (bytes : List ℕ) → n < 1024 → AreDifferentPages page n → Ready n before bytes → ((n % 32 == 0) ≡ false → Once (Hears c 0 (inner_given (n / 32))) (Got 0 bytes ∷ before))
-      → Asks n (asking w (Got 0 bytes ∷ before) n)
+      → Asks n (fetching_page w (Got 0 bytes ∷ before) n)
   asks n before bytes small differ r got = go (n % 32 == 0) refl
     where
       hears : heard (members c) 0 (w.below_inner (n / 32)) ≡ Some (inner_given (n / 32))
@@ -437,7 +437,7 @@ input_follows (before ∷ past) bytes = λ output. absurd (let bad : false ≡ t
 pub gets_own : (past : List Entry) (bytes : List ℕ) → Always IsOwn past → Always IsOwn (Got 0 bytes ∷ past)
 gets_own past bytes own = ((refl, input_follows past bytes), own)
 
-asks_own : (w : FetchFrames) (past : List Entry) (bytes : List ℕ) (i : ℕ) → Always IsOwn past → Always IsOwn (asking w (Got 0 bytes ∷ past) i)
+asks_own : (w : FetchFrames) (past : List Entry) (bytes : List ℕ) (i : ℕ) → Always IsOwn past → Always IsOwn (fetching_page w (Got 0 bytes ∷ past) i)
 asks_own w past bytes i own = go (i % 32 == 0)
   where
     got : Always IsOwn (Got 0 bytes ∷ past)

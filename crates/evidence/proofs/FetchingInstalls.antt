@@ -21,7 +21,7 @@ use Rattle.protocol.specs.Replica.Owed.{IsDropped, StartsAhead, TransferGoesOn, 
 use Rattle.protocol.specs.Space.Linear.{reached}
 use Rattle.protocol.specs.System.Run.{IsRun}
 use Rattle.evidence.specs.Examples.{four}
-use Rattle.evidence.specs.Listed.{state_at, texts_from}
+use Rattle.evidence.specs.Listed.{state_at, texts_added}
 use Rattle.evidence.specs.Fetched.{FetchFrames, AreFetchFrames, with_first, AreDifferentPages, fetching_pages, FetchedAreInstalled}
 use Rattle.protocol.proofs.Words.Moving.{no_reason}
 use Rattle.protocol.proofs.Words.Starts.{starts_low}
@@ -164,7 +164,7 @@ module _ (clients : ℕ) (seed : List ℕ) (st : State) (w : FetchFrames) (n : �
   pub prompt : IsPromptReplica c 0 now
   prompt = (last_point, (first_point, step, (first_point, gets clients seed (root_of st) before (w.page n) ready.body ready.hears ready.given, (owes, ready.proceeds))))
 
-  pub counted : length (texts_from c now now) ≡ n + n / 32 + 1094
+  pub counted : length (texts_added c now now) ≡ n + n / 32 + 1094
   counted =
       let last = grows c now installs past 33 (unders_count (in_place c 0 16 (history_of 0 past) (state_at c now (reached past 0)))) in
       let got = got_grows c now (w.page n) (record { sender = 1; message = Page 16 n (page n) }) before 1 (f.gives_page n small).says refl in

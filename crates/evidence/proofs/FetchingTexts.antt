@@ -13,11 +13,11 @@ use Rattle.wire_format.specs.Words.{said}
 use Rattle.protocol.specs.System.Trace.{Entry, Has}
 use Rattle.protocol.specs.System.Trace.Entry.{Got, Sent}
 use Rattle.protocol.specs.Replica.State.{all_pages}
-use Rattle.protocol.specs.System.Texts.{IsText, batches_of, parts_of, first_batch, AreFirst}
+use Rattle.protocol.specs.System.Texts.{IsText, batches_of, parts_of, first_batch, AreFirstBatches}
 use Rattle.protocol.specs.System.Texts.IsText.{null, batch, part, page_of, under, installed}
 use Rattle.evidence.specs.Examples.{four}
-use Rattle.evidence.specs.Fetched.{FetchFrames, AreFetchFrames, asking, fetching_pages, FetchedAddThemselves, PagesAddThemselves}
-use Rattle.evidence.specs.Listed.{texts_at, texts_from}
+use Rattle.evidence.specs.Fetched.{FetchFrames, AreFetchFrames, fetching_page, fetching_pages, FetchedAddThemselves, PagesAddThemselves}
+use Rattle.evidence.specs.Listed.{texts_at, texts_added}
 use Rattle.protocol.proofs.Words.Options.{some_injective, or_else_alone}
 use Rattle.evidence.proofs.Listing.{first_count}
 
@@ -25,10 +25,10 @@ use Rattle.evidence.proofs.Listing.{first_count}
 
 module _ (c : Configuration) (trace : List Entry) where
   abbrev pub count : List Entry → ℕ
-  count xs = length (texts_from c trace xs)
+  count xs = length (texts_added c trace xs)
 
   pub grows : (e : Entry) (past : List Entry) (k : ℕ) → length (texts_at c trace past e) ≡ k → count (e ∷ past) ≡ k + count past
-  grows e past k is = let sum = length-append (texts_at c trace past e) (texts_from c trace past) in omega arith
+  grows e past k is = let sum = length-append (texts_at c trace past e) (texts_added c trace past) in omega arith
 
   abbrev pub number_in : Option Body → ℕ
   number_in o = length (option_map_or (λ body. batches_of body.message) o [] ++ option_map_or (λ body. parts_of body.message) o [])
@@ -53,7 +53,7 @@ module _ (clients : ℕ) (seed : List ℕ) (page : ℕ → List ℕ) (w : FetchF
   whole_body sender message = record { sender = sender; message = message }
 
   -- a page that is asked for adds nothing yet, and its inner part one text of digests
-  asked_count : (past : List Entry) (i : ℕ) → i < 1024 → (k : ℕ) → (((i % 32 == 0) ≡ true) × (k ≡ 1)) ⊎ (((i % 32 == 0) ≡ false) × (k ≡ 0)) → counted (asking w past i) ≡ k + counted past
+  asked_count : (past : List Entry) (i : ℕ) → i < 1024 → (k : ℕ) → (((i % 32 == 0) ≡ true) × (k ≡ 1)) ⊎ (((i % 32 == 0) ≡ false) × (k ≡ 0)) → counted (fetching_page w past i) ≡ k + counted past
   asked_count past i small k ways =
       go (i % 32 == 0) refl ways
     where
@@ -123,11 +123,11 @@ fetched_add_themselves clients seed page w n small differ f =
 -- ---- what a page adds to any trace
 
 module _ (c : Configuration) (p : ℕ) (bytes : List ℕ) (trace : List Entry) where
-  still_first : (k : ℕ) (batches : List (List ℕ)) → AreFirst c trace k batches → AreFirst c (Got p bytes ∷ trace) k batches
+  still_first : (k : ℕ) (batches : List (List ℕ)) → AreFirstBatches c trace k batches → AreFirstBatches c (Got p bytes ∷ trace) k batches
   still_first k [] h = tt
   still_first k (b ∷ batches) h = ((or_else_alone (first_batch c trace k) None refl) ∙ h.0, still_first (k + 1) batches h.1)
 
-  were_first : (k : ℕ) (batches : List (List ℕ)) → AreFirst c (Got p bytes ∷ trace) k batches → AreFirst c trace k batches
+  were_first : (k : ℕ) (batches : List (List ℕ)) → AreFirstBatches c (Got p bytes ∷ trace) k batches → AreFirstBatches c trace k batches
   were_first k [] h = tt
   were_first k (b ∷ batches) h = (sym (or_else_alone (first_batch c trace k) None refl) ∙ h.0, were_first (k + 1) batches h.1)
 

@@ -17,7 +17,7 @@ use Rattle.wire_format.specs.Words.{receivers_of}
 use Rattle.protocol.specs.System.Frames.{IsSealed}
 use Rattle.protocol.specs.System.Trace.{Entry, history_of}
 use Rattle.protocol.specs.System.Trace.Entry.{Invoke, Got, Sent, Accepted}
-use Rattle.protocol.specs.Client.RightClient.{OpenCall, Vote, vote_of, later_vote, latest, is_alike, is_complete, newest_vote, is_ordered_request, went_ordered, is_answered, Reaction, on_got, fallback, reaction, IsRequest, IsReaction, Reacts, IsClient}
+use Rattle.protocol.specs.Client.RightClient.{OpenCall, Vote, vote_of, later_vote, latest, is_alike, is_complete, newest_vote, is_ordered_request_of, went_ordered, is_answered, Reaction, on_got, fallback, reaction, IsRequest, IsReaction, Reacts, IsClient}
 use Rattle.protocol.specs.Client.RightClient.Reaction.{nothing, asks, accepts}
 use Rattle.evidence.specs.Examples.{four}
 use Rattle.evidence.specs.FirstOperation.{FirstFrames, AreFirstFrames, first_answer, first_trace}
@@ -55,7 +55,7 @@ module _ (clients : ℕ) (seed : List ℕ) (op : Operation) (batch : List ℕ) (
   hears r l = (x.replies r l).is_heard 256 (inl refl)
 
   goes_ordered : went_ordered asked 1 ≡ true
-  goes_ordered = ap (λ (o : Option Body). option_map_or (is_ordered_request 1) o false || false) x.asks.says
+  goes_ordered = ap (λ (o : Option Body). option_map_or (is_ordered_request_of 1) o false || false) x.asks.says
 
   -- ---- the latest replies
 

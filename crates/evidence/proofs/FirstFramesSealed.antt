@@ -21,7 +21,7 @@ use Rattle.protocol.specs.System.Configuration.{Configuration, IsConfiguration, 
 use Rattle.signing.specs.Heard.{heard}
 use Rattle.protocol.specs.System.Trace.{Has}
 use Rattle.protocol.specs.System.Schedule.{is_party, sealed_bytes}
-use Rattle.evidence.specs.FirstOperation.{IsFrom, SealedFramesAreHeard}
+use Rattle.evidence.specs.FirstOperation.{IsFrameFrom, SealedFramesAreHeard}
 use Rattle.wire_format.proofs.Saying.{reads_frames, reads_said}
 
 -- ---- the entries of an authenticator
@@ -82,7 +82,7 @@ module _ (c : Configuration) (body : Body) (receivers : List ℕ) (may : MaySeal
       opened_is_heard (members c) p sealed frame (opens p among) (λ own. may.others (subst (λ (q : ℕ). Has (λ r. r ≡ q) receivers) (sym own) among))
       (λ signed. absurd (let u = may.can.unsigned in let g : ⊥ = cc in g))
 
-  pub sealed_is_heard : IsFrom c body.sender body.message receivers sealed
+  pub sealed_is_heard : IsFrameFrom c body.sender body.message receivers sealed
   sealed_is_heard = record {
     frame = frame;
     entries = map (entry_for c.seed body.sender text) receivers;

@@ -14,11 +14,11 @@ use Rattle.protocol.specs.Client.RightClient.{OpenCall, Vote, vote_of}
 use Rattle.protocol.specs.Space.Linear.{Placing, first_position, last_executed, ordered_point, ordered_points, read_point, read_points, is_double, sorted, points}
 use Rattle.evidence.specs.Examples.{four}
 use Rattle.evidence.specs.FirstOperation.{FirstFrames, AreFirstFrames, first_answer, first_operation}
-use Rattle.evidence.specs.FirstReads.{Read, IsReadOf, called, answered, reads_trace, read_item, ReadsHaveTheirPoints}
+use Rattle.evidence.specs.FirstReads.{ReadCall, IsReadOf, entries_of_read_call, answered, reads_trace, read_item, ReadsHaveTheirPoints}
 use Rattle.evidence.proofs.FirstClient
 use Rattle.evidence.proofs.FirstPoint
 
-module _ (clients : ℕ) (seed : List ℕ) (op : Operation) (batch : List ℕ) (w : FirstFrames) (read : ℕ → Read) (setting : IsConfiguration (four clients seed))
+module _ (clients : ℕ) (seed : List ℕ) (op : Operation) (batch : List ℕ) (w : FirstFrames) (read : ℕ → ReadCall) (setting : IsConfiguration (four clients seed))
     (x : AreFirstFrames (four clients seed) op batch w) where
   abbrev c : Configuration
   c = four clients seed
@@ -28,7 +28,7 @@ module _ (clients : ℕ) (seed : List ℕ) (op : Operation) (batch : List ℕ) (
 
   -- what comes before the third read is answered
   abbrev before_3 : List Entry
-  before_3 = called 1 (read 1) ++ called 2 (read 2) ++ first_operation op batch w ++ called 3 (read 3)
+  before_3 = entries_of_read_call 1 (read 1) ++ entries_of_read_call 2 (read 2) ++ first_operation op batch w ++ entries_of_read_call 3 (read 3)
 
   abbrev call : Operation → OpenCall
   call o = record { timestamp = 1; op = o }
@@ -47,7 +47,7 @@ module _ (clients : ℕ) (seed : List ℕ) (op : Operation) (batch : List ℕ) (
 
   -- of the first operation's acceptance the call alone
   abbrev past_0 : List Entry
-  past_0 = Invoke 0 1 op ∷ reverse (called 1 (read 1) ++ called 2 (read 2))
+  past_0 = Invoke 0 1 op ∷ reverse (entries_of_read_call 1 (read 1) ++ entries_of_read_call 2 (read 2))
 
   abbrev past_3 : List Entry
   past_3 = waits 3 (reverse before_3)

@@ -19,7 +19,7 @@ use Rattle.protocol.specs.Replica.Certificates.{are_genuine}
 use Rattle.protocol.specs.Replica.State.{State, Call, Ran, call_in, call_of, opening, execute, kept_by, last_time, run_frame, run_call, ran_in, ran_by}
 use Rattle.protocol.specs.Replica.RightReplica.{Point, first_point, waiting_after, with_waiting, still_waiting, snapshots_after, executed_point, IsFor, IsAddressed, HasSeen, MaySay, MaySend, SentInEvent}
 use Rattle.evidence.specs.Examples.{four}
-use Rattle.evidence.specs.FirstOperation.{FirstFrames, IsFrom, AreFirstFrames, first_answer}
+use Rattle.evidence.specs.FirstOperation.{FirstFrames, IsFrameFrom, AreFirstFrames, first_answer}
 use Rattle.protocol.proofs.Points.Keeping.{executed_times}
 use Rattle.protocol.proofs.Words.Options.{some_injective}
 use Rattle.protocol.proofs.Words.Elements.{has_of_any}
@@ -161,7 +161,7 @@ module _ (o : Part) where
 
   -- ---- what the replica sends
 
-  pub may_send : (past : List Entry) (point : Point) (bytes : List ℕ) (message : Message) (receivers : List ℕ) → IsFrom c me message receivers bytes
+  pub may_send : (past : List Entry) (point : Point) (bytes : List ℕ) (message : Message) (receivers : List ℕ) → IsFrameFrom c me message receivers bytes
       → ((rs : List ℕ) → rs ≡ receivers → IsFor c me past message rs) → Each (λ frame. Once (HasSeen frame) past) (carried message)
       → MaySay c me past point (Sent me bytes) bytes message → (SentInEvent bytes past → ⊥) → MaySend c me past point (Sent me bytes) bytes
   may_send past point bytes message receivers f for seen say once = record {

@@ -16,7 +16,7 @@ use Rattle.protocol.specs.System.Trace.Entry.{Invoke, Got, Executed, Sent}
 use Rattle.protocol.specs.System.Schedule.{calls, flush, Made, meant_for, made_by, World, new_world, with_entry, is_delivered, next_receiver, next_pair, pending, StepsLead, Feeds}
 use Rattle.protocol.specs.System.Schedule.StepsLead.{ends, gives, called, delivers, flushes, flushed}
 use Rattle.evidence.specs.Examples.{four}
-use Rattle.evidence.specs.FirstOperation.{FirstFrames, AreFirstFrames, IsFrom, first_trace, FirstOperationIsFed}
+use Rattle.evidence.specs.FirstOperation.{FirstFrames, AreFirstFrames, IsFrameFrom, first_trace, FirstOperationIsFed}
 use Rattle.evidence.proofs.FirstScheduleMoves.{is_known, known_correct, Row, Move, moves, row, entry_of, is_row, are_known}
 use Rattle.evidence.proofs.FirstScheduleMoves.Move.{asks, sends, gets, runs, accepts}
 use Rattle.wire_format.specs.Lists.{Each}
@@ -51,7 +51,7 @@ meant : (c : Configuration) (sender : ℕ) (authenticator : Authenticator) (entr
 meant c sender (macs entries) others receivers e h = h
 meant c sender (signature s) others receivers e h = absurd cc
 
-row_made : (c : Configuration) (r : Row) → IsFrom c r.sender r.message r.receivers r.bytes
+row_made : (c : Configuration) (r : Row) → IsFrameFrom c r.sender r.message r.receivers r.bytes
     → made_by c (Sent r.sender r.bytes) ≡ record { bytes = r.bytes; receivers = r.receivers } ∷ []
 row_made c r from =
     ap (λ (rs : List ℕ). record { bytes = r.bytes; receivers = rs } ∷ [])

@@ -15,7 +15,7 @@ use Rattle.protocol.specs.System.Trace.{Entry}
 use Rattle.protocol.specs.System.Trace.Entry.{Invoke, Got, Executed, Sent, Accepted}
 use Rattle.protocol.specs.Replica.RightReplica.{others}
 use Rattle.evidence.specs.Examples.{four}
-use Rattle.evidence.specs.FirstOperation.{FirstFrames, AreFirstFrames, IsFrom, first_answer, first_trace}
+use Rattle.evidence.specs.FirstOperation.{FirstFrames, AreFirstFrames, IsFrameFrom, first_answer, first_trace}
 use Rattle.wire_format.specs.Lists.{Each}
 
 -- ---- the four replicas and client 0 take part, each of them correct
@@ -119,7 +119,7 @@ module _ (clients : ℕ) (seed : List ℕ) (op : Operation) (batch : List ℕ) (
 
   -- each frame is from its sender for its receivers, and carries what it carries
   pub record IsRow (r : Row) : Type 0 where
-    pub from : IsFrom c r.sender r.message r.receivers r.bytes
+    pub from : IsFrameFrom c r.sender r.message r.receivers r.bytes
     pub carries_are : carried r.message ≡ map (λ n. (row n).bytes) r.carries
 
   pub are_rows : AreFirstFrames c op batch w → Each IsRow rows

@@ -11,7 +11,7 @@ use Rattle.protocol.specs.System.Trace.Entry.{Got}
 use Rattle.protocol.specs.System.Schedule.{Step, Made, World, StepsLead, with_entry, is_delivered, next_receiver, next_pair, pending}
 use Rattle.protocol.specs.System.Schedule.Step.{deliver, flush}
 use Rattle.protocol.specs.System.Schedule.StepsLead.{ends, gives, delivers, flushes, flushed}
-use Rattle.evidence.specs.Fed.{IsNext, with_delivery, FlushDeliversNext, FlushDeliversNoOther, FlushEnds}
+use Rattle.evidence.specs.Fed.{IsNextDelivery, with_delivery, FlushDeliversNext, FlushDeliversNoOther, FlushEnds}
 use Rattle.protocol.proofs.Words.Options.{some_injective}
 use Rattle.protocol.proofs.Words.Elements.{some_of_has}
 
@@ -173,7 +173,7 @@ module _ (c : Configuration) (d : List (ℕ × ℕ)) where
 
 -- ---- the pending frame is the next frame
 
-pub pending_next : (c : Configuration) (w : World) (frame party : ℕ) → pending c w ≡ Some (frame, party) → (made : Made) × IsNext c w frame party made
+pub pending_next : (c : Configuration) (w : World) (frame party : ℕ) → pending c w ≡ Some (frame, party) → (made : Made) × IsNextDelivery c w frame party made
 pending_next c w frame party h =
     let f = frame_found c w.delivered 0 w.frames (frame, party) h in
     let number : frame ≡ 0 + f.1.place = f.1.number_is in
@@ -192,7 +192,7 @@ pending_next c w frame party h =
       },
     )
 
-next_pending : (c : Configuration) (w : World) (frame party : ℕ) (made : Made) → IsNext c w frame party made → pending c w ≡ Some (frame, party)
+next_pending : (c : Configuration) (w : World) (frame party : ℕ) (made : Made) → IsNextDelivery c w frame party made → pending c w ≡ Some (frame, party)
 next_pending c w frame party made h =
     let zeroth : frame ≡ 0 + frame = omega arith in
     let here : next_receiver c w.delivered frame made.receivers ≡ Some (frame, party) =
@@ -261,7 +261,7 @@ module _ (c : Configuration) (v : World) (input : Entry) (more : List Entry) (fe
 
   abbrev DeliversNext : World → Type 0
   DeliversNext w =
-      (frame : ℕ) × (party : ℕ) × (made : Made) × IsNext c w frame party made × (input ≡ Got party made.bytes) × StepsLead c (with_delivery c w frame party made.bytes) (flush ∷ []) more v
+      (frame : ℕ) × (party : ℕ) × (made : Made) × IsNextDelivery c w frame party made × (input ≡ Got party made.bytes) × StepsLead c (with_delivery c w frame party made.bytes) (flush ∷ []) more v
 
   flush_feeds : (w : World) (steps : List Step) (entries : List Entry) → StepsLead c w steps entries v → steps ≡ flush ∷ [] → entries ≡ input ∷ more → DeliversNext w
   flush_feeds w _ _ ends steps_are is = absurd cc
@@ -270,7 +270,7 @@ module _ (c : Configuration) (v : World) (input : Entry) (more : List Entry) (fe
       let x = delivery_feeds w (deliver frame party ∷ flush ∷ steps) _ frame party g (ap (λ (xs : List Step). deliver frame party ∷ flush ∷ xs) cc) is in
       let next = pending_next c w frame party p in
       let same : next.0 ≡ x.0 = some_injective next.0 x.0 (sym next.1.is_frame ∙ x.1) in
-      (frame, party, x.0, subst (λ (m : Made). IsNext c w frame party m) same next.1, x.2, x.3)
+      (frame, party, x.0, subst (λ (m : Made). IsNextDelivery c w frame party m) same next.1, x.2, x.3)
   flush_feeds w _ _ (flushed {steps = steps} j p g) steps_are is = let none : steps ≡ [] = cc in absurd (none_fed w steps _ g none is)
   flush_feeds w _ _ _ steps_are is = absurd cc
 

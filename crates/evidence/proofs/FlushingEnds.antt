@@ -6,7 +6,7 @@ use Rattle.quorum.specs.Votes.{or_else}
 use Rattle.protocol.specs.System.Configuration.{Configuration, is_correct}
 use Rattle.protocol.specs.System.Trace.{Entry}
 use Rattle.protocol.specs.System.Trace.Entry.{Got}
-use Rattle.protocol.specs.System.Schedule.{Made, World, StepsLead, AtInput, new_world, is_delivered, next_receiver, next_pair, pending}
+use Rattle.protocol.specs.System.Schedule.{Made, World, StepsLead, NoOutputIsNext, new_world, is_delivered, next_receiver, next_pair, pending}
 use Rattle.protocol.specs.System.Schedule.Step.{flush}
 use Rattle.protocol.specs.System.Schedule.StepsLead.{ends, flushed}
 use Rattle.evidence.specs.Fed.{with_delivery, IsGot, FlushesAreFed}
@@ -75,7 +75,7 @@ record Flushed (c : Configuration) (w : World) : Type 0 where
   entries : List Entry
   behind : World
   are : Each IsGot entries
-  first : AtInput entries
+  first : NoOutputIsNext entries
   goes : StepsLead c w (flush ∷ []) entries behind
 
 -- with more than the rest to spare

@@ -16,11 +16,11 @@ use Rattle.protocol.specs.Replica.Selection.{null_batch}
 use Rattle.protocol.specs.Replica.State.{State, opening, after_batches, page_text, all_pages, pages_of}
 use Rattle.protocol.specs.Replica.Transfers.{in_place}
 use Rattle.protocol.specs.Space.Linear.{reached}
-use Rattle.protocol.specs.System.Texts.{IsUnder, HasBatch, HasPart, InstallsOver, batches_of, parts_of, first_batch, AreFirst}
+use Rattle.protocol.specs.System.Texts.{IsUnder, EntryHasBatch, EntryHasPart, InstallsOver, batches_of, parts_of, first_batch, AreFirstBatches}
 use Rattle.protocol.specs.System.Texts.IsText.{null, batch, part, page_of, under, installed}
 use Rattle.protocol.specs.System.Texts.IsUnder.{inner, top}
 use Rattle.protocol.specs.Laws.Histories.{ExecutesBatch}
-use Rattle.evidence.specs.Listed.{unders, state_texts, state_at, said_texts, texts_at, texts_from, TextsAreListed, ListsAreShort}
+use Rattle.evidence.specs.Listed.{unders, state_texts, state_at, said_texts, texts_at, texts_added, TextsAreListed, ListsAreShort}
 use Rattle.protocol.proofs.Words.Elements.{has_left, has_right, has_mapped}
 use Rattle.protocol.proofs.Agreement.Firsts.{first_executes}
 
@@ -59,36 +59,36 @@ under_state st text u = has_right (λ x. x ≡ text) (pages_of st) (unders (page
 -- ---- what an entry adds stands in the list
 
 once_listed : (c : Configuration) (trace : List Entry) (P : List Entry → Entry → Type 0) (text : List ℕ) → ((past : List Entry) (e : Entry) → P past e → Has (λ x. x ≡ text) (texts_at c trace past e))
-    → (xs : List Entry) → Once P xs → Has (λ x. x ≡ text) (texts_from c trace xs)
+    → (xs : List Entry) → Once P xs → Has (λ x. x ≡ text) (texts_added c trace xs)
 once_listed c trace P text f [] h = absurd h
-once_listed c trace P text f (e ∷ past) (inl h) = has_left (λ x. x ≡ text) (texts_at c trace past e) (texts_from c trace past) (f past e h)
-once_listed c trace P text f (e ∷ past) (inr h) = has_right (λ x. x ≡ text) (texts_at c trace past e) (texts_from c trace past) (once_listed c trace P text f past h)
+once_listed c trace P text f (e ∷ past) (inl h) = has_left (λ x. x ≡ text) (texts_at c trace past e) (texts_added c trace past) (f past e h)
+once_listed c trace P text f (e ∷ past) (inr h) = has_right (λ x. x ≡ text) (texts_at c trace past e) (texts_added c trace past) (once_listed c trace P text f past h)
 
-first_listed : (c : Configuration) (trace : List Entry) (text : List ℕ) → Has (λ x. x ≡ text) (null_batch ∷ state_texts opening) → (xs : List Entry) → Has (λ x. x ≡ text) (texts_from c trace xs)
+first_listed : (c : Configuration) (trace : List Entry) (text : List ℕ) → Has (λ x. x ≡ text) (null_batch ∷ state_texts opening) → (xs : List Entry) → Has (λ x. x ≡ text) (texts_added c trace xs)
 first_listed c trace text h [] = h
-first_listed c trace text h (e ∷ past) = has_right (λ x. x ≡ text) (texts_at c trace past e) (texts_from c trace past) (first_listed c trace text h past)
+first_listed c trace text h (e ∷ past) = has_right (λ x. x ≡ text) (texts_at c trace past e) (texts_added c trace past) (first_listed c trace text h past)
 
 -- ---- the states of the batches that were executed first
 
-same_batches : (c : Configuration) (trace : List Entry) (k : ℕ) (batches : List (List ℕ)) → AreFirst c trace k batches
+same_batches : (c : Configuration) (trace : List Entry) (k : ℕ) (batches : List (List ℕ)) → AreFirstBatches c trace k batches
     → map (λ i. option_map_or (λ batch. batch) (first_batch c trace i) null_batch) (range_with_len k (length batches)) ≡ batches
 same_batches c trace k [] h = refl
 same_batches c trace k (b ∷ batches) h =
     ap₂ (λ (x : List ℕ) (xs : List (List ℕ)). x ∷ xs) (ap (λ (o : Option (List ℕ)). option_map_or (λ batch. batch) o null_batch) h.0)
     (same_batches c trace (k + 1) batches h.1)
 
-same_state : (c : Configuration) (trace : List Entry) (batches : List (List ℕ)) (k : ℕ) → AreFirst c trace 1 batches → length batches ≡ k → state_at c trace k ≡ after_batches c opening batches
+same_state : (c : Configuration) (trace : List Entry) (batches : List (List ℕ)) (k : ℕ) → AreFirstBatches c trace 1 batches → length batches ≡ k → state_at c trace k ≡ after_batches c opening batches
 same_state c trace batches k h n =
     subst (λ (m : ℕ). state_at c trace m ≡ after_batches c opening batches) n (ap (after_batches c opening) (same_batches c trace 1 batches h))
 
-last_first : (c : Configuration) (trace : List Entry) (k : ℕ) (b : List ℕ) (batches : List (List ℕ)) → AreFirst c trace k (b ∷ batches) → (x : List ℕ) × (first_batch c trace (k + length batches) ≡ Some x)
+last_first : (c : Configuration) (trace : List Entry) (k : ℕ) (b : List ℕ) (batches : List (List ℕ)) → AreFirstBatches c trace k (b ∷ batches) → (x : List ℕ) × (first_batch c trace (k + length batches) ≡ Some x)
 last_first c trace k b [] h = let e : k ≡ k + 0 = omega arith in (b, subst (λ (i : ℕ). first_batch c trace i ≡ Some b) e h.0)
 last_first c trace k b (d ∷ batches) h =
     let s = last_first c trace (k + 1) d batches h.1 in
     (s.0, subst (λ (i : ℕ). first_batch c trace i ≡ Some s.0) (omega arith) s.1)
 
-state_listed : (c : Configuration) (trace : List Entry) (batches : List (List ℕ)) (text : List ℕ) → AreFirst c trace 1 batches
-    → Has (λ x. x ≡ text) (state_texts (after_batches c opening batches)) → Has (λ x. x ≡ text) (texts_from c trace trace)
+state_listed : (c : Configuration) (trace : List Entry) (batches : List (List ℕ)) (text : List ℕ) → AreFirstBatches c trace 1 batches
+    → Has (λ x. x ≡ text) (state_texts (after_batches c opening batches)) → Has (λ x. x ≡ text) (texts_added c trace trace)
 state_listed c trace [] text h has = first_listed c trace text (inr has) trace
 state_listed c trace (b ∷ batches) text h has =
     let s = last_first c trace 1 b batches h in
@@ -104,19 +104,19 @@ state_listed c trace (b ∷ batches) text h has =
 has_said : (texts : Message → List (List ℕ)) (text bytes : List ℕ) (body : Body) → said bytes ≡ Some body → Has (λ x. x ≡ text) (texts body.message) → Has (λ x. x ≡ text) (said_texts texts bytes)
 has_said texts text bytes body says has = subst (λ (o : Option Body). Has (λ x. x ≡ text) (option_map_or (λ y. texts y.message) o [])) (sym says) has
 
-batch_here : (c : Configuration) (trace : List Entry) (text : List ℕ) (past : List Entry) (e : Entry) → HasBatch text past e → Has (λ x. x ≡ text) (texts_at c trace past e)
+batch_here : (c : Configuration) (trace : List Entry) (text : List ℕ) (past : List Entry) (e : Entry) → EntryHasBatch text past e → Has (λ x. x ≡ text) (texts_at c trace past e)
 batch_here c trace text past (Got p bytes) (body, says, has) =
     has_left (λ x. x ≡ text) (said_texts batches_of bytes) (said_texts parts_of bytes) (has_said batches_of text bytes body says has)
 batch_here c trace text past (Sent p bytes) (body, says, has) = has_said batches_of text bytes body says has
 batch_here c trace text past _ h = absurd h
 
-part_here : (c : Configuration) (trace : List Entry) (text : List ℕ) (past : List Entry) (e : Entry) → HasPart text past e → Has (λ x. x ≡ text) (texts_at c trace past e)
+part_here : (c : Configuration) (trace : List Entry) (text : List ℕ) (past : List Entry) (e : Entry) → EntryHasPart text past e → Has (λ x. x ≡ text) (texts_at c trace past e)
 part_here c trace text past (Got p bytes) (body, says, has) =
     has_right (λ x. x ≡ text) (said_texts batches_of bytes) (said_texts parts_of bytes) (has_said parts_of text bytes body says has)
 part_here c trace text past (Sent p bytes) h = absurd h
 part_here c trace text past _ h = absurd h
 
-installed_here : (c : Configuration) (trace : List Entry) (batches : List (List ℕ)) (text : List ℕ) → AreFirst c trace 1 batches → (past : List Entry) (e : Entry) → InstallsOver c batches text past e
+installed_here : (c : Configuration) (trace : List Entry) (batches : List (List ℕ)) (text : List ℕ) → AreFirstBatches c trace 1 batches → (past : List Entry) (e : Entry) → InstallsOver c batches text past e
     → Has (λ x. x ≡ text) (texts_at c trace past e)
 installed_here c trace batches text h past (Installed r k root) (correct, n, u) =
     subst (λ (st : State). Has (λ x. x ≡ text) (unders (in_place c r k (history_of r past) st))) (sym (same_state c trace batches (reached past r) h n))
@@ -126,8 +126,8 @@ installed_here c trace batches text h past _ g = absurd g
 
 pub texts_are_listed : TextsAreListed
 texts_are_listed c trace _ null = first_listed c trace null_batch (inl refl) trace
-texts_are_listed c trace text (batch _ h) = once_listed c trace (HasBatch text) text (batch_here c trace text) trace h
-texts_are_listed c trace text (part _ h) = once_listed c trace (HasPart text) text (part_here c trace text) trace h
+texts_are_listed c trace text (batch _ h) = once_listed c trace (EntryHasBatch text) text (batch_here c trace text) trace h
+texts_are_listed c trace text (part _ h) = once_listed c trace (EntryHasPart text) text (part_here c trace text) trace h
 texts_are_listed c trace _ (page_of batches i l h) =
     state_listed c trace batches (page_text (after_batches c opening batches) i) h (page_of_state (after_batches c opening batches) i l)
 texts_are_listed c trace text (under batches _ h u) = state_listed c trace batches text h (under_state (after_batches c opening batches) text u)
@@ -172,13 +172,13 @@ entry_count c trace past (Installed r k root) =
     let u = unders_count (in_place c r k (history_of r past) (state_at c trace (reached past r))) in omega arith
 entry_count c trace past _ = omega arith
 
-pub first_count : (c : Configuration) (trace : List Entry) → length (texts_from c trace []) ≡ 1058
+pub first_count : (c : Configuration) (trace : List Entry) → length (texts_added c trace []) ≡ 1058
 first_count c trace = ap suc (state_count opening)
 
-from_count : (c : Configuration) (trace xs : List Entry) → length (texts_from c trace xs) ≤ 1057 * length xs + 1058
+from_count : (c : Configuration) (trace xs : List Entry) → length (texts_added c trace xs) ≤ 1057 * length xs + 1058
 from_count c trace [] = let n = first_count c trace in omega arith
 from_count c trace (e ∷ past) =
-    let a = length-append (texts_at c trace past e) (texts_from c trace past) in
+    let a = length-append (texts_at c trace past e) (texts_added c trace past) in
     let h = entry_count c trace past e in
     let below = from_count c trace past in
     omega arith

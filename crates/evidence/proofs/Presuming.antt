@@ -15,7 +15,7 @@ use Rattle.protocol.specs.System.Trace.{Entry, party_of, is_output, history_of, 
 use Rattle.protocol.specs.System.Trace.Entry.{Invoke, Got, Tick, Executed, Installed, Sent}
 use Rattle.protocol.specs.Replica.State.{opening, page_text}
 use Rattle.protocol.specs.Replica.RightReplica.{waiting_after}
-use Rattle.protocol.specs.System.Texts.{IsUnder, InstallsOver, HasBatch, HasPart, batches_of, parts_of}
+use Rattle.protocol.specs.System.Texts.{IsUnder, InstallsOver, EntryHasBatch, EntryHasPart, batches_of, parts_of}
 use Rattle.protocol.specs.System.Texts.IsText.{null, batch, part, page_of, under, installed}
 use Rattle.protocol.specs.Laws.Histories.{ExecutesBatch}
 use Rattle.protocol.proofs.Words.Taking.{same_all}
@@ -288,12 +288,12 @@ has_part text body quiet h = go body.message quiet h
     go (Page a b d) quiet h = absurd cc
     go _ quiet h = absurd h
 
-brings_batch : (text : List ℕ) (past : List Entry) (e : Entry) → HasBatch text past e → BringsText text past e
+brings_batch : (text : List ℕ) (past : List Entry) (e : Entry) → EntryHasBatch text past e → BringsText text past e
 brings_batch text past (Got p bytes) (body, says, h) = (body, says, has_batch text body.message h)
 brings_batch text past (Sent p bytes) (body, says, h) = (body, says, has_batch text body.message h)
 brings_batch text past _ h = h
 
-brings_part : (text : List ℕ) (xs : List Entry) → Always (λ past e. is_quiet e ≡ true) xs → Once (HasPart text) xs → Once (BringsText text) xs
+brings_part : (text : List ℕ) (xs : List Entry) → Always (λ past e. is_quiet e ≡ true) xs → Once (EntryHasPart text) xs → Once (BringsText text) xs
 brings_part text [] quiet h = h
 brings_part text (e ∷ past) quiet (inr h) = inr (brings_part text past quiet.1 h)
 brings_part text (e ∷ past) quiet (inl h) = inl (go e quiet.0 h)
@@ -302,7 +302,7 @@ brings_part text (e ∷ past) quiet (inl h) = inl (go e quiet.0 h)
     no_page true h = absurd cc
     no_page false h = refl
 
-    go : (e : Entry) → is_quiet e ≡ true → HasPart text past e → BringsText text past e
+    go : (e : Entry) → is_quiet e ≡ true → EntryHasPart text past e → BringsText text past e
     go (Got p bytes) quiet (body, says, h) =
         (body, says, has_part text body (no_page (is_page body) (sym (ap (λ (o : Option Body). not (option_map_or is_page o false)) says) ∙ quiet)) h)
     go (Sent p bytes) quiet h = absurd h
@@ -310,7 +310,7 @@ brings_part text (e ∷ past) quiet (inl h) = inl (go e quiet.0 h)
 
 pub texts_are_few : TextsAreFew
 texts_are_few c trace _ quiet null = inl refl
-texts_are_few c trace text quiet (batch _ h) = inr (inr (once_weaker (HasBatch text) (BringsText text) (brings_batch text) trace h))
+texts_are_few c trace text quiet (batch _ h) = inr (inr (once_weaker (EntryHasBatch text) (BringsText text) (brings_batch text) trace h))
 texts_are_few c trace text quiet (part _ h) = inr (inr (brings_part text trace quiet h))
 texts_are_few c trace _ quiet (page_of [] i l h) = inr (inl (inl (i, refl)))
 texts_are_few c trace _ quiet (page_of (x ∷ xs) i l h) = absurd (executes_none c 1 x trace quiet (first_executes c 1 x trace h.0))

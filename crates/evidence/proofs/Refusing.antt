@@ -15,11 +15,11 @@ use Rattle.wire_format.specs.Messages.{fetch as Fetch, BodyData as Body, FrameDa
 use Rattle.signing.specs.Heard.{heard}
 use Rattle.protocol.specs.System.Trace.{Entry, Once, Always, Has, AreOutputs, Hears}
 use Rattle.protocol.specs.System.Trace.Entry.{Invoke, Got, Tick, Executed, Installed, Sent, Accepted}
-use Rattle.protocol.specs.Replica.Selection.{is_quorum, is_weak_quorum, passes_by, count_in, vouches, agrees, may_stand_at, may_be_null, null_batch, is_null, is_within, changes_of, how_many}
+use Rattle.protocol.specs.Replica.Selection.{is_quorum, is_weak_quorum, passes_by, count_in, vouches, agrees, may_stand_at, may_be_null, null_batch, is_null, is_within, changes_of, how_many_batches}
 use Rattle.protocol.specs.Replica.Certificates.{target, view, is_active_in, is_later, new_view_in, logged, low}
 use Rattle.reply_cache.specs.Replies.{Kept}
 use Rattle.protocol.specs.Replica.State.{State, Ran, opening, kept_of, page_text}
-use Rattle.protocol.specs.Replica.RightReplica.{MayNewView, IsRootWanted, MayFetch, MayMeta, MayPage, kept_states, digests_at, IsAddressed, Point, HistoryReaches, SafeReplica, May, Moves, MaySend, MayCheckpoint, MayPrepare, MayCommit, MayPrePrepare, MayReply, MayReplyRead, MayViewChange, SendsBytes, SentInEvent, reply_of, GetsPage}
+use Rattle.protocol.specs.Replica.RightReplica.{MayNewView, IsRootWanted, MayFetch, MayMeta, MayPage, kept_states, digests_at, IsAddressed, Point, HistoryReaches, SafeReplica, May, MovesPoint, MaySend, MayCheckpoint, MayPrepare, MayCommit, MayPrePrepare, MayReply, MayReplyRead, MayViewChange, SendsBytes, SentInEvent, reply_of, GetsPage}
 use Rattle.protocol.specs.Client.RightClient.{Vote, latest, is_alike, count_alike}
 use Rattle.evidence.specs.Refused.{SealsWell, SignsWell, SignsOnceByLeaf, SendsNoFrameTwice, PrePreparesAsPrimary, PrePreparesInMarks, NoPrePrepareAfterChange, CheckpointsMultiples, BeginsAsPrimary, ReadsWhatWasAsked, DigestsToWhoAsked, PagesToWhoAsked, IsReplyOf, ExecutesWhatIsCommitted, GivesKeptDigests, GivesKeptPages, GivesAskedDigests, GivesAskedPages, RepliesWhatRan, DropsUnaskedDigests, DropsUnaskedPages, ProposesAuthentic, ReadsNewest, NoChangeWhileActive, DropsReplies, DropsOwnFrames, FetchesWhatIsWanted, FetchesAbove, RepliesToItsClient, CommitsToAll, NoExecution, newest_number, SoManyHave, HasFrom, SaysNothingAgainst, SaysForIt, SaysNothing, RepliesAfterExecution, NoCommitAfterChange, NoPrepareAfterChange, NoEarlyCheckpoint, OnePrePrepare, NoPrepareByPrimary, ExecutesNext, KeepsPrepared, InstallsWhatItHas, InstallsWithHeader, TakesWellSelected, TakesNoLower, AcceptsAtQuorum}
 use Rattle.wire_format.specs.Words.{requests_of, frame_of, said}
@@ -59,7 +59,7 @@ untouched : (c : Configuration) (me : ℕ) (xs : List Entry) (point : Point) →
 untouched c me [] point h a = record { state = ap (λ (p : Point). p.state) h; ran = ap (λ (p : Point). p.ran) h }
 untouched c me (e ∷ past) point h a = go e h.2.may h.2.moves a.0 (untouched c me past h.0 h.1 a.1)
   where
-    go : (e : Entry) → May c me past h.0 e → Moves c me past h.0 e point → NoExecution past e → Untouched h.0 → Untouched point
+    go : (e : Entry) → May c me past h.0 e → MovesPoint c me past h.0 e point → NoExecution past e → Untouched h.0 → Untouched point
     go (Got p bytes) may move n was = record { state = ap (λ (q : Point). q.state) move ∙ was.state; ran = ap (λ (q : Point). q.ran) move }
     go (Tick p) may move n was = record { state = ap (λ (q : Point). q.state) move ∙ was.state; ran = ap (λ (q : Point). q.ran) move }
     go (Sent p bytes) may move n was = record { state = ap (λ (q : Point). q.state) move ∙ was.state; ran = ap (λ (q : Point). q.ran) move ∙ was.ran }
@@ -138,7 +138,7 @@ pub newest_state : (c : Configuration) (me : ℕ) (xs : List Entry) (point : Poi
 newest_state c me [] point h = ap (λ (p : Point). p.state.number) h
 newest_state c me (e ∷ past) point h = go e h.2.may h.2.moves (newest_state c me past h.0 h.1)
   where
-    go : (e : Entry) → May c me past h.0 e → Moves c me past h.0 e point → h.0.state.number ≡ newest_number past → point.state.number ≡ newest_number (e ∷ past)
+    go : (e : Entry) → May c me past h.0 e → MovesPoint c me past h.0 e point → h.0.state.number ≡ newest_number past → point.state.number ≡ newest_number (e ∷ past)
     go (Invoke x y z) may move was = absurd may
     go (Accepted x y z) may move was = absurd may
     go (Executed p k batch) may move was = ap (λ (q : Point). q.state.number) move ∙ executed_number c h.0.state batch ∙ sym may.next
@@ -489,7 +489,7 @@ takes_well_selected c past e new h = record {
       let t = every_has (λ (x : ℕ × ViewChangeData). (x.1.view == new.view) && is_within c x.1) (changes_of c new) (who, vc) s.each has in
       eqb-true vc.view new.view (and_parts (vc.view == new.view) (is_within c vc) t).0;
   filled = λ who vc batch_entry has prepared within.
-      let n = eqb-true (length new.batches) (how_many c new) s.long in
+      let n = eqb-true (length new.batches) (how_many_batches c new) s.long in
       let r = largest_of-has (new.start + span c) batch_entry.number who (changes_of c new) vc has (has_number vc batch_entry prepared) within in
       omega arith;
   vouched = vouched;

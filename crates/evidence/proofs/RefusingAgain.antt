@@ -7,7 +7,7 @@ use Rattle.protocol.specs.System.Configuration.{Configuration, IsConfiguration}
 use Rattle.protocol.specs.System.Trace.{Entry, Always, Has}
 use Rattle.protocol.specs.System.Trace.Entry.{Invoke, Executed, Installed, Accepted}
 use Rattle.protocol.specs.Replica.State.{State, Call, Ran, call_of, runs, run_call, ran_call, kept_by, run_frame, ran_by, ran_in, execute, last_time}
-use Rattle.protocol.specs.Replica.RightReplica.{Point, HistoryReaches, May, Moves}
+use Rattle.protocol.specs.Replica.RightReplica.{Point, HistoryReaches, May, MovesPoint}
 use Rattle.evidence.specs.Refused.{RunsOnce, NoInstallation}
 use Rattle.protocol.proofs.Points.Keeping.{Full, opening_full, time_here, time_grows, call_small, frames_full, executed_full, executed_times}
 
@@ -68,7 +68,7 @@ module _ (c : Configuration) (setting : IsConfiguration c) where
   leaves_full me [] point h = subst (λ (p : Point). Full p.state) (sym h) opening_full
   leaves_full me (e ∷ past) point h = go e h.2.may h.2.moves (leaves_full me past h.0 h.1)
     where
-      go : (e : Entry) → May c me past h.0 e → Moves c me past h.0 e point → Full h.0.state → Full point.state
+      go : (e : Entry) → May c me past h.0 e → MovesPoint c me past h.0 e point → Full h.0.state → Full point.state
       go (Executed p k batch) may move full = subst (λ (q : Point). Full q.state) (sym move) (executed_full c h.0.state batch full)
       go (Installed p k root) may move full = move.is_state.replies.all
       go (Invoke x y z) may move full = absurd may
@@ -80,7 +80,7 @@ module _ (c : Configuration) (setting : IsConfiguration c) where
   time_stays me [] rest t cl none start point h = start point h
   time_stays me (e ∷ between) rest t cl none start point h = go e h.2.may h.2.moves none.0 (time_stays me between rest t cl none.1 start h.0 h.1)
     where
-      go : (e : Entry) → May c me (between ++ rest) h.0 e → Moves c me (between ++ rest) h.0 e point → NoInstallation between e → t ≤ last_time h.0.state cl → t ≤ last_time point.state cl
+      go : (e : Entry) → May c me (between ++ rest) h.0 e → MovesPoint c me (between ++ rest) h.0 e point → NoInstallation between e → t ≤ last_time h.0.state cl → t ≤ last_time point.state cl
       go (Executed p k batch) may move n was =
           let grows = executed_grows h.0.state batch cl (leaves_full me (between ++ rest) h.0 h.1) in
           subst (λ (q : Point). t ≤ last_time q.state cl) (sym move) (omega arith)

@@ -20,7 +20,7 @@ use Rattle.reply_cache.specs.Replies.{Kept}
 use Rattle.protocol.specs.Replica.State.{State, Call, last_time}
 use Rattle.protocol.specs.Replica.RightReplica.{Point, HistoryReaches, kept_states, IsRootWanted}
 use Rattle.protocol.specs.Replica.Owed.{Owes, Counts, IsReplica, IsNoOlder, has_number}
-use Rattle.evidence.specs.RefusedChanges.{Answers, GotChange, IsNoRoot, DropsWrites, DropsRequestsOfReplicas, DropsOldRequests, DropsPassedRequests, DropsPrePreparesOfBackups, DropsPrePreparesWhileInactive, DropsPrePreparesOutsideMarks, DropsSecondPrePrepares, DropsPreparesOfPrimaries, DropsPreparesWhileInactive, DropsSecondPrepares, DropsCommitsWhileInactive, DropsSecondCommits, DropsLowCheckpoints, DropsCheckpointsOfNoNumber, DropsSecondCheckpoints, DropsPassedCheckpoints, DropsLowChanges, DropsUnboundChanges, DropsPassedChanges, DropsNewViews, DropsFetches, DropsLowDigests, DropsLowPages, DropsOtherRoots, DropsOtherDigests, DropsOtherPages}
+use Rattle.evidence.specs.RefusedChanges.{FrameAnswersInput, GotChange, IsNoRoot, DropsWrites, DropsRequestsOfReplicas, DropsOldRequests, DropsPassedRequests, DropsPrePreparesOfBackups, DropsPrePreparesWhileInactive, DropsPrePreparesOutsideMarks, DropsSecondPrePrepares, DropsPreparesOfPrimaries, DropsPreparesWhileInactive, DropsSecondPrepares, DropsCommitsWhileInactive, DropsSecondCommits, DropsLowCheckpoints, DropsCheckpointsOfNoNumber, DropsSecondCheckpoints, DropsPassedCheckpoints, DropsLowChanges, DropsUnboundChanges, DropsPassedChanges, DropsNewViews, DropsFetches, DropsLowDigests, DropsLowPages, DropsOtherRoots, DropsOtherDigests, DropsOtherPages}
 use Rattle.protocol.proofs.Words.Temporal.{once_weaker, once_stays_from}
 use Rattle.protocol.proofs.Words.Options.{then_some_gives, some_injective}
 use Rattle.protocol.proofs.Agreement.Marks.{view_grows}
@@ -42,7 +42,7 @@ event : (c : Configuration) (me : ℕ) (bytes later : List ℕ) (past : List Ent
 event c me bytes later past (inl h) = record { old = _; before = proceeds_leaves c me past [] _ _ h.1.2.2.1; new = _; now = _; owes = h.1.2.2.0 }
 event c me bytes later past (inr h) = absurd h.1
 
-answered : (c : Configuration) (me s : ℕ) (message : Message) (bytes : List ℕ) (past : List Entry) (a : Answers c me s message bytes past)
+answered : (c : Configuration) (me s : ℕ) (message : Message) (bytes : List ℕ) (past : List Entry) (a : FrameAnswersInput c me s message bytes past)
     → ((point : Point) → HistoryReaches c me past point → Counts c me past point bytes s message → ⊥) → ⊥
 answered c me s message bytes past a never =
     let e = event c me bytes a.later past a.is_replica in

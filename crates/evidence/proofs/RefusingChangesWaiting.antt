@@ -11,7 +11,7 @@ use Rattle.signing.specs.Heard.{heard}
 use Rattle.protocol.specs.System.Trace.{Entry, Has}
 use Rattle.protocol.specs.System.Trace.Entry.{Invoke, Got, Tick, Executed, Installed, Sent, Accepted}
 use Rattle.protocol.specs.Replica.State.{State, Call, call_in, execute, last_time}
-use Rattle.protocol.specs.Replica.RightReplica.{Point, May, Moves, is_newer, with_waiting, waiting_after, still_waiting}
+use Rattle.protocol.specs.Replica.RightReplica.{Point, May, MovesPoint, is_newer, with_waiting, waiting_after, still_waiting}
 use Rattle.evidence.specs.RefusedChanges.{is_other, WaitsOnceGot, WaitsOverFrames, WaitsUntilRun, WaitsNoLonger}
 use Rattle.protocol.proofs.Words.Elements.{every_has, each_with, has_left, has_right, has_weaker}
 use Rattle.wire_format.specs.Lists.{Each}
@@ -124,7 +124,7 @@ still : (st : State) (waiting : List Call) (call : Call) → last_time st call.c
 still st waiting call above h = has_filtered (λ (x : Call). nat_lt (last_time st x.client) x.timestamp) waiting call (lt-ltb (last_time st call.client) call.timestamp above) h
 
 -- the waiting requests after an entry other than a received frame
-waiting_behind : (c : Configuration) (me : ℕ) (past : List Entry) (old : Point) (e : Entry) (new : Point) → is_other e ≡ true → May c me past old e → Moves c me past old e new
+waiting_behind : (c : Configuration) (me : ℕ) (past : List Entry) (old : Point) (e : Entry) (new : Point) → is_other e ≡ true → May c me past old e → MovesPoint c me past old e new
     → (new.waiting ≡ old.waiting) ⊎ (new.waiting ≡ still_waiting new.state old.waiting)
 waiting_behind c me past old (Got p bytes) new is may move = absurd cc
 waiting_behind c me past old (Tick p) new is may move = inl (ap (λ (q : Point). q.waiting) move)
@@ -167,7 +167,7 @@ waits_no_longer c me (e ∷ past) point leaves = go e leaves.2.may leaves.2.move
     got None h = h
     got (Some call) h = with_new leaves.0.state leaves.0.waiting call h
 
-    go : (e : Entry) → May c me past leaves.0 e → Moves c me past leaves.0 e point → AllNew leaves.0.state leaves.0.waiting → AllNew point.state point.waiting
+    go : (e : Entry) → May c me past leaves.0 e → MovesPoint c me past leaves.0 e point → AllNew leaves.0.state leaves.0.waiting → AllNew point.state point.waiting
     go (Got p bytes) may move was = subst (λ (q : Point). AllNew q.state q.waiting) (sym move) (got (option_and_then (call_in c) (heard (members c) me bytes)) was)
     go (Tick p) may move was = subst (λ (q : Point). AllNew q.state q.waiting) (sym move) was
     go (Sent p bytes) may move was = subst (λ (q : Point). AllNew q.state q.waiting) (sym move) was

@@ -8,7 +8,7 @@ use Rattle.wire_format.specs.Words.{said}
 use Rattle.protocol.specs.System.Configuration.{Configuration}
 use Rattle.protocol.specs.System.Trace.{Entry}
 use Rattle.protocol.specs.System.Trace.Entry.{Got, Sent}
-use Rattle.protocol.specs.Replica.Transfers.{fetch_sent, place_from, NoneAsked, IsNext, in_place}
+use Rattle.protocol.specs.Replica.Transfers.{fetch_sent, place_from, NoneAsked, IsNextPart, in_place}
 use Rattle.protocol.specs.Replica.RightReplica.{MayFetch, SafeReplica, IsAskedAgain}
 use Rattle.evidence.specs.Refused.{FetchesNewest, FetchesOnce, FetchesWhatIsTold, FetchesWhatDiffers}
 use Rattle.evidence.proofs.RefusingRuns.{says_may}
@@ -33,30 +33,30 @@ asked_here me n other above earlier past sent none =
 pub fetches_once : FetchesOnce
 fetches_once c me k n index other level above bytes earlier past says below sent right = go (may_fetch c me k index level bytes (Sent me earlier ∷ past) says right).next
   where
-    first : (root : List ℕ) (l : Level) → l ≢ levels.Root → IsNext c me (Sent me earlier ∷ past) (in_place c me k (Sent me earlier ∷ past) right.1.0.state) k root l index → ⊥
+    first : (root : List ℕ) (l : Level) → l ≢ levels.Root → IsNextPart c me (Sent me earlier ∷ past) (in_place c me k (Sent me earlier ∷ past) right.1.0.state) k root l index → ⊥
     first root levels.Root other_level h = other_level refl
     first root levels.Inner other_level h = asked_here me n other above earlier past sent h.0
     first root levels.Page other_level h = asked_here me n other above earlier past sent h.0
 
-    go : IsNext c me (Sent me earlier ∷ past) (in_place c me k (Sent me earlier ∷ past) right.1.0.state) k (may_fetch c me k index level bytes (Sent me earlier ∷ past) says right).root level index ⊎ IsAskedAgain (Sent me earlier ∷ past) k level index → ⊥
+    go : IsNextPart c me (Sent me earlier ∷ past) (in_place c me k (Sent me earlier ∷ past) right.1.0.state) k (may_fetch c me k index level bytes (Sent me earlier ∷ past) says right).root level index ⊎ IsAskedAgain (Sent me earlier ∷ past) k level index → ⊥
     go (inl h) = first (may_fetch c me k index level bytes (Sent me earlier ∷ past) says right).root level below h
     go (inr again) = asked_here me n other above earlier past sent again.1
 
 pub fetches_what_is_told : FetchesWhatIsTold
 fetches_what_is_told c me k index level bytes frame past says below none right = go (may_fetch c me k index level bytes (Got me frame ∷ past) says right).next
   where
-    first : (root : List ℕ) (l : Level) → l ≢ levels.Root → IsNext c me (Got me frame ∷ past) (in_place c me k (Got me frame ∷ past) right.1.0.state) k root l index → ⊥
+    first : (root : List ℕ) (l : Level) → l ≢ levels.Root → IsNextPart c me (Got me frame ∷ past) (in_place c me k (Got me frame ∷ past) right.1.0.state) k root l index → ⊥
     first root levels.Root other_level h = other_level refl
     first root levels.Inner other_level h = none h.1.got.1.0 h.1.got.1.1 h.1.digests h.1.got.1.2
     first root levels.Page other_level h = none h.1.got.1.0 h.1.got.1.1 h.1.digests h.1.got.1.2
 
-    go : IsNext c me (Got me frame ∷ past) (in_place c me k (Got me frame ∷ past) right.1.0.state) k (may_fetch c me k index level bytes (Got me frame ∷ past) says right).root level index ⊎ IsAskedAgain (Got me frame ∷ past) k level index → ⊥
+    go : IsNextPart c me (Got me frame ∷ past) (in_place c me k (Got me frame ∷ past) right.1.0.state) k (may_fetch c me k index level bytes (Got me frame ∷ past) says right).root level index ⊎ IsAskedAgain (Got me frame ∷ past) k level index → ⊥
     go (inl h) = first (may_fetch c me k index level bytes (Got me frame ∷ past) says right).root level below h
     go (inr again) = absurd again.2
 
 pub fetches_what_differs : FetchesWhatDiffers
 fetches_what_differs c me k j bytes frame past says agrees right = go (may_fetch c me k j levels.Inner bytes (Got me frame ∷ past) says right).next
   where
-    go : IsNext c me (Got me frame ∷ past) (in_place c me k (Got me frame ∷ past) right.1.0.state) k (may_fetch c me k j levels.Inner bytes (Got me frame ∷ past) says right).root levels.Inner j ⊎ IsAskedAgain (Got me frame ∷ past) k levels.Inner j → ⊥
+    go : IsNextPart c me (Got me frame ∷ past) (in_place c me k (Got me frame ∷ past) right.1.0.state) k (may_fetch c me k j levels.Inner bytes (Got me frame ∷ past) says right).root levels.Inner j ⊎ IsAskedAgain (Got me frame ∷ past) k levels.Inner j → ⊥
     go (inl h) = h.1.first.differs (agrees h.1.got.1.0 h.1.got.1.1 h.1.digests h.1.first.digest h.1.got.1.2 h.1.first.wants right.1.0 right.1.1)
     go (inr again) = absurd again.2

@@ -8,8 +8,8 @@ use Rattle.protocol.specs.System.Configuration.{Configuration, members}
 use Rattle.signing.specs.Heard.{heard}
 use Rattle.protocol.specs.System.Trace.{Entry, Once, Always, Has, frames_in}
 use Rattle.protocol.specs.System.Trace.Entry.{Invoke, Got, Accepted}
-use Rattle.protocol.specs.Space.Linear.{Item, item_outcome, item_after, LegalFrom, Invokes, Accepts, Asks, NoneTwice, NeverFall}
-use Rattle.evidence.specs.RefusedItems.{left_by, AnswersAsOneSpace, ListsWhatIsAccepted, ListsWhatIsCalled, IsAskedAt, ListsWhatIsAsked, ListsNoneTwice, PlacesInOrder, PlacesBehindCalls, PlacesBeforeAcceptances, LinearIsAllThree}
+use Rattle.protocol.specs.Space.Linear.{Item, item_outcome, item_after, LegalFrom, Invokes, Accepts, EntryAsks, NoneTwice, NeverFall}
+use Rattle.evidence.specs.RefusedItems.{tuples_left_by, AnswersAsOneSpace, ListsWhatIsAccepted, ListsWhatIsCalled, IsAskedAt, ListsWhatIsAsked, ListsNoneTwice, PlacesInOrder, PlacesBehindCalls, PlacesBeforeAcceptances, LinearIsAllThree}
 use Rattle.protocol.proofs.Words.Temporal.{once_weaker}
 use Rattle.protocol.proofs.Words.Elements.{has_some, has_weaker}
 
@@ -29,7 +29,7 @@ always_at P (x ∷ later) past e h = always_at P later past e h.1
 
 -- ---- legal
 
-answers : (ts : Contents) (before after : List Item) (item : Item) → LegalFrom ts (before ++ item ∷ after) → item.answer ≡ item_outcome (left_by ts before) item
+answers : (ts : Contents) (before after : List Item) (item : Item) → LegalFrom ts (before ++ item ∷ after) → item.answer ≡ item_outcome (tuples_left_by ts before) item
 answers ts [] after item h = h.0
 answers ts (x ∷ before) after item h = answers (item_after ts x) before after item h.1
 
@@ -66,7 +66,7 @@ pub lists_what_is_called : ListsWhatIsCalled
 lists_what_is_called c items trace item client covers has is correct =
     called client item.timestamp item.op trace (subst (λ (p : ℕ). Once (Invokes p item.timestamp item.op) trace) is (covers.invoked item has correct))
 
-is_asked : (c : Configuration) (item : Item) (past : List Entry) (e : Entry) → Asks c item.client item.timestamp item.op past e → IsAskedAt c item e
+is_asked : (c : Configuration) (item : Item) (past : List Entry) (e : Entry) → EntryAsks c item.client item.timestamp item.op past e → IsAskedAt c item e
 is_asked c item past (Got p bytes) h =
     let r = has_some (λ (frame : List ℕ). heard (members c) p frame ≡ Some (record { sender = item.client; message = Request item.timestamp modes.Ordered item.op })) (frames_in bytes) h.1 in
     (p, bytes, r.0, refl, h.0, r.1, r.2)
@@ -75,7 +75,7 @@ is_asked c item past _ h = absurd h
 
 pub lists_what_is_asked : ListsWhatIsAsked
 lists_what_is_asked c items trace item covers has faulty =
-    once_weaker (λ past e. Asks c item.client item.timestamp item.op past e × (length past ≤ item.position)) (λ past e. IsAskedAt c item e × (length past ≤ item.position))
+    once_weaker (λ past e. EntryAsks c item.client item.timestamp item.op past e × (length past ≤ item.position)) (λ past e. IsAskedAt c item e × (length past ≤ item.position))
     (λ past e h. (is_asked c item past e h.0, h.1)) trace (covers.asked item has faulty)
 
 none_twice : (i j : ℕ) (items : List Item) (x y : Item) → NoneTwice items → i < j → slice_get items i ≡ Some x → slice_get items j ≡ Some y → x.client ≡ y.client → x.timestamp ≡ y.timestamp → ⊥

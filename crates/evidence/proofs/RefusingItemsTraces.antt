@@ -11,7 +11,7 @@ use Rattle.space.proofs.Keeping.{read_same}
 use Rattle.protocol.specs.System.Configuration.{Configuration, is_correct_client}
 use Rattle.protocol.specs.System.Trace.{Entry, Once, Has}
 use Rattle.protocol.specs.System.Trace.Entry.{Invoke, Accepted}
-use Rattle.protocol.specs.Space.Linear.{Item, item_after, LegalFrom, Invokes, Asks, NoneTwice, NeverFall, IsLinear}
+use Rattle.protocol.specs.Space.Linear.{Item, item_after, LegalFrom, Invokes, EntryAsks, NoneTwice, NeverFall, IsLinear}
 use Rattle.evidence.specs.RefusedItems.{WritesAreSeen, ReadsAreNotEarly}
 use Rattle.evidence.proofs.RefusingItems.{behind, lowest}
 use Rattle.protocol.proofs.Words.Elements.{has_weaker}
@@ -90,7 +90,7 @@ module _ (c : Configuration) (writer reader : ℕ) (t : TupleTree) (p : Template
           by (inr (inr (inr (inr h)))) = absurd h
       go false wrong = by (linear.covers.asked x has wrong)
         where
-          by : Once (λ past e. Asks c x.client x.timestamp x.op past e × (length past ≤ x.position)) late → Early x ⊎ Late x
+          by : Once (λ past e. EntryAsks c x.client x.timestamp x.op past e × (length past ≤ x.position)) late → Early x ⊎ Late x
           by (inl h) = absurd h.0
           by (inr (inl h)) = absurd h.0
           by (inr (inr (inl h))) = absurd h.0
@@ -267,7 +267,7 @@ module _ (c : Configuration) (writer reader : ℕ) (t : TupleTree) (p : Template
               by (inr (inr (inr (inr h)))) = absurd h
           go false wrong = by (linear.covers.asked x has wrong)
             where
-              by : Once (λ past e. Asks c x.client x.timestamp x.op past e × (length past ≤ x.position)) early → Writes x ⊎ Reads x
+              by : Once (λ past e. EntryAsks c x.client x.timestamp x.op past e × (length past ≤ x.position)) early → Writes x ⊎ Reads x
               by (inl h) = absurd h.0
               by (inr (inl h)) = absurd h.0
               by (inr (inr (inl h))) = absurd h.0

@@ -9,9 +9,9 @@ use Rattle.protocol.specs.System.Trace.{Entry, Has}
 use Rattle.protocol.specs.System.Trace.Entry.{Invoke, Got, Tick, Executed, Installed, Sent, Accepted}
 use Rattle.protocol.specs.Replica.Certificates.{low}
 use Rattle.protocol.specs.Replica.State.{State, opening, execute, page_text}
-use Rattle.protocol.specs.Replica.RightReplica.{MayMeta, MayPage, IsNewViewChange, kept_states, checkpoint_of, digests_at, Point, HistoryReaches, May, Moves, Executes}
+use Rattle.protocol.specs.Replica.RightReplica.{MayMeta, MayPage, IsNewViewChange, kept_states, checkpoint_of, digests_at, Point, HistoryReaches, May, MovesPoint, Executes}
 use Rattle.evidence.specs.RefusedChanges.{SendsNewChange}
-use Rattle.evidence.specs.RefusedKept.{GivesNoLowDigests, GivesNoLowPages, Installs, HasSnapshot, ChangesFromLowMark, ListsNoneBelow, ListsSnapshots, ListsEachSnapshot, CheckpointsAscend}
+use Rattle.evidence.specs.RefusedKept.{GivesNoLowDigests, GivesNoLowPages, InstallsStateOf, HasSnapshot, ChangesFromLowMark, ListsNoneBelow, ListsSnapshots, ListsEachSnapshot, CheckpointsAscend}
 use Rattle.evidence.proofs.RefusingChanges.{new_change}
 use Rattle.evidence.proofs.RefusingRuns.{says_may}
 use Rattle.protocol.proofs.Words.Elements.{has_some, each_filtered, each_has, each_mapped, each_turned, each_weaker, has_filtered, has_mapped}
@@ -34,7 +34,7 @@ later c k e past (inl h) = inl h
 later c k e past (inr (inl h)) = inr (inl (h.0, inr h.1))
 later c k e past (inr (inr h)) = inr (inr (inr h))
 
-earlier : (c : Configuration) (k : ℕ) (e : Entry) (past : List Entry) → (Executes k past e → ⊥) → (Installs k past e → ⊥) → HasSnapshot c k (e ∷ past) → HasSnapshot c k past
+earlier : (c : Configuration) (k : ℕ) (e : Entry) (past : List Entry) → (Executes k past e → ⊥) → (InstallsStateOf k past e → ⊥) → HasSnapshot c k (e ∷ past) → HasSnapshot c k past
 earlier c k e past x y (inl h) = inl h
 earlier c k e past x y (inr (inl (m, inl h))) = absurd (x h)
 earlier c k e past x y (inr (inl (m, inr h))) = inr (inl (m, h))
@@ -49,7 +49,7 @@ each_snapshot c me (e ∷ past) point h =
     kept : (e : Entry) (ss : List State) → point.snapshots ≡ ss → Each (λ (st : State). HasSnapshot c st.number (e ∷ past)) ss → Each (λ (st : State). HasSnapshot c st.number (e ∷ past)) point.snapshots
     kept e ss is each = subst (λ (xs : List State). Each (λ (st : State). HasSnapshot c st.number (e ∷ past)) xs) (sym is) each
 
-    go : (e : Entry) → May c me past h.0 e → Moves c me past h.0 e point → Each (λ (st : State). HasSnapshot c st.number (e ∷ past)) h.0.snapshots → Each (λ (st : State). HasSnapshot c st.number (e ∷ past)) point.snapshots
+    go : (e : Entry) → May c me past h.0 e → MovesPoint c me past h.0 e point → Each (λ (st : State). HasSnapshot c st.number (e ∷ past)) h.0.snapshots → Each (λ (st : State). HasSnapshot c st.number (e ∷ past)) point.snapshots
     go (Got p bytes) may move was = kept (Got p bytes) h.0.snapshots (ap (λ (q : Point). q.snapshots) move) was
     go (Tick p) may move was = kept (Tick p) h.0.snapshots (ap (λ (q : Point). q.snapshots) move) was
     go (Sent p bytes) may move was = kept (Sent p bytes) h.0.snapshots (ap (λ (q : Point). q.snapshots) move) was
@@ -78,7 +78,7 @@ has_snapshot c me k (e ∷ past) point h is = go e h.2.may h.2.moves is (has_sna
     kept : (ss : List State) → point.snapshots ≡ ss → Has (λ (st : State). st.number ≡ k) ss → Has (λ (st : State). st.number ≡ k) point.snapshots
     kept ss is has = subst (λ (xs : List State). Has (λ (st : State). st.number ≡ k) xs) (sym is) has
 
-    go : (e : Entry) → May c me past h.0 e → Moves c me past h.0 e point → HasSnapshot c k (e ∷ past) → (HasSnapshot c k past → Has (λ (st : State). st.number ≡ k) h.0.snapshots)
+    go : (e : Entry) → May c me past h.0 e → MovesPoint c me past h.0 e point → HasSnapshot c k (e ∷ past) → (HasSnapshot c k past → Has (λ (st : State). st.number ≡ k) h.0.snapshots)
         → Has (λ (st : State). st.number ≡ k) point.snapshots
     go (Got p bytes) may move is was = kept h.0.snapshots (ap (λ (q : Point). q.snapshots) move) (was (earlier c k (Got p bytes) past (λ x. x) (λ x. x) is))
     go (Tick p) may move is was = kept h.0.snapshots (ap (λ (q : Point). q.snapshots) move) (was (earlier c k (Tick p) past (λ x. x) (λ x. x) is))
@@ -139,7 +139,7 @@ snapshots_fall : (c : Configuration) (me : ℕ) (xs : List Entry) (point : Point
 snapshots_fall c me [] point h = subst (λ (p : Point). Falls (suc p.state.number) p.snapshots) (sym h) (omega arith, tt)
 snapshots_fall c me (e ∷ past) point h = go e h.2.may h.2.moves (snapshots_fall c me past h.0 h.1)
   where
-    go : (e : Entry) → May c me past h.0 e → Moves c me past h.0 e point → Falls (suc h.0.state.number) h.0.snapshots → Falls (suc point.state.number) point.snapshots
+    go : (e : Entry) → May c me past h.0 e → MovesPoint c me past h.0 e point → Falls (suc h.0.state.number) h.0.snapshots → Falls (suc point.state.number) point.snapshots
     go (Invoke x y z) may move was = absurd may
     go (Accepted x y z) may move was = absurd may
     go (Installed p k root) may move was =

@@ -15,7 +15,7 @@ use Rattle.protocol.specs.Replica.RightReplica.{SentBefore}
 use Rattle.protocol.specs.Replica.Owed.{IsSaying, AreKeysSpent, BringsChange, HasLatestChange, CanBeginView}
 use Rattle.evidence.specs.Examples.{four}
 use Rattle.evidence.specs.ExamplesOfChanges.{beginning_change, beginning_view, ChangesInBeginning}
-use Rattle.evidence.specs.Refused.{GoesOn}
+use Rattle.evidence.specs.Refused.{ReplicaGoesOn}
 use Rattle.evidence.specs.RefusedNewViews.{CameLast, SentLast, SendsNewViews, BeginsItsView}
 use Rattle.protocol.proofs.Words.Elements.{each_weaker}
 use Rattle.protocol.proofs.Words.Options.{some_injective}
@@ -23,7 +23,7 @@ use Rattle.protocol.proofs.Words.Temporal.{once_weaker}
 use Rattle.evidence.proofs.RefusingOwed.{event_of}
 use Rattle.evidence.proofs.JoiningChanges as joining
 
-none_left : (c : Configuration) (me : ℕ) (new : NewViewData) (input : Entry) (outputs past : List Entry) → CanBeginView c me (outputs ++ input ∷ past) new → GoesOn c me outputs input past
+none_left : (c : Configuration) (me : ℕ) (new : NewViewData) (input : Entry) (outputs past : List Entry) → CanBeginView c me (outputs ++ input ∷ past) new → ReplicaGoesOn c me outputs input past
     → AreKeysSpent (outputs ++ input ∷ past)
 none_left c me new input outputs past can goes = (event_of c me outputs input past goes).owes.new_views new can
 

@@ -9,7 +9,7 @@ use Rattle.protocol.specs.System.Trace.{Entry, is_output, Has, either, AreOutput
 use Rattle.protocol.specs.System.Trace.Entry.{Invoke, Got, Tick, Executed, Installed, Sent, Accepted}
 use Rattle.protocol.specs.Replica.Certificates.{logged}
 use Rattle.protocol.specs.Replica.State.{Ran, ran_in}
-use Rattle.protocol.specs.Replica.RightReplica.{Point, HistoryReaches, SafeReplica, May, Moves, IsFree, MayPrePrepare, MayReply, Executes, AtInput, GetsOrdered, reply_of}
+use Rattle.protocol.specs.Replica.RightReplica.{Point, HistoryReaches, SafeReplica, May, MovesPoint, IsFree, MayPrePrepare, MayReply, Executes, AtInput, GetsOrdered, reply_of}
 use Rattle.evidence.specs.Refused.{SkipsNoNumber, GoesBackToNoNumber, PrePreparesNearby, RepliesToWhoAsked, IsReplyOf}
 use Rattle.protocol.proofs.Words.Elements.{has_either, has_some}
 use Rattle.evidence.proofs.Refusing.{is_reply, newest_state}
@@ -46,7 +46,7 @@ ran_here : (c : Configuration) (me : ℕ) (input : Entry) (past outputs : List E
     → (x : Ran) → Has (λ y. y ≡ x) point.ran → Has (Executes x.kept.number []) outputs
 ran_here c me input past [] is all point h x has = go input is h.2.may h.2.moves
   where
-    go : (e : Entry) → is_output e ≡ false → May c me past h.0 e → Moves c me past h.0 e point → Has (Executes x.kept.number []) []
+    go : (e : Entry) → is_output e ≡ false → May c me past h.0 e → MovesPoint c me past h.0 e point → Has (Executes x.kept.number []) []
     go (Got p bytes) is may move = absurd (subst (λ (rans : List Ran). Has (λ y. y ≡ x) rans) (ap (λ (q : Point). q.ran) move) has)
     go (Tick p) is may move = absurd (subst (λ (rans : List Ran). Has (λ y. y ≡ x) rans) (ap (λ (q : Point). q.ran) move) has)
     go (Invoke a b d) is may move = absurd may
@@ -54,7 +54,7 @@ ran_here c me input past [] is all point h x has = go input is h.2.may h.2.moves
     go _ is may move = absurd (let bad : true ≡ false = is in cc)
 ran_here c me input past (e ∷ outputs) is all point h x has = go e all.0 h.2.may h.2.moves (ran_here c me input past outputs is all.1 h.0 h.1 x)
   where
-    go : (e : Entry) → is_output e ≡ true → May c me (outputs ++ input ∷ past) h.0 e → Moves c me (outputs ++ input ∷ past) h.0 e point → (Has (λ y. y ≡ x) h.0.ran → Has (Executes x.kept.number []) outputs)
+    go : (e : Entry) → is_output e ≡ true → May c me (outputs ++ input ∷ past) h.0 e → MovesPoint c me (outputs ++ input ∷ past) h.0 e point → (Has (λ y. y ≡ x) h.0.ran → Has (Executes x.kept.number []) outputs)
         → Has (Executes x.kept.number []) (e ∷ outputs)
     go (Executed r number batch) is may move was = pick (has_either (λ (y : Ran). y ≡ x) h.0.ran (ran_in c number h.0.state (requests_of batch)) (subst (λ (q : Point). Has (λ y. y ≡ x) q.ran) move has))
       where

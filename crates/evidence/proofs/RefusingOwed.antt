@@ -17,7 +17,7 @@ use Rattle.tuple_codec.specs.Operations.{Outcome}
 use Rattle.protocol.specs.Replica.Selection.{is_within}
 use Rattle.protocol.specs.Replica.Certificates.{logged, Committed, taken, view, latest_change}
 use Rattle.protocol.specs.Replica.Owed.{AtOutputs, HasRequest, IsNumbered, AreDifferent, NumbersOnce, StartsAhead, TransferGoesOn, Owes, HistoryIsPrompt, IsReplica, SendsMessage, HasToMove}
-use Rattle.evidence.specs.Refused.{GoesOn, NumbersNoneTwice, NumbersNoneTogether, AnswersReads, AnswersDigestFetches, AnswersPageFetches, AnswersAgain, AnswersRan, PreparesLogged, CommitsPrepared, ExecutesCommitted, NumbersWaiting, FetchesAhead, FetchesStarts, FetchesAgain, SendsCheckpoints, AsksOn, InstallsFetched, newest_number, MovesForReasons}
+use Rattle.evidence.specs.Refused.{ReplicaGoesOn, NumbersNoneTwice, NumbersNoneTogether, AnswersReads, AnswersDigestFetches, AnswersPageFetches, AnswersAgain, AnswersRan, PreparesLogged, CommitsPrepared, ExecutesCommitted, NumbersWaiting, FetchesAhead, FetchesStarts, FetchesAgain, SendsCheckpoints, AsksOn, InstallsFetched, newest_number, MovesForReasons}
 use Rattle.protocol.proofs.Words.Reacting.{one_of, proceeds_leaves}
 use Rattle.evidence.proofs.Refusing.{newest_state}
 use Rattle.evidence.proofs.Gaps.{some_is_free}
@@ -65,7 +65,7 @@ input_of c me (e ∷ outputs) input past said new point are is h =
     (at_output (is_output e) are.0 (HistoryIsPrompt c me (outputs ++ input ∷ past) (e ∷ said) new h.0)
     (Owes c me (outputs ++ input ∷ past) e said (reverse said ++ e ∷ (outputs ++ input ∷ past)) h.0 new × HistoryIsPrompt c me (outputs ++ input ∷ past) [] h.0 h.0) h.2)
 
-pub event_of : (c : Configuration) (me : ℕ) (outputs : List Entry) (input : Entry) (past : List Entry) → GoesOn c me outputs input past → Event c me outputs input past
+pub event_of : (c : Configuration) (me : ℕ) (outputs : List Entry) (input : Entry) (past : List Entry) → ReplicaGoesOn c me outputs input past → Event c me outputs input past
 event_of c me outputs input past g = go g.is_replica
   where
     rest : List Entry
@@ -158,7 +158,7 @@ behind_older P past (x ∷ older) rest h = (behind_older P past older (x ∷ res
 
 -- a pre-prepare of a new number keeps both clauses
 numbers_at : (c : Configuration) (me v i : ℕ) (batch bytes : List ℕ) (input : Entry) (newer older past : List Entry) → said bytes ≡ Some (record { sender = me; message = PrePrepare v i batch })
-    → logged c me (older ++ input ∷ past) v i ≡ None → GoesOn c me (newer ++ Sent me bytes ∷ older) input past
+    → logged c me (older ++ input ∷ past) v i ≡ None → ReplicaGoesOn c me (newer ++ Sent me bytes ∷ older) input past
     → AllPairs (AreDifferent c) (requests_of batch) × ((client timestamp : ℕ) → HasRequest c client timestamp batch → IsNumbered c me (older ++ input ∷ past) v client timestamp → ⊥)
 numbers_at c me v i batch bytes input newer older past says none goes =
     let e = event_of c me (newer ++ Sent me bytes ∷ older) input past goes in

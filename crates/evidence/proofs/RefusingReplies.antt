@@ -9,7 +9,7 @@ use Rattle.protocol.specs.System.Configuration.{Configuration}
 use Rattle.protocol.specs.System.Trace.{Entry, Once, Always, Has}
 use Rattle.protocol.specs.System.Trace.Entry.{Invoke, Got, Tick, Executed, Installed, Sent, Accepted}
 use Rattle.protocol.specs.Replica.State.{State, Call, Ran, call_of, runs, kept_by, kept_of, run_frame, ran_by, ran_in, execute}
-use Rattle.protocol.specs.Replica.RightReplica.{Point, HistoryReaches, May, Moves, MayReply, reply_of}
+use Rattle.protocol.specs.Replica.RightReplica.{Point, HistoryReaches, May, MovesPoint, MayReply, reply_of}
 use Rattle.protocol.specs.Replica.Owed.{HasRequest}
 use Rattle.evidence.specs.Refused.{RepliesOfExecuted, ExecutesRequest, NoInstallation, IsReplyOf}
 use Rattle.protocol.proofs.Points.Keeping.{Keeps, frames_kept, executed_kept}
@@ -73,7 +73,7 @@ of_executed c me (e ∷ past) none point h = go e h.2.may h.2.moves none.0 (of_e
     no_rans : point.ran ≡ [] → (x : Ran) → Has (λ y. y ≡ x) point.ran → Has (λ y. y ≡ x) h.0.ran
     no_rans is x has = absurd (subst (λ (rans : List Ran). Has (λ y. y ≡ x) rans) is has)
 
-    go : (e : Entry) → May c me past h.0 e → Moves c me past h.0 e point → NoInstallation past e → OfExecuted c past h.0 → OfExecuted c (e ∷ past) point
+    go : (e : Entry) → May c me past h.0 e → MovesPoint c me past h.0 e point → NoInstallation past e → OfExecuted c past h.0 → OfExecuted c (e ∷ past) point
     go (Got p bytes) may move n was = quiet (Got p bytes) (ap (λ (q : Point). q.state) move) (no_rans (ap (λ (q : Point). q.ran) move)) was
     go (Tick p) may move n was = quiet (Tick p) (ap (λ (q : Point). q.state) move) (no_rans (ap (λ (q : Point). q.ran) move)) was
     go (Sent p bytes) may move n was = quiet (Sent p bytes) (ap (λ (q : Point). q.state) move) (λ x has. subst (λ (q : Point). Has (λ y. y ≡ x) q.ran) move has) was

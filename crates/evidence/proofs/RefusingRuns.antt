@@ -23,7 +23,7 @@ use Rattle.protocol.specs.System.Trace.{Entry, is_output, Once, Always, Has, Are
 use Rattle.protocol.specs.System.Trace.Entry.{Invoke, Got, Tick, Sent, Accepted}
 use Rattle.protocol.specs.Replica.Certificates.{view, target, is_active_in, taken}
 use Rattle.protocol.specs.Replica.RightReplica.{SafeReplica, MaySay, MaySend, MayViewChange, MayNewView, SendsBytes}
-use Rattle.protocol.specs.Client.RightClient.{OpenCall, Vote, newest_vote, latest, is_alike, count_alike, is_complete, is_ordered_request, went_ordered, is_answered, Reaction, fallback, on_reply, on_got, reaction, IsRequest, IsReaction, MayInput, Reacts, IsClient}
+use Rattle.protocol.specs.Client.RightClient.{OpenCall, Vote, newest_vote, latest, is_alike, count_alike, is_complete, is_ordered_request_of, went_ordered, is_answered, Reaction, fallback, on_reply, on_got, reaction, IsRequest, IsReaction, MayInput, Reacts, IsClient}
 use Rattle.protocol.specs.Client.RightClient.Reaction.{nothing, asks, accepts}
 use Rattle.evidence.specs.RefusedRuns.{going_on, IsOrderedRequest, AcceptsAlike, AsksOrdered, FallsBack, AsksAtTicks, AsksAll, LogsNumbers, NoBeginWhileInactive, KeepsProposed, NoRequestByReplica, InstallsItsRoot, OutputsFollow}
 use Rattle.protocol.proofs.Words.Temporal.{once_weaker, once_always, once_stays_from}
@@ -99,7 +99,7 @@ accepts_alike c me s number call mode answer bytes later from outputs past opene
 went_asked : (t : ℕ) (xs : List Entry) → went_ordered xs t ≡ true → Once (AsksOrdered t) xs
 went_asked t [] h = absurd cc
 went_asked t (Invoke x y z ∷ past) h = absurd cc
-went_asked t (Sent p bytes ∷ past) h = go (or_cases (option_map_or (is_ordered_request t) (said bytes) false) (went_ordered past t) h) (went_asked t past)
+went_asked t (Sent p bytes ∷ past) h = go (or_cases (option_map_or (is_ordered_request_of t) (said bytes) false) (went_ordered past t) h) (went_asked t past)
   where
     ordered : (sender timestamp : ℕ) (mode : Mode) (op : Operation) → ((timestamp == t) && same_mode mode modes.Ordered) ≡ true
         → (op' : Operation) × (◌≡◌ {A = Body} (record { sender = sender; message = Request timestamp mode op }) (record { sender = sender; message = Request t modes.Ordered op' }))
@@ -108,16 +108,16 @@ went_asked t (Sent p bytes ∷ past) h = go (or_cases (option_map_or (is_ordered
         (op, ap (λ (n : ℕ). (let b : Body = record { sender = sender; message = Request n modes.Ordered op } in b)) e)
     ordered sender timestamp modes.ReadOnly op k = let bad = (and_parts (timestamp == t) false k).1 in absurd cc
 
-    body : (sender : ℕ) (message : Message) → is_ordered_request t (record { sender = sender; message = message }) ≡ true
+    body : (sender : ℕ) (message : Message) → is_ordered_request_of t (record { sender = sender; message = message }) ≡ true
         → (op : Operation) × (◌≡◌ {A = Body} (record { sender = sender; message = message }) (record { sender = sender; message = Request t modes.Ordered op }))
     body sender (Request timestamp mode op) k = ordered sender timestamp mode op k
     body sender _ k = absurd cc
 
-    spoken : (o : Option Body) → said bytes ≡ o → option_map_or (is_ordered_request t) o false ≡ true → AsksOrdered t past (Sent p bytes)
+    spoken : (o : Option Body) → said bytes ≡ o → option_map_or (is_ordered_request_of t) o false ≡ true → AsksOrdered t past (Sent p bytes)
     spoken None is k = absurd cc
     spoken (Some b) is k = let r = body b.sender b.message k in (b.sender, r.0, is ∙ ap Some r.1)
 
-    go : (option_map_or (is_ordered_request t) (said bytes) false ≡ true) ⊎ (went_ordered past t ≡ true) → (went_ordered past t ≡ true → Once (AsksOrdered t) past) → AsksOrdered t past (Sent p bytes) ⊎ Once (AsksOrdered t) past
+    go : (option_map_or (is_ordered_request_of t) (said bytes) false ≡ true) ⊎ (went_ordered past t ≡ true) → (went_ordered past t ≡ true → Once (AsksOrdered t) past) → AsksOrdered t past (Sent p bytes) ⊎ Once (AsksOrdered t) past
     go (inl k) below = inl (spoken (said bytes) refl k)
     go (inr k) below = inr (below k)
 went_asked t (_ ∷ past) h = inr (went_asked t past h)

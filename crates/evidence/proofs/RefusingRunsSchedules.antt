@@ -10,10 +10,10 @@ use Rattle.wire_format.specs.Messages.{FrameData as Frame}
 use Rattle.std.specs.Option.{option_map_or}
 use Rattle.protocol.specs.System.Trace.{Entry, is_output, Has}
 use Rattle.protocol.specs.System.Trace.Entry.{Invoke, Got, Tick, Sent}
-use Rattle.protocol.specs.System.Schedule.{Step, Made, World, StepsLead, AtInput, new_world, made_by, meant_for, is_delivered, next_receiver, next_pair, pending, Feeds}
+use Rattle.protocol.specs.System.Schedule.{Step, Made, World, StepsLead, NoOutputIsNext, new_world, made_by, meant_for, is_delivered, next_receiver, next_pair, pending, Feeds}
 use Rattle.protocol.specs.System.Schedule.Step.{calls, deliver, feed, seal, sign, ticks, flush}
 use Rattle.protocol.specs.System.Schedule.StepsLead.{ends, gives, called, delivers, gets, ticked, seals, signs, flushes, flushed}
-use Rattle.evidence.specs.RefusedRuns.{calls_for, invokes_for, FeedsEachCall, ticks_for, is_tick_of, FeedsEachTick, Gets, FlushDeliversAll, FlushDeliversSent}
+use Rattle.evidence.specs.RefusedRuns.{calls_for, invokes_for, FeedsEachCall, ticks_for, is_tick_of, FeedsEachTick, PartyGetsFrame, FlushDeliversAll, FlushDeliversSent}
 use Rattle.protocol.proofs.Words.Options.{some_injective}
 use Rattle.protocol.proofs.Words.Elements.{some_of_has, each_has}
 use Rattle.protocol.proofs.Words.Scheduling.{past_of}
@@ -135,7 +135,7 @@ feeds_each_tick c steps p trace feeds = counted_feeds c (ticks_for p) (is_tick_o
 
 -- each delivery is of a frame that a party made, and the receiver gets the frame
 abbrev IsDone : List Made → List Entry → ℕ × ℕ → Type 0
-IsDone frames past x = (made : Made) × (slice_get frames x.0 ≡ Some made) × Has (Gets x.1 made.bytes) past
+IsDone frames past x = (made : Made) × (slice_get frames x.0 ≡ Some made) × Has (PartyGetsFrame x.1 made.bytes) past
 
 pub get_left : (xs ys : List Made) (i : ℕ) (x : Made) → slice_get xs i ≡ Some x → slice_get (xs ++ ys) i ≡ Some x
 get_left [] ys i x h = absurd cc
@@ -164,7 +164,7 @@ all_done c w v _ _ (flushes p g) h = all_done c _ _ _ _ g h
 all_done c w v _ _ (flushed i p g) h = all_done c _ _ _ _ g h
 
 -- after a last flush, no frame is left to deliver
-no_more : (c : Configuration) (w v : World) (steps : List Step) (entries : List Entry) → StepsLead c w steps entries v → steps ≡ [] → AtInput entries → pending c w ≡ None → pending c v ≡ None
+no_more : (c : Configuration) (w v : World) (steps : List Step) (entries : List Entry) → StepsLead c w steps entries v → steps ≡ [] → NoOutputIsNext entries → pending c w ≡ None → pending c v ≡ None
 no_more c w v _ _ ends is i h = h
 no_more c w v _ _ (gives o g) is i h = let bad : false ≡ true = sym i ∙ o in absurd cc
 no_more c w v _ _ (called a g) is i h = absurd cc
@@ -252,8 +252,8 @@ flush_delivers_all c steps i q made trace feeds is has correct =
     let done : IsDone v.frames v.past at.0 = each_has (IsDone v.frames v.past) v.delivered at.0 (all_done c new_world v (steps ++ flush ∷ []) (reverse trace) feeds.1 tt) at.1 in
     let frame : slice_get v.frames i ≡ Some done.0 = subst (λ (n : ℕ). slice_get v.frames n ≡ Some done.0) (eqb-true at.0.0 i p.0) done.1 in
     let same : done.0 ≡ made = some_injective done.0 made (sym frame ∙ is) in
-    let got : Has (Gets q done.0.bytes) v.past = subst (λ (n : ℕ). Has (Gets n done.0.bytes) v.past) (eqb-true at.0.1 q p.1) done.2 in
-    subst (λ (xs : List Entry). Has (Gets q made.bytes) xs) (past_of c v (steps ++ flush ∷ []) trace feeds.1) (subst (λ (m : Made). Has (Gets q m.bytes) v.past) same got)
+    let got : Has (PartyGetsFrame q done.0.bytes) v.past = subst (λ (n : ℕ). Has (PartyGetsFrame n done.0.bytes) v.past) (eqb-true at.0.1 q p.1) done.2 in
+    subst (λ (xs : List Entry). Has (PartyGetsFrame q made.bytes) xs) (past_of c v (steps ++ flush ∷ []) trace feeds.1) (subst (λ (m : Made). Has (PartyGetsFrame q m.bytes) v.past) same got)
 
 -- ---- a frame that was sent is one that was made
 

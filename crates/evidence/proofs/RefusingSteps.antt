@@ -6,7 +6,7 @@ use Rattle.protocol.specs.System.Trace.{Entry, Once, Has}
 use Rattle.protocol.specs.System.Trace.Entry.{Invoke, Accepted}
 use Rattle.protocol.specs.Space.Linear.{points}
 use Rattle.protocol.specs.System.Schedule.{Acceptance, acceptances}
-use Rattle.evidence.specs.RefusedSteps.{ReportsExist, IsAcceptance, ReportsAll, ReportsNoOther, Rise, ReportsInOrder, ReportsAreLinear, FirstOperationIsReported}
+use Rattle.evidence.specs.RefusedSteps.{ReportsExist, IsAcceptance, ReportsAll, ReportsNoOther, PositionsRise, ReportsInOrder, ReportsAreLinear, FirstOperationIsReported}
 use Rattle.protocol.proofs.Points.Whole.{points_are_linear}
 use Rattle.evidence.proofs.FirstPoint.{first_operation_has_its_point}
 use Rattle.protocol.proofs.Words.Elements.{has_reverse}
@@ -52,7 +52,7 @@ lower n [] h = tt
 lower n (b ∷ later) h = (omega (arith, h.0), lower n later h.1)
 
 -- the trace's acceptances, before later ones
-rise : (trace : List Entry) (later : List Acceptance) → Rise later → Each (λ b. length trace ≤ b.position) later → Rise (reverse_aux (acceptances trace) later)
+rise : (trace : List Entry) (later : List Acceptance) → PositionsRise later → Each (λ b. length trace ≤ b.position) later → PositionsRise (reverse_aux (acceptances trace) later)
 rise [] later h l = h
 rise (Accepted client timestamp answer ∷ past) later h l =
     rise past (record { position = length past; client = client; timestamp = timestamp; answer = answer } ∷ later) (above (length past) later l, h) (omega arith, lower (length past) later l)
@@ -60,7 +60,7 @@ rise (Invoke client timestamp op ∷ past) later h l = rise past later h (lower 
 rise (_ ∷ past) later h l = rise past later h (lower (length past) later l)
 
 pub reports_in_order : ReportsInOrder
-reports_in_order c trace accepted items report = subst Rise (sym report.accepted_are) (rise trace [] tt tt)
+reports_in_order c trace accepted items report = subst PositionsRise (sym report.accepted_are) (rise trace [] tt tt)
 
 -- ---- the points, and the first operation
 

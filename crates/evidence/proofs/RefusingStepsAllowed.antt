@@ -5,7 +5,7 @@ use Rattle.std.proofs.lemmas.Bool.{or_cases}
 use Rattle.protocol.specs.System.Configuration.{Configuration, is_replica, is_client}
 use Rattle.protocol.specs.System.Trace.{Entry, Always, Has, is_output}
 use Rattle.protocol.specs.System.Trace.Entry.{Invoke, Got, Tick}
-use Rattle.protocol.specs.System.Schedule.{Step, Made, World, StepsLead, AtInput, new_world, made_by, sealed_bytes, signed_bytes, AreReceivers, IsAllowed}
+use Rattle.protocol.specs.System.Schedule.{Step, Made, World, StepsLead, NoOutputIsNext, new_world, made_by, sealed_bytes, signed_bytes, AreReceivers, IsAllowed}
 use Rattle.protocol.specs.System.Schedule.Step.{calls, deliver, feed, seal, sign, ticks, flush}
 use Rattle.protocol.specs.System.Schedule.StepsLead.{ends, gives, called, delivers, gets, ticked, seals, signs, flushes, flushed}
 use Rattle.evidence.specs.RefusedSteps.{MayBeFed, FeedsWhatMayBeFed, ArePartiesInOrder, MayMake, FeedsWhatMayBeMade, FlushDeliversSealed, FlushDeliversSigned, SealedIsNewest, SignedIsNewest, MayCome, AllowsWhatMayCome, AllowsNoOther}
@@ -165,7 +165,7 @@ flush_delivers_signed c steps replica leaf q rs body trace feeds step has correc
 -- ---- a frame that the last step made is the last
 
 -- without steps, and with no output next, the world gets no more frames
-nothing_more : (c : Configuration) (w v : World) (steps : List Step) (entries : List Entry) → StepsLead c w steps entries v → steps ≡ [] → AtInput entries → v.frames ≡ w.frames
+nothing_more : (c : Configuration) (w v : World) (steps : List Step) (entries : List Entry) → StepsLead c w steps entries v → steps ≡ [] → NoOutputIsNext entries → v.frames ≡ w.frames
 nothing_more c w v _ _ ends is i = refl
 nothing_more c w v _ _ (gives o g) is i = let bad : false ≡ true = sym i ∙ o in absurd cc
 nothing_more c w v _ _ (called a g) is i = absurd cc

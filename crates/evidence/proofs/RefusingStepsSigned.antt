@@ -11,7 +11,7 @@ use Rattle.wire_format.specs.Spelling.{is_signed, body_spelling, SpellsFrame}
 use Rattle.authenticator.specs.Keys.{signing_seed}
 use Rattle.authenticator.specs.Membership.{sends}
 use Rattle.authenticator.proofs.Digests.{hmac_of-digest}
-use Rattle.signing.specs.Joined.{joined}
+use Rattle.signing.specs.Joined.{end_to_end}
 use Rattle.signing.specs.Lamport.{secret, public_hash, leaf_digest, bit_of}
 use Rattle.signing.specs.Merkle.{node}
 use Rattle.signing.specs.Signatures.{public_key, signed_bit, sibling_digest, signature_of}
@@ -27,10 +27,10 @@ use Rattle.evidence.proofs.FirstFrames.{is_digest}
 
 -- ---- a signature is of bytes
 
-joined_bytes : (n : ℕ) (f : ℕ → List ℕ) → ((k : ℕ) → AreBytes (f k)) → AreBytes (joined n f)
-unfolding joined
+joined_bytes : (n : ℕ) (f : ℕ → List ℕ) → ((k : ℕ) → AreBytes (f k)) → AreBytes (end_to_end n f)
+unfolding end_to_end
 joined_bytes zero f each = no_bytes
-joined_bytes (suc n) f each = bytes_append (joined n f) (f n) (joined_bytes n f each) (each n)
+joined_bytes (suc n) f each = bytes_append (end_to_end n f) (f n) (joined_bytes n f each) (each n)
 
 secret_bytes : (seed : List ℕ) (leaf bit value : ℕ) → AreBytes (secret seed leaf bit value)
 unfolding secret
@@ -53,7 +53,7 @@ signature_bytes : (seed : List ℕ) (leaf : ℕ) (text : List ℕ) → leaf < 64
 unfolding signature_of
 signature_bytes seed leaf text l =
     bytes_more leaf _ (omega arith)
-    (bytes_append (joined 256 (signed_bit seed leaf (sha256 text))) (joined 6 (sibling_digest (leaf_digest seed) leaf))
+    (bytes_append (end_to_end 256 (signed_bit seed leaf (sha256 text))) (end_to_end 6 (sibling_digest (leaf_digest seed) leaf))
     (joined_bytes 256 (signed_bit seed leaf (sha256 text)) (λ bit. bytes_append (secret seed leaf bit (bit_of (sha256 text) bit)) (public_hash seed leaf bit (1 - bit_of (sha256 text) bit)) (secret_bytes seed leaf bit _) (public_bytes seed leaf bit _)))
     (joined_bytes 6 (sibling_digest (leaf_digest seed) leaf) (λ level. node_bytes (leaf_digest seed) (leaf_bytes seed) level _)))
 

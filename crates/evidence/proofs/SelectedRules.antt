@@ -9,7 +9,7 @@ use Rattle.quorum.specs.Quorum.{count_below}
 use Rattle.protocol.specs.System.Configuration.{Configuration, span}
 use Rattle.wire_format.specs.Messages.{NewViewData, ViewChangeData, CheckpointEntryData as CheckpointEntry, BatchEntryData as BatchEntry}
 use Rattle.protocol.specs.System.Trace.{Has}
-use Rattle.protocol.specs.Replica.Selection.{is_quorum, is_weak_quorum, signed_change, changes_of, list_of, count_in, ascending, is_within, is_start, agrees, vouches, may_stand_at, may_be_null, null_batch, is_null, may_stand, may_all_stand, largest, largest_of, how_many, may_select}
+use Rattle.protocol.specs.Replica.Selection.{is_quorum, is_weak_quorum, signed_change, changes_of, list_of, count_in, ascending, is_within, is_start, agrees, vouches, may_stand_at, may_be_null, null_batch, is_null, may_stand, may_all_stand, largest, largest_of, how_many_batches, may_select}
 use Rattle.evidence.specs.Refused.{SaysNothingAgainst, SaysForIt, SaysNothing}
 use Rattle.evidence.specs.Selected.{AreSigned, SomePrepared, MayStand, IsSelected, NewViewsMeetTheRules}
 use Rattle.protocol.proofs.Words.Lists.{largest_ge, stands_at, some_below, no_longer}
@@ -208,8 +208,8 @@ meets c new h = record {
     s : Selects c new
     s = selects c new h
 
-    long : length new.batches ≡ how_many c new
-    long = eqb-true (length new.batches) (how_many c new) s.long
+    long : length new.batches ≡ how_many_batches c new
+    long = eqb-true (length new.batches) (how_many_batches c new) s.long
 
     start : (is_quorum c (count_in c (λ vc. nat_le vc.low new.start) (changes_of c new)) ≡ true)
         × (is_weak_quorum c (count_in c (λ vc. list_any (λ (checkpoint : CheckpointEntry). (checkpoint.number == new.start) && bytes_eq checkpoint.digest new.root) vc.checkpoints) (changes_of c new)) ≡ true)
@@ -221,7 +221,7 @@ all_rules : (c : Configuration) (new : NewViewData) → Selects c new → may_se
 unfolding may_select
 all_rules c new s =
     and_from _ (may_all_stand c new.view (changes_of c new) (suc new.start) new.batches)
-    (and_from _ (length new.batches == how_many c new)
+    (and_from _ (length new.batches == how_many_batches c new)
     (and_from _ (is_start c (changes_of c new) new.start new.root)
     (and_from _ (list_all (λ x. (x.1.view == new.view) && is_within c x.1) (changes_of c new))
     (and_from _ (ascending (changes_of c new))
@@ -245,7 +245,7 @@ selects_of c new r is = record {
       (le-leb (c.faults + 1) (count_in c (λ vc. list_any (λ (checkpoint : CheckpointEntry). (checkpoint.number == new.start) && bytes_eq checkpoint.digest new.root) vc.checkpoints) r.set)
       (count_of_have c r.set (c.faults + 1) (λ vc. list_any (λ (checkpoint : CheckpointEntry). (checkpoint.number == new.start) && bytes_eq checkpoint.digest new.root) vc.checkpoints)
       (λ vc. Has (λ (checkpoint : CheckpointEntry). (checkpoint.number ≡ new.start) × (checkpoint.digest ≡ new.root)) vc.checkpoints) (listed_of new.start new.root) order r.listed)));
-  long = eq-eqb (length new.batches) (how_many c new)
+  long = eq-eqb (length new.batches) (how_many_batches c new)
       (subst (λ (set : List (ℕ × ViewChangeData)). length new.batches ≡ max (largest_of (new.start + span c) set) new.start - new.start) (sym is)
       (long_enough c r.set new.start new.batches r.filled r.ends));
   stand = subst (λ (set : List (ℕ × ViewChangeData)). may_all_stand c new.view set (suc new.start) new.batches ≡ true) (sym is)

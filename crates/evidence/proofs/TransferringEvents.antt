@@ -20,7 +20,7 @@ use Rattle.protocol.specs.Replica.RightReplica.{Point, first_point, with_waiting
 use Rattle.protocol.specs.Replica.Transfers.{fetch_sent, fetching}
 use Rattle.protocol.specs.Replica.Owed.{SendsMessage, AtOutputs, NumbersOnce, Counts, IsDropped, Owes, HistoryIsPrompt}
 use Rattle.evidence.specs.Examples.{four}
-use Rattle.evidence.specs.FirstOperation.{IsFrom}
+use Rattle.evidence.specs.FirstOperation.{IsFrameFrom}
 use Rattle.protocol.proofs.Words.Moving.{no_reason}
 use Rattle.protocol.proofs.Words.Starts.{starts_low}
 use Rattle.protocol.proofs.Words.Options.{some_injective}
@@ -107,7 +107,7 @@ module _ (clients : ℕ) (seed root : List ℕ) where
           ∙ ap (λ (o : Option Call). option_map_or (with_waiting opening []) o []) (is_no_call c body.sender body.message given)))
 
   -- a fetch that may be sent
-  pub fetch_sends : (past : List Entry) (bytes : List ℕ) (index : ℕ) (level : Level) → MayFetch c 0 past first_point 16 level index → IsFrom c 0 (Fetch 16 level index) (others c 0) bytes → (SentInEvent bytes past → ⊥) → IsStep c 0 past first_point (Sent 0 bytes) first_point
+  pub fetch_sends : (past : List Entry) (bytes : List ℕ) (index : ℕ) (level : Level) → MayFetch c 0 past first_point 16 level index → IsFrameFrom c 0 (Fetch 16 level index) (others c 0) bytes → (SentInEvent bytes past → ⊥) → IsStep c 0 past first_point (Sent 0 bytes) first_point
   fetch_sends past bytes index level fetches f once = record { own = refl; may = may; moves = refl }
     where
       addressed : IsAddressed c 0 past (Fetch 16 level index) f.frame.authenticator
@@ -148,7 +148,7 @@ module _ (clients : ℕ) (seed root : List ℕ) where
 
   -- the replica answers a message that counts by one fetch, of the root if no transfer of 16 is open yet
   pub goes_on : (before : List Entry) (bytes sent : List ℕ) (body : Body) (index : ℕ) (level : Level) (p : ℕ → Bool) → heard (members c) 0 bytes ≡ Some body → IsGiven body.message
-      → ((n : ℕ) → IsPartOf n body.message → 16 ≡ n) → IsFrom c 0 (Fetch 16 level index) (others c 0) sent → At (Sent 0 sent ∷ Got 0 bytes ∷ before) p (Some (16, (level, index))) 16
+      → ((n : ℕ) → IsPartOf n body.message → 16 ≡ n) → IsFrameFrom c 0 (Fetch 16 level index) (others c 0) sent → At (Sent 0 sent ∷ Got 0 bytes ∷ before) p (Some (16, (level, index))) 16
       → MayFetch c 0 (Got 0 bytes ∷ before) first_point 16 level index → (fetching before ≡ 16) ⊎ ((level ≡ levels.Root) × (index ≡ 0)) → Counts c 0 before first_point bytes body.sender body.message
       → Proceeding before → Proceeding (Sent 0 sent ∷ Got 0 bytes ∷ before)
   goes_on before bytes sent body index level p h given of_16 f st fetches ways counts was =

@@ -16,7 +16,7 @@ use Rattle.signing.specs.Heard.{heard}
 use Rattle.wire_format.specs.Words.{said}
 use Rattle.protocol.specs.System.Trace.{Entry, party_of, Once}
 use Rattle.protocol.specs.System.Trace.Entry.{Invoke, Got, Tick, Sent, Accepted}
-use Rattle.protocol.specs.Client.RightClient.{OpenCall, last_call, open_call, Vote, vote_of, newest_vote, latest, count_alike, is_complete, is_ordered_request, went_ordered, is_answered, Reaction, fallback, on_reply, on_got, reaction, IsReaction, IsClient, MayAccept, MayAsk, MayClient, SafeClient}
+use Rattle.protocol.specs.Client.RightClient.{OpenCall, last_call, open_call, Vote, vote_of, newest_vote, latest, count_alike, is_complete, is_ordered_request_of, went_ordered, is_answered, Reaction, fallback, on_reply, on_got, reaction, IsReaction, IsClient, MayAccept, MayAsk, MayClient, SafeClient}
 use Rattle.protocol.specs.Client.RightClient.Reaction.{nothing, asks, accepts}
 use Rattle.evidence.specs.RefusedRuns.{going_on, AsksOrdered}
 use Rattle.evidence.specs.Clients.{WaitsForAnswers, FallsBackOnce, IgnoresOthers, RestsWithoutCall}
@@ -102,10 +102,10 @@ module _ (c : Configuration) (me : ℕ) where
   asked_went : (call : OpenCall) (xs : List Entry) → SafeClient c me xs → open_call xs ≡ Some call → Once (AsksOrdered call.timestamp) xs → went_ordered xs call.timestamp ≡ true
   asked_went call [] right opened h = absurd h
   asked_went call (Sent p bytes ∷ past) right opened (inl h) =
-      or_left (option_map_or (is_ordered_request call.timestamp) (said bytes) false) (went_ordered past call.timestamp)
-      (ap (λ (o : Option Body). option_map_or (is_ordered_request call.timestamp) o false) h.2 ∙ ap (λ (b : Bool). b && true) (eq-eqb call.timestamp call.timestamp refl))
+      or_left (option_map_or (is_ordered_request_of call.timestamp) (said bytes) false) (went_ordered past call.timestamp)
+      (ap (λ (o : Option Body). option_map_or (is_ordered_request_of call.timestamp) o false) h.2 ∙ ap (λ (b : Bool). b && true) (eq-eqb call.timestamp call.timestamp refl))
   asked_went call (Sent p bytes ∷ past) right opened (inr h) =
-      or_right (option_map_or (is_ordered_request call.timestamp) (said bytes) false) (went_ordered past call.timestamp) (asked_went call past right.1 opened h)
+      or_right (option_map_or (is_ordered_request_of call.timestamp) (said bytes) false) (went_ordered past call.timestamp) (asked_went call past right.1 opened h)
   asked_went call (Invoke x y z ∷ past) right opened (inr h) =
       let e : ◌≡◌ {A = OpenCall} (record { timestamp = y; op = z }) call = some_injective {A = OpenCall} (record { timestamp = y; op = z }) call opened in
       let same : y ≡ call.timestamp = ap (λ (o : OpenCall). o.timestamp) e in

@@ -8,7 +8,7 @@ use Rattle.protocol.specs.System.Trace.{Entry, history_of, Once, SendsBody, Unfo
 use Rattle.protocol.specs.System.Trace.Entry.{Executed}
 use Rattle.protocol.specs.Replica.Certificates.{brought, view, target, taken, low, batch_begun, logged, commit_of, Prepared, Committed}
 use Rattle.protocol.specs.Replica.RightReplica.{SafeReplica}
-use Rattle.protocol.specs.Laws.Histories.{AreReplicasSafe, ExecutesBatch, Takes}
+use Rattle.protocol.specs.Laws.Histories.{AreReplicasSafe, ExecutesBatch, TakesOrSendsNewView}
 
 -- ---- the replica's own commit
 
@@ -19,14 +19,14 @@ ExecutesWithOwnCommit =
     → (v : ℕ) × Committed c me past v k batch × (commit_of c me past v k me ≡ Some (sha256 batch))
 
 -- the entry brings this body: it is heard, or said
-abbrev pub Brings : Configuration → Body → List Entry → Entry → Type 0
-Brings c body past e = brought c e ≡ Some body
+abbrev pub EntryBringsBody : Configuration → Body → List Entry → Entry → Type 0
+EntryBringsBody c body past e = brought c e ≡ Some body
 
 -- So none is executed that only the others committed, however many.
 abbrev pub ExecutesNotByOthersAlone : Type 0
 ExecutesNotByOthersAlone =
     (c : Configuration) (me k : ℕ) (batch : List ℕ) (past : List Entry)
-    → ((v : ℕ) → Once (Brings c (record { sender = me; message = Commit v k (sha256 batch) })) past → ⊥)
+    → ((v : ℕ) → Once (EntryBringsBody c (record { sender = me; message = Commit v k (sha256 batch) })) past → ⊥)
     → SafeReplica c me (Executed me k batch ∷ past) → ⊥
 
 -- A correct replica sent a commit itself for each batch that it executes.
@@ -47,7 +47,7 @@ TakesLater =
 -- So it is above those of the new views that were taken before, and none is taken twice.
 abbrev pub TakesInOrder : Type 0
 TakesInOrder =
-    (c : Configuration) (past : List Entry) (e : Entry) (earlier new : NewViewData) → Once (Takes c earlier) past
+    (c : Configuration) (past : List Entry) (e : Entry) (earlier new : NewViewData) → Once (TakesOrSendsNewView c earlier) past
     → taken c past e ≡ Some new → earlier.view < new.view
 
 -- ---- the log

@@ -10,7 +10,7 @@ use Rattle.protocol.specs.System.Trace.{Entry}
 use Rattle.protocol.specs.System.Trace.Entry.{Invoke, Got, Sent, Accepted}
 use Rattle.protocol.specs.Client.RightClient.{IsClient}
 use Rattle.evidence.specs.Examples.{four}
-use Rattle.evidence.specs.FirstOperation.{IsFrom}
+use Rattle.evidence.specs.FirstOperation.{IsFrameFrom}
 
 -- The frames of client 0's first operation if it is a read: its read-only request, and by their replica read-only
 -- replies, alike in number and answer.
@@ -18,8 +18,8 @@ pub record AreReadFrames (c : Configuration) (op : Operation) (number : ℕ) (an
     (reply : ℕ → List ℕ) : Type 0 where
   pub operation : IsOperation op
   pub reads : is_read_only op ≡ true
-  pub asks : IsFrom c 256 (Request 1 modes.ReadOnly op) (range_with_len 0 (replicas c)) request
-  pub replies : (r : ℕ) → r < replicas c → IsFrom c r (Reply 256 1 modes.ReadOnly number answer) (256 ∷ []) (reply r)
+  pub asks : IsFrameFrom c 256 (Request 1 modes.ReadOnly op) (range_with_len 0 (replicas c)) request
+  pub replies : (r : ℕ) → r < replicas c → IsFrameFrom c r (Reply 256 1 modes.ReadOnly number answer) (256 ∷ []) (reply r)
 
 -- the client's history, the oldest first: it accepts at the third reply
 abbrev pub first_read : Operation → Outcome → List ℕ → (ℕ → List ℕ) → List Entry

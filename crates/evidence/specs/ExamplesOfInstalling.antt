@@ -14,7 +14,7 @@ use Rattle.protocol.specs.Replica.State.{State, opening, root_of, page_text, pag
 use Rattle.protocol.specs.Replica.Transfers.{IsFirstToDiffer}
 use Rattle.protocol.specs.Replica.RightReplica.{Point, HistoryReaches, others, digests_at}
 use Rattle.evidence.specs.Examples.{four}
-use Rattle.evidence.specs.FirstOperation.{IsFrom}
+use Rattle.evidence.specs.FirstOperation.{IsFrameFrom}
 
 -- The state after 16 batches in which nothing ran. Of its pages the header alone differs from the opening state's.
 abbrev pub later_state : State
@@ -36,13 +36,13 @@ pub record AreInstallFrames (c : Configuration) (w : InstallFrames) : Type 0 whe
   pub checkpoints : (r : ℕ) → 0 < r → r < replicas c
       → heard (members c) 0 (w.checkpoint r)
       ≡ Some (record { sender = r; message = Checkpoint 16 (root_of later_state) })
-  pub asks_root : IsFrom c 0 (Fetch 16 levels.Root 0) (others c 0) w.fetch_root
+  pub asks_root : IsFrameFrom c 0 (Fetch 16 levels.Root 0) (others c 0) w.fetch_root
   pub gives_root : heard (members c) 0 w.below_root
       ≡ Some (record { sender = 1; message = Meta 16 levels.Root 0 (digests_at later_state levels.Root 0) })
-  pub asks_inner : IsFrom c 0 (Fetch 16 levels.Inner 16) (others c 0) w.fetch_inner
+  pub asks_inner : IsFrameFrom c 0 (Fetch 16 levels.Inner 16) (others c 0) w.fetch_inner
   pub gives_inner : heard (members c) 0 w.below_inner
       ≡ Some (record { sender = 1; message = Meta 16 levels.Inner 16 (digests_at later_state levels.Inner 16) })
-  pub asks_header : IsFrom c 0 (Fetch 16 levels.Page 512) (others c 0) w.fetch_header
+  pub asks_header : IsFrameFrom c 0 (Fetch 16 levels.Page 512) (others c 0) w.fetch_header
   pub gives_header : heard (members c) 0 w.header
       ≡ Some (record { sender = 1; message = Page 16 512 (header_text later_state.space 16) })
 

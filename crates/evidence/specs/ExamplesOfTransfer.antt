@@ -12,7 +12,7 @@ use Rattle.protocol.specs.Replica.State.{opening, all_pages, page_text, pages_of
 use Rattle.protocol.specs.Replica.RightReplica.{others}
 use Rattle.protocol.specs.Replica.Owed.{IsReplica}
 use Rattle.evidence.specs.Examples.{four}
-use Rattle.evidence.specs.FirstOperation.{IsFrom}
+use Rattle.evidence.specs.FirstOperation.{IsFrameFrom}
 
 -- What there is to fetch: the text of page 0, the digest of page 1, those of the other pages of inner part 0, and those of
 -- the other inner parts.
@@ -61,14 +61,14 @@ pub record TransferFrames : Type 0 where
 -- The replicas 1 to 3 have checkpoints of number 16 with the root, replica 0 asks, and replica 1 answers.
 pub record AreTransferFrames (c : Configuration) (x : Parts) (w : TransferFrames) : Type 0 where
   pub checkpoints : (r : ℕ) → 0 < r → r < replicas c
-      → IsFrom c r (Checkpoint 16 (root_of_parts x)) (others c r) (w.checkpoint r)
-  pub asks_root : IsFrom c 0 (Fetch 16 levels.Root 0) (others c 0) w.fetch_root
-  pub gives_root : IsFrom c 1 (Meta 16 levels.Root 0 (digests_of_inner_parts x)) (0 ∷ []) w.below_root
-  pub asks_inner : IsFrom c 0 (Fetch 16 levels.Inner 0) (others c 0) w.fetch_inner
-  pub gives_inner : IsFrom c 1 (Meta 16 levels.Inner 0 (digests_of_pages x)) (0 ∷ []) w.below_inner
-  pub asks_page : IsFrom c 0 (Fetch 16 levels.Page 0) (others c 0) w.fetch_page
-  pub gives_page : IsFrom c 1 (Page 16 0 x.text) (0 ∷ []) w.page
-  pub asks_next : IsFrom c 0 (Fetch 16 levels.Page 1) (others c 0) w.fetch_next
+      → IsFrameFrom c r (Checkpoint 16 (root_of_parts x)) (others c r) (w.checkpoint r)
+  pub asks_root : IsFrameFrom c 0 (Fetch 16 levels.Root 0) (others c 0) w.fetch_root
+  pub gives_root : IsFrameFrom c 1 (Meta 16 levels.Root 0 (digests_of_inner_parts x)) (0 ∷ []) w.below_root
+  pub asks_inner : IsFrameFrom c 0 (Fetch 16 levels.Inner 0) (others c 0) w.fetch_inner
+  pub gives_inner : IsFrameFrom c 1 (Meta 16 levels.Inner 0 (digests_of_pages x)) (0 ∷ []) w.below_inner
+  pub asks_page : IsFrameFrom c 0 (Fetch 16 levels.Page 0) (others c 0) w.fetch_page
+  pub gives_page : IsFrameFrom c 1 (Page 16 0 x.text) (0 ∷ []) w.page
+  pub asks_next : IsFrameFrom c 0 (Fetch 16 levels.Page 1) (others c 0) w.fetch_next
 
 -- The history of replica 0, the newest first: at the third checkpoint it asks for the root, and at each part for the
 -- next.

@@ -73,7 +73,7 @@ IsLeft c w frame party = (is_correct c party ≡ true) × (Has (λ x. x ≡ (fra
 
 -- The first frame that is left for one of its receivers, and the first of these: nothing is left of an earlier
 -- frame, and this one for no receiver that stands before.
-pub record IsNext (c : Configuration) (w : World) (frame party : ℕ) (made : Made) : Type 0 where
+pub record IsNextDelivery (c : Configuration) (w : World) (frame party : ℕ) (made : Made) : Type 0 where
   pub place : ℕ
   pub is_frame : slice_get w.frames frame ≡ Some made
   pub is_receiver : slice_get made.receivers place ≡ Some party
@@ -91,7 +91,7 @@ with_delivery c w frame party bytes =
 abbrev pub FlushDeliversNext : Type 0
 FlushDeliversNext =
     (c : Configuration) (w v : World) (frame party : ℕ) (made : Made) (steps : List Step) (entries : List Entry)
-    → IsNext c w frame party made → StepsLead c (with_delivery c w frame party made.bytes) (flush ∷ steps) entries v
+    → IsNextDelivery c w frame party made → StepsLead c (with_delivery c w frame party made.bytes) (flush ∷ steps) entries v
     → StepsLead c w (flush ∷ steps) (Got party made.bytes ∷ entries) v
 
 -- It feeds no other input first.
@@ -99,7 +99,7 @@ abbrev pub FlushDeliversNoOther : Type 0
 FlushDeliversNoOther =
     (c : Configuration) (w v : World) (input : Entry) (entries : List Entry)
     → is_output input ≡ false → StepsLead c w (flush ∷ []) (input ∷ entries) v
-    → (frame : ℕ) × (party : ℕ) × (made : Made) × IsNext c w frame party made × (input ≡ Got party made.bytes)
+    → (frame : ℕ) × (party : ℕ) × (made : Made) × IsNextDelivery c w frame party made × (input ≡ Got party made.bytes)
     × StepsLead c (with_delivery c w frame party made.bytes) (flush ∷ []) entries v
 
 -- It ends if nothing is left.

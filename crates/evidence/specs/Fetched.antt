@@ -18,8 +18,8 @@ use Rattle.protocol.specs.Replica.Owed.{IsPromptReplica}
 use Rattle.protocol.specs.System.Run.{IsRun}
 use Rattle.protocol.specs.System.Texts.{IsText}
 use Rattle.evidence.specs.Examples.{four}
-use Rattle.evidence.specs.FirstOperation.{IsFrom}
-use Rattle.evidence.specs.Listed.{texts_from}
+use Rattle.evidence.specs.FirstOperation.{IsFrameFrom}
+use Rattle.evidence.specs.Listed.{texts_added}
 
 -- The frames: by their replica the checkpoints; the fetch of the root, and what answers it; and the same by their inner
 -- part, and by their page.
@@ -35,14 +35,14 @@ pub record FetchFrames : Type 0 where
 -- The replicas 1 to 3 have checkpoints of number 16 with the root of the pages, replica 0 asks, and replica 1 answers.
 pub record AreFetchFrames (c : Configuration) (page : ℕ → List ℕ) (w : FetchFrames) : Type 0 where
   pub checkpoints : (r : ℕ) → 0 < r → r < replicas c
-      → IsFrom c r (Checkpoint 16 (root_of_pages (all_pages page))) (others c r) (w.checkpoint r)
-  pub asks_root : IsFrom c 0 (Fetch 16 levels.Root 0) (others c 0) w.fetch_root
-  pub gives_root : IsFrom c 1 (Meta 16 levels.Root 0 (inner_digests (all_pages page))) (0 ∷ []) w.below_root
-  pub asks_inner : (j : ℕ) → j < 32 → IsFrom c 0 (Fetch 16 levels.Inner j) (others c 0) (w.fetch_inner j)
+      → IsFrameFrom c r (Checkpoint 16 (root_of_pages (all_pages page))) (others c r) (w.checkpoint r)
+  pub asks_root : IsFrameFrom c 0 (Fetch 16 levels.Root 0) (others c 0) w.fetch_root
+  pub gives_root : IsFrameFrom c 1 (Meta 16 levels.Root 0 (inner_digests (all_pages page))) (0 ∷ []) w.below_root
+  pub asks_inner : (j : ℕ) → j < 32 → IsFrameFrom c 0 (Fetch 16 levels.Inner j) (others c 0) (w.fetch_inner j)
   pub gives_inner : (j : ℕ) → j < 32
-      → IsFrom c 1 (Meta 16 levels.Inner j (page_digests (all_pages page) j)) (0 ∷ []) (w.below_inner j)
-  pub asks_page : (i : ℕ) → i < 1024 → IsFrom c 0 (Fetch 16 levels.Page i) (others c 0) (w.fetch_page i)
-  pub gives_page : (i : ℕ) → i < 1024 → IsFrom c 1 (Page 16 i (page i)) (0 ∷ []) (w.page i)
+      → IsFrameFrom c 1 (Meta 16 levels.Inner j (page_digests (all_pages page) j)) (0 ∷ []) (w.below_inner j)
+  pub asks_page : (i : ℕ) → i < 1024 → IsFrameFrom c 0 (Fetch 16 levels.Page i) (others c 0) (w.fetch_page i)
+  pub gives_page : (i : ℕ) → i < 1024 → IsFrameFrom c 1 (Page 16 i (page i)) (0 ∷ []) (w.page i)
 
 -- Each page is bytes, and fits a frame.
 abbrev pub FitFrames : (ℕ → List ℕ) → Type 0
@@ -69,8 +69,8 @@ pub record AreDifferentPages (page : ℕ → List ℕ) (n : ℕ) : Type 0 where
 
 -- The fetch of a page, the newest entry. If the page is the first of its inner part, the fetch of that part and the
 -- digests of its pages come before.
-abbrev pub asking : FetchFrames → List Entry → ℕ → List Entry
-asking w past i =
+abbrev pub fetching_page : FetchFrames → List Entry → ℕ → List Entry
+fetching_page w past i =
     Sent 0 (w.fetch_page i)
     ∷ (if i % 32 == 0 then Got 0 (w.below_inner (i / 32)) ∷ Sent 0 (w.fetch_inner (i / 32)) ∷ past else past)
 
@@ -78,10 +78,10 @@ asking w past i =
 -- checkpoint it asks for the root, and at each part for the next.
 abbrev pub fetching_pages : FetchFrames → ℕ → List Entry
 fetching_pages w zero =
-    asking w
+    fetching_page w
     (Got 0 w.below_root ∷ Sent 0 w.fetch_root
     ∷ Got 0 (w.checkpoint 3) ∷ Got 0 (w.checkpoint 2) ∷ Got 0 (w.checkpoint 1) ∷ []) 0
-fetching_pages w (suc n) = asking w (Got 0 (w.page n) ∷ fetching_pages w n) (suc n)
+fetching_pages w (suc n) = fetching_page w (Got 0 (w.page n) ∷ fetching_pages w n) (suc n)
 
 -- The laws below show this of the history, for each number of pages below 1,024 and whatever the pages.
 abbrev pub OfFetching : (Configuration → (ℕ → List ℕ) → ℕ → List Entry → Type 0) → Type 0
@@ -100,11 +100,11 @@ FetchedAreTaken = OfFetching (λ c page n trace. (i : ℕ) → i < n → took c 
 -- They add themselves alone: the texts whose digests must differ stand in a list of one for each page and at most 1,091
 -- others.
 abbrev pub FetchedAddThemselves : Type 0
-FetchedAddThemselves = OfFetching (λ c page n trace. length (texts_from c trace trace) ≤ n + 1091)
+FetchedAddThemselves = OfFetching (λ c page n trace. length (texts_added c trace trace) ≤ n + 1091)
 
 -- a law below shows this of a trace in which a replica installs
 abbrev pub OfInstalling : Configuration → List Entry → Type 0
-OfInstalling c trace = IsRun c trace × IsPromptReplica c 0 trace × (length (texts_from c trace trace) ≤ 1622)
+OfInstalling c trace = IsRun c trace × IsPromptReplica c 0 trace × (length (texts_added c trace trace) ≤ 1622)
 
 -- If they are all 513 pages of a state of number 16, the replica installs that state once the last page comes, and does
 -- all that it owes. The list has 1,058 texts of the null batch and the opening state, those 513, 18 of digests that

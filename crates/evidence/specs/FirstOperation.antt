@@ -32,7 +32,7 @@ pub record FirstFrames : Type 0 where
   pub reply : ℕ → List ℕ
 
 -- The bytes spell the sender's message, sealed for these receivers, and each of them hears it.
-pub record IsFrom (c : Configuration) (sender : ℕ) (message : Message) (receivers : List ℕ)
+pub record IsFrameFrom (c : Configuration) (sender : ℕ) (message : Message) (receivers : List ℕ)
     (bytes : List ℕ) : Type 0 where
   pub frame : Frame
   pub entries : List MacData
@@ -53,12 +53,12 @@ pub record AreFirstFrames (c : Configuration) (op : Operation) (batch : List ℕ
   pub operation : IsOperation op
   pub writes : is_read_only op ≡ false
   pub requests : requests_of batch ≡ w.request ∷ []
-  pub asks : IsFrom c 256 (Request 1 modes.Ordered op) (range_with_len 0 (replicas c)) w.request
-  pub proposes : IsFrom c 0 (PrePrepare 0 1 batch) (others c 0) w.pre_prepare
-  pub prepares : (r : ℕ) → r < replicas c → IsFrom c r (Prepare 0 1 (sha256 batch)) (others c r) (w.prepare r)
-  pub commits : (r : ℕ) → r < replicas c → IsFrom c r (Commit 0 1 (sha256 batch)) (others c r) (w.commit r)
+  pub asks : IsFrameFrom c 256 (Request 1 modes.Ordered op) (range_with_len 0 (replicas c)) w.request
+  pub proposes : IsFrameFrom c 0 (PrePrepare 0 1 batch) (others c 0) w.pre_prepare
+  pub prepares : (r : ℕ) → r < replicas c → IsFrameFrom c r (Prepare 0 1 (sha256 batch)) (others c r) (w.prepare r)
+  pub commits : (r : ℕ) → r < replicas c → IsFrameFrom c r (Commit 0 1 (sha256 batch)) (others c r) (w.commit r)
   pub replies : (r : ℕ) → r < replicas c
-      → IsFrom c r (Reply 256 1 modes.Ordered 1 (first_answer op)) (256 ∷ []) (w.reply r)
+      → IsFrameFrom c r (Reply 256 1 modes.Ordered 1 (first_answer op)) (256 ∷ []) (w.reply r)
 
 -- The trace, the oldest first: the call; its request at each replica; the pre-prepare at each backup; each prepare,
 -- then each commit and each reply at each of its receivers, in the order in which they were sent.
@@ -143,5 +143,5 @@ SealedFramesAreHeard =
     → (Has (λ r. r ≡ sender) receivers → ⊥)
     → length (sealed_bytes c sender receivers
     (body_spelling (record { sender = sender; message = message }))) ≤ frame_limit message
-    → IsFrom c sender message receivers
+    → IsFrameFrom c sender message receivers
     (sealed_bytes c sender receivers (body_spelling (record { sender = sender; message = message })))

@@ -44,17 +44,17 @@ texts_at c trace past (Installed r k root) =
 texts_at c trace past _ = []
 
 -- what the entries of a beginning add to the null batch and the texts of the opening state
-abbrev pub texts_from : Configuration → List Entry → List Entry → List (List ℕ)
-texts_from c trace [] = null_batch ∷ state_texts opening
-texts_from c trace (e ∷ past) = texts_at c trace past e ++ texts_from c trace past
+abbrev pub texts_added : Configuration → List Entry → List Entry → List (List ℕ)
+texts_added c trace [] = null_batch ∷ state_texts opening
+texts_added c trace (e ∷ past) = texts_at c trace past e ++ texts_added c trace past
 
 -- Each text stands in the list, in whatever trace, whoever its parties are and whatever they do,
 abbrev pub TextsAreListed : Type 0
 TextsAreListed =
     (c : Configuration) (trace : List Entry) (text : List ℕ) → IsText c trace text
-    → Has (λ x. x ≡ text) (texts_from c trace trace)
+    → Has (λ x. x ≡ text) (texts_added c trace trace)
 
 -- and the list is no longer than this.
 abbrev pub ListsAreShort : Type 0
 ListsAreShort =
-    (c : Configuration) (trace : List Entry) → length (texts_from c trace trace) ≤ 1057 * length trace + 1058
+    (c : Configuration) (trace : List Entry) → length (texts_added c trace trace) ≤ 1057 * length trace + 1058

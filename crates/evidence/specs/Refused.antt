@@ -458,7 +458,7 @@ FetchesWhatDiffers =
 
 -- An event, an input with its outputs (the newest first), of a correct replica that goes on: it sends a frame after a
 -- later input, so it has not stopped.
-pub record GoesOn (c : Configuration) (me : ℕ) (outputs : List Entry) (input : Entry) (past : List Entry) : Type 0 where
+pub record ReplicaGoesOn (c : Configuration) (me : ℕ) (outputs : List Entry) (input : Entry) (past : List Entry) : Type 0 where
   pub is_input : is_output input ≡ false
   pub are_outputs : AreOutputs outputs
   pub next : Entry
@@ -475,7 +475,7 @@ AnswersReads =
     → heard (members c) me bytes ≡ Some (record { sender = client; message = Request timestamp modes.ReadOnly op })
     → is_read_only op ≡ true
     → AtEachPoint c me past (λ point. outcome (tuples point.state) (client_number client) op ≡ answer)
-    → GoesOn c me outputs (Got me bytes) past
+    → ReplicaGoesOn c me outputs (Got me bytes) past
     → SendsMessage me (Reply client timestamp modes.ReadOnly (newest_number past) answer) outputs
 
 -- A fetch of digests, or of a page, of a kept state, which the replica receives and does not answer to its sender.
@@ -485,7 +485,7 @@ AnswersDigestFetches =
     → heard (members c) me bytes ≡ Some (record { sender = s; message = Fetch st.number level index })
     → has_children level ≡ true
     → AtEachPoint c me past (λ point. Has (λ x. x ≡ st) (kept_states (low c me past) point.snapshots))
-    → GoesOn c me outputs (Got me bytes) past
+    → ReplicaGoesOn c me outputs (Got me bytes) past
     → GivesTo me s (Meta st.number level index (digests_at st level index)) outputs
 
 abbrev pub AnswersPageFetches : Type 0
@@ -493,7 +493,7 @@ AnswersPageFetches =
     (c : Configuration) (me s index : ℕ) (st : State) (bytes : List ℕ) (outputs past : List Entry)
     → heard (members c) me bytes ≡ Some (record { sender = s; message = Fetch st.number levels.Page index })
     → AtEachPoint c me past (λ point. Has (λ x. x ≡ st) (kept_states (low c me past) point.snapshots))
-    → GoesOn c me outputs (Got me bytes) past
+    → ReplicaGoesOn c me outputs (Got me bytes) past
     → GivesTo me s (Page st.number index (page_text st index)) outputs
 
 -- The replica receives the digests below the root that its transfer awaits. It fetches no part of that state, while
@@ -507,7 +507,7 @@ AsksOn =
     → ((other : List ℕ) → IsRootWanted c (Got me bytes ∷ past) k other → other ≡ digest_of_children digests)
     → AtEachPoint c me past (λ point.
     root_of_pages (all_pages (in_place c me k (Got me bytes ∷ past) point.state)) ≢ digest_of_children digests)
-    → GoesOn c me outputs (Got me bytes) past → Has (λ e. fetch_sent e ≡ k) outputs
+    → ReplicaGoesOn c me outputs (Got me bytes) past → Has (λ e. fetch_sent e ≡ k) outputs
 
 -- The replica receives the last page that its transfer awaits, and does not install the state that the pages in place
 -- are then.
@@ -523,14 +523,14 @@ InstallsFetched =
     (root_of_pages (all_pages (in_place c me k (Got me bytes ∷ past) point.state))) new
     × ((client : ℕ) → last_time point.state client ≤ last_time new.state client))
     → (Has (λ e. fetch_sent e ≡ k) outputs → ⊥)
-    → GoesOn c me outputs (Got me bytes) past → k ≤ newest_number (outputs ++ Got me bytes ∷ past)
+    → ReplicaGoesOn c me outputs (Got me bytes) past → k ≤ newest_number (outputs ++ Got me bytes ∷ past)
 
 -- A request of the last timestamp that the replica receives again, and does not answer with the kept reply.
 abbrev pub AnswersAgain : Type 0
 AnswersAgain =
     (c : Configuration) (me k : ℕ) (op : Operation) (kept : Kept) (bytes : List ℕ) (outputs past : List Entry)
     → heard (members c) me bytes ≡ Some (record { sender = client_party k; message = Request kept.timestamp modes.Ordered op })
-    → AtEachPoint c me past (λ point. kept_of point.state k ≡ Some kept) → GoesOn c me outputs (Got me bytes) past
+    → AtEachPoint c me past (λ point. kept_of point.state k ≡ Some kept) → ReplicaGoesOn c me outputs (Got me bytes) past
     → SendsMessage me (reply_of k kept) outputs
 
 -- A request that ran in the event, and gets no reply.
@@ -538,7 +538,7 @@ abbrev pub AnswersRan : Type 0
 AnswersRan =
     (c : Configuration) (me : ℕ) (ran : Ran) (input : Entry) (outputs past : List Entry)
     → AtEachPoint c me (outputs ++ input ∷ past) (λ point. Has (λ x. x ≡ ran) point.ran)
-    → GoesOn c me outputs input past
+    → ReplicaGoesOn c me outputs input past
     → SendsMessage me (reply_of ran.call.client ran.kept) outputs
 
 -- A batch that an active backup logs, and does not prepare.
@@ -546,7 +546,7 @@ abbrev pub PreparesLogged : Type 0
 PreparesLogged =
     (c : Configuration) (me v i : ℕ) (batch : List ℕ) (input : Entry) (outputs past : List Entry)
     → logged c me past v i ≡ None → logged c me (outputs ++ input ∷ past) v i ≡ Some batch
-    → is_active_in c (outputs ++ input ∷ past) v ≡ true → primary c v ≢ me → GoesOn c me outputs input past
+    → is_active_in c (outputs ++ input ∷ past) v ≡ true → primary c v ≢ me → ReplicaGoesOn c me outputs input past
     → SendsMessage me (Prepare v i (sha256 batch)) outputs
 
 -- A batch that becomes prepared at an active replica, which does not commit it.
@@ -554,7 +554,7 @@ abbrev pub CommitsPrepared : Type 0
 CommitsPrepared =
     (c : Configuration) (me v i : ℕ) (batch : List ℕ) (input : Entry) (outputs past : List Entry)
     → (Prepared c me past v i batch → ⊥) → Prepared c me (outputs ++ input ∷ past) v i batch
-    → is_active_in c (outputs ++ input ∷ past) v ≡ true → GoesOn c me outputs input past
+    → is_active_in c (outputs ++ input ∷ past) v ≡ true → ReplicaGoesOn c me outputs input past
     → SendsMessage me (Commit v i (sha256 batch)) outputs
 
 -- A committed batch that comes next, and is left.
@@ -562,7 +562,7 @@ abbrev pub ExecutesCommitted : Type 0
 ExecutesCommitted =
     (c : Configuration) (me v : ℕ) (batch : List ℕ) (input : Entry) (outputs past : List Entry)
     → Committed c me (outputs ++ input ∷ past) v (suc (newest_number (outputs ++ input ∷ past))) batch
-    → GoesOn c me outputs input past → ⊥
+    → ReplicaGoesOn c me outputs input past → ⊥
 
 -- A waiting request that the active primary leaves without a number, while one is free.
 abbrev pub NumbersWaiting : Type 0
@@ -571,7 +571,7 @@ NumbersWaiting =
     → is_active_in c (outputs ++ input ∷ past) v ≡ true → primary c v ≡ me
     → AtEachPoint c me (outputs ++ input ∷ past) (λ point. Has (λ x. x ≡ call) point.waiting)
     → is_in_marks c (low c me (outputs ++ input ∷ past)) i ≡ true → i ≤ newest_number (outputs ++ input ∷ past) + 2
-    → ((j : ℕ) → i ≤ j → logged c me (outputs ++ input ∷ past) v j ≡ None) → GoesOn c me outputs input past
+    → ((j : ℕ) → i ≤ j → logged c me (outputs ++ input ∷ past) v j ≡ None) → ReplicaGoesOn c me outputs input past
     → IsNumbered c me (outputs ++ input ∷ past) v call.client call.timestamp
 
 -- A pre-prepare of a new number with a request that the view has numbered before.
@@ -582,7 +582,7 @@ NumbersNoneTwice =
     → said bytes ≡ Some (record { sender = me; message = PrePrepare v i batch })
     → logged c me (older ++ input ∷ past) v i ≡ None
     → HasRequest c client timestamp batch → IsNumbered c me (older ++ input ∷ past) v client timestamp
-    → GoesOn c me (newer ++ Sent me bytes ∷ older) input past → ⊥
+    → ReplicaGoesOn c me (newer ++ Sent me bytes ∷ older) input past → ⊥
 
 -- A pre-prepare of a new number with two requests of one client and timestamp.
 abbrev pub NumbersNoneTogether : Type 0
@@ -595,14 +595,14 @@ NumbersNoneTogether =
     → call_of c (slice_index_or (requests_of batch) one []) ≡ Some call
     → call_of c (slice_index_or (requests_of batch) other []) ≡ Some twin
     → call.client ≡ twin.client → call.timestamp ≡ twin.timestamp
-    → GoesOn c me (newer ++ Sent me bytes ∷ older) input past → ⊥
+    → ReplicaGoesOn c me (newer ++ Sent me bytes ∷ older) input past → ⊥
 
 -- A quorum of checkpoints above the state and above the open transfer that starts none.
 abbrev pub FetchesAhead : Type 0
 FetchesAhead =
     (c : Configuration) (me k : ℕ) (root : List ℕ) (input : Entry) (outputs past : List Entry)
     → is_quorum c (count_checkpoints c (outputs ++ input ∷ past) (record { number = k; digest = root })) ≡ true
-    → newest_number (outputs ++ input ∷ past) < k → fetching past < k → GoesOn c me outputs input past
+    → newest_number (outputs ++ input ∷ past) < k → fetching past < k → ReplicaGoesOn c me outputs input past
     → SendsMessage me (Fetch k levels.Root 0) outputs
 
 -- A new view that starts above the state and above the open transfer, and starts none.
@@ -610,20 +610,20 @@ abbrev pub FetchesStarts : Type 0
 FetchesStarts =
     (c : Configuration) (me k : ℕ) (new : NewViewData) (input : Entry) (outputs past : List Entry)
     → Once (λ earlier e. (taken c earlier e ≡ Some new) × (fetching earlier < k)) (outputs ++ input ∷ past)
-    → new.start ≡ k → newest_number (outputs ++ input ∷ past) < k → fetching past < k → GoesOn c me outputs input past
+    → new.start ≡ k → newest_number (outputs ++ input ∷ past) < k → fetching past < k → ReplicaGoesOn c me outputs input past
     → SendsMessage me (Fetch k levels.Root 0) outputs
 
 -- A tick at which the replica does not send the last fetch of an open transfer again.
 abbrev pub FetchesAgain : Type 0
 FetchesAgain =
     (c : Configuration) (me k index : ℕ) (level : Level) (outputs past : List Entry)
-    → asked_last past ≡ Some (k, (level, index)) → newest_number past < k → GoesOn c me outputs (Tick me) past
+    → asked_last past ≡ Some (k, (level, index)) → newest_number past < k → ReplicaGoesOn c me outputs (Tick me) past
     → SendsMessage me (Fetch k level index) outputs
 
 -- A reason to move to a view, and no view change for it or for a later one, while a frame says one and a key is left.
 abbrev pub MovesForReasons : Type 0
 MovesForReasons =
-    (c : Configuration) (me : ℕ) (input : Entry) (outputs past : List Entry) → GoesOn c me outputs input past
+    (c : Configuration) (me : ℕ) (input : Entry) (outputs past : List Entry) → ReplicaGoesOn c me outputs input past
     → (point : Point) × HistoryReaches c me past point
     × ((vc : ViewChangeData) (bytes : List ℕ) → IsNewViewChange c me (input ∷ past) point vc → is_within c vc ≡ true
     → said bytes ≡ Some (record { sender = me; message = ViewChange vc })
@@ -639,7 +639,7 @@ MovesForReasons =
 abbrev pub SendsCheckpoints : Type 0
 SendsCheckpoints =
     (c : Configuration) (me k : ℕ) (input : Entry) (outputs past : List Entry)
-    → Once (Executes k) outputs → k % c.period ≡ 0 → GoesOn c me outputs input past
+    → Once (Executes k) outputs → k % c.period ≡ 0 → ReplicaGoesOn c me outputs input past
     → (point : Point) × HistoryReaches c me (outputs ++ input ∷ past) point
     × Has (λ st. (st.number ≡ k) × SendsMessage me (Checkpoint k (root_of st)) outputs) point.snapshots
 

@@ -152,7 +152,7 @@ CallsOperations =
 -- ---- inputs that a correct replica drops
 
 -- The input, of this sender and message, is answered by a frame.
-pub record Answers (c : Configuration) (me s : ℕ) (message : Message) (bytes : List ℕ)
+pub record FrameAnswersInput (c : Configuration) (me s : ℕ) (message : Message) (bytes : List ℕ)
     (past : List Entry) : Type 0 where
   pub hears : heard (members c) me bytes ≡ Some (record { sender = s; message = message })
   pub later : List ℕ
@@ -162,20 +162,20 @@ pub record Answers (c : Configuration) (me s : ℕ) (message : Message) (bytes :
 abbrev pub DropsWrites : Type 0
 DropsWrites =
     (c : Configuration) (me s timestamp : ℕ) (op : Operation) (bytes : List ℕ) (past : List Entry)
-    → is_read_only op ≡ false → Answers c me s (Request timestamp modes.ReadOnly op) bytes past → ⊥
+    → is_read_only op ≡ false → FrameAnswersInput c me s (Request timestamp modes.ReadOnly op) bytes past → ⊥
 
 -- An ordered request by a replica.
 abbrev pub DropsRequestsOfReplicas : Type 0
 DropsRequestsOfReplicas =
     (c : Configuration) (me s timestamp : ℕ) (op : Operation) (bytes : List ℕ) (past : List Entry)
-    → s < FIRST_CLIENT → Answers c me s (Request timestamp modes.Ordered op) bytes past → ⊥
+    → s < FIRST_CLIENT → FrameAnswersInput c me s (Request timestamp modes.Ordered op) bytes past → ⊥
 
 -- An ordered request older than the client's last.
 abbrev pub DropsOldRequests : Type 0
 DropsOldRequests =
     (c : Configuration) (me k timestamp : ℕ) (op : Operation) (bytes : List ℕ) (past : List Entry)
     → AtEachPoint c me past (λ point. timestamp < last_time point.state k)
-    → Answers c me (client_party k) (Request timestamp modes.Ordered op) bytes past → ⊥
+    → FrameAnswersInput c me (client_party k) (Request timestamp modes.Ordered op) bytes past → ⊥
 
 -- An ordered request older than one of the client's that waits, or another of its timestamp, and not the last that ran.
 abbrev pub DropsPassedRequests : Type 0
@@ -185,91 +185,91 @@ DropsPassedRequests =
     (λ point. (last_time point.state k ≢ timestamp)
     × Has (λ call. (call.client ≡ k) × (timestamp ≤ call.timestamp)
     × (call.timestamp ≡ timestamp → call.op ≢ op)) point.waiting)
-    → Answers c me (client_party k) (Request timestamp modes.Ordered op) bytes past → ⊥
+    → FrameAnswersInput c me (client_party k) (Request timestamp modes.Ordered op) bytes past → ⊥
 
 -- A pre-prepare by another than the view's primary, one while not active in the view, one outside the marks, and a
 -- second one for a number that is logged.
 abbrev pub DropsPrePreparesOfBackups : Type 0
 DropsPrePreparesOfBackups =
     (c : Configuration) (me s v i : ℕ) (batch bytes : List ℕ) (past : List Entry)
-    → primary c v ≢ s → Answers c me s (PrePrepare v i batch) bytes past → ⊥
+    → primary c v ≢ s → FrameAnswersInput c me s (PrePrepare v i batch) bytes past → ⊥
 
 abbrev pub DropsPrePreparesWhileInactive : Type 0
 DropsPrePreparesWhileInactive =
     (c : Configuration) (me s v i : ℕ) (batch bytes : List ℕ) (past : List Entry)
-    → is_active_in c past v ≡ false → Answers c me s (PrePrepare v i batch) bytes past → ⊥
+    → is_active_in c past v ≡ false → FrameAnswersInput c me s (PrePrepare v i batch) bytes past → ⊥
 
 abbrev pub DropsPrePreparesOutsideMarks : Type 0
 DropsPrePreparesOutsideMarks =
     (c : Configuration) (me s v i : ℕ) (batch bytes : List ℕ) (past : List Entry)
-    → is_in_marks c (low c me past) i ≡ false → Answers c me s (PrePrepare v i batch) bytes past → ⊥
+    → is_in_marks c (low c me past) i ≡ false → FrameAnswersInput c me s (PrePrepare v i batch) bytes past → ⊥
 
 abbrev pub DropsSecondPrePrepares : Type 0
 DropsSecondPrePrepares =
     (c : Configuration) (me s v i : ℕ) (batch other bytes : List ℕ) (past : List Entry)
-    → logged c me past v i ≡ Some other → Answers c me s (PrePrepare v i batch) bytes past → ⊥
+    → logged c me past v i ≡ Some other → FrameAnswersInput c me s (PrePrepare v i batch) bytes past → ⊥
 
 -- A prepare by the view's primary; a prepare, or a commit, while not active in the view; and a replica's second for one
 -- view and number.
 abbrev pub DropsPreparesOfPrimaries : Type 0
 DropsPreparesOfPrimaries =
     (c : Configuration) (me s v i : ℕ) (digest bytes : List ℕ) (past : List Entry)
-    → primary c v ≡ s → Answers c me s (Prepare v i digest) bytes past → ⊥
+    → primary c v ≡ s → FrameAnswersInput c me s (Prepare v i digest) bytes past → ⊥
 
 abbrev pub DropsPreparesWhileInactive : Type 0
 DropsPreparesWhileInactive =
     (c : Configuration) (me s v i : ℕ) (digest bytes : List ℕ) (past : List Entry)
-    → is_active_in c past v ≡ false → Answers c me s (Prepare v i digest) bytes past → ⊥
+    → is_active_in c past v ≡ false → FrameAnswersInput c me s (Prepare v i digest) bytes past → ⊥
 
 abbrev pub DropsSecondPrepares : Type 0
 DropsSecondPrepares =
     (c : Configuration) (me s v i : ℕ) (digest first bytes : List ℕ) (past : List Entry)
-    → prepare_of c me past v i s ≡ Some first → Answers c me s (Prepare v i digest) bytes past → ⊥
+    → prepare_of c me past v i s ≡ Some first → FrameAnswersInput c me s (Prepare v i digest) bytes past → ⊥
 
 abbrev pub DropsCommitsWhileInactive : Type 0
 DropsCommitsWhileInactive =
     (c : Configuration) (me s v i : ℕ) (digest bytes : List ℕ) (past : List Entry)
-    → is_active_in c past v ≡ false → Answers c me s (Commit v i digest) bytes past → ⊥
+    → is_active_in c past v ≡ false → FrameAnswersInput c me s (Commit v i digest) bytes past → ⊥
 
 abbrev pub DropsSecondCommits : Type 0
 DropsSecondCommits =
     (c : Configuration) (me s v i : ℕ) (digest first bytes : List ℕ) (past : List Entry)
-    → commit_of c me past v i s ≡ Some first → Answers c me s (Commit v i digest) bytes past → ⊥
+    → commit_of c me past v i s ≡ Some first → FrameAnswersInput c me s (Commit v i digest) bytes past → ⊥
 
 -- A checkpoint at or below the low mark, of no number, or of a number of which the sender's was received before; and
 -- one below the three that are kept of its sender.
 abbrev pub DropsLowCheckpoints : Type 0
 DropsLowCheckpoints =
     (c : Configuration) (me s k : ℕ) (root bytes : List ℕ) (past : List Entry)
-    → k ≤ low c me past → Answers c me s (Checkpoint k root) bytes past → ⊥
+    → k ≤ low c me past → FrameAnswersInput c me s (Checkpoint k root) bytes past → ⊥
 
 abbrev pub DropsCheckpointsOfNoNumber : Type 0
 DropsCheckpointsOfNoNumber =
     (c : Configuration) (me s k : ℕ) (root bytes : List ℕ) (past : List Entry)
-    → 2 ^ 48 ≤ k → Answers c me s (Checkpoint k root) bytes past → ⊥
+    → 2 ^ 48 ≤ k → FrameAnswersInput c me s (Checkpoint k root) bytes past → ⊥
 
 abbrev pub DropsSecondCheckpoints : Type 0
 DropsSecondCheckpoints =
     (c : Configuration) (me s k : ℕ) (root bytes : List ℕ) (past : List Entry)
     → Has (λ (checkpoint : CheckpointEntry). checkpoint.number ≡ k) (checkpoints_of c past s)
-    → Answers c me s (Checkpoint k root) bytes past → ⊥
+    → FrameAnswersInput c me s (Checkpoint k root) bytes past → ⊥
 
 abbrev pub DropsPassedCheckpoints : Type 0
 DropsPassedCheckpoints =
     (c : Configuration) (me s k : ℕ) (root bytes : List ℕ) (a b d : CheckpointEntry) (past : List Entry)
     → checkpoints_of c past s ≡ a ∷ b ∷ d ∷ [] → k < d.number → d.number < b.number → b.number < a.number
-    → Answers c me s (Checkpoint k root) bytes past → ⊥
+    → FrameAnswersInput c me s (Checkpoint k root) bytes past → ⊥
 
 -- A view change not above the view, and one beyond its bounds.
 abbrev pub DropsLowChanges : Type 0
 DropsLowChanges =
     (c : Configuration) (me s : ℕ) (vc : ViewChangeData) (bytes : List ℕ) (past : List Entry)
-    → vc.view ≤ view c past → Answers c me s (ViewChange vc) bytes past → ⊥
+    → vc.view ≤ view c past → FrameAnswersInput c me s (ViewChange vc) bytes past → ⊥
 
 abbrev pub DropsUnboundChanges : Type 0
 DropsUnboundChanges =
     (c : Configuration) (me s : ℕ) (vc : ViewChangeData) (bytes : List ℕ) (past : List Entry)
-    → is_within c vc ≡ false → Answers c me s (ViewChange vc) bytes past → ⊥
+    → is_within c vc ≡ false → FrameAnswersInput c me s (ViewChange vc) bytes past → ⊥
 
 -- a party receives a view change within its bounds, signed by the replica
 abbrev pub GotChange : Configuration → ℕ → ViewChangeData → List Entry → Entry → Type 0
@@ -280,31 +280,31 @@ GotChange c s vc past _ = ⊥
 abbrev pub DropsPassedChanges : Type 0
 DropsPassedChanges =
     (c : Configuration) (me s : ℕ) (vc earlier : ViewChangeData) (bytes : List ℕ) (past : List Entry)
-    → Once (GotChange c s earlier) past → vc.view ≤ earlier.view → Answers c me s (ViewChange vc) bytes past → ⊥
+    → Once (GotChange c s earlier) past → vc.view ≤ earlier.view → FrameAnswersInput c me s (ViewChange vc) bytes past → ⊥
 
 -- A new view that is not taken.
 abbrev pub DropsNewViews : Type 0
 DropsNewViews =
     (c : Configuration) (me s : ℕ) (new : NewViewData) (bytes : List ℕ) (past : List Entry)
-    → taken c past (Got me bytes) ≡ None → Answers c me s (NewView new) bytes past → ⊥
+    → taken c past (Got me bytes) ≡ None → FrameAnswersInput c me s (NewView new) bytes past → ⊥
 
 -- A fetch of a number of which no state is kept.
 abbrev pub DropsFetches : Type 0
 DropsFetches =
     (c : Configuration) (me s k index : ℕ) (level : Level) (bytes : List ℕ) (past : List Entry)
-    → EachKept c me past (λ st. st.number ≢ k) → Answers c me s (Fetch k level index) bytes past → ⊥
+    → EachKept c me past (λ st. st.number ≢ k) → FrameAnswersInput c me s (Fetch k level index) bytes past → ⊥
 
 -- Digests, or a page, of a number not above the state's.
 abbrev pub DropsLowDigests : Type 0
 DropsLowDigests =
     (c : Configuration) (me s k index : ℕ) (level : Level) (digests : List (List ℕ)) (bytes : List ℕ)
     (past : List Entry)
-    → k ≤ newest_number past → Answers c me s (Meta k level index digests) bytes past → ⊥
+    → k ≤ newest_number past → FrameAnswersInput c me s (Meta k level index digests) bytes past → ⊥
 
 abbrev pub DropsLowPages : Type 0
 DropsLowPages =
     (c : Configuration) (me s k index : ℕ) (text bytes : List ℕ) (past : List Entry)
-    → k ≤ newest_number past → Answers c me s (Page k index text) bytes past → ⊥
+    → k ≤ newest_number past → FrameAnswersInput c me s (Page k index text) bytes past → ⊥
 
 -- the root is that of no quorum of checkpoints, and of no new view's start
 abbrev pub IsNoRoot : Configuration → List Entry → ℕ → List ℕ → Type 0
@@ -320,7 +320,7 @@ GotDigests c me past level index digests =
 abbrev pub DropsOtherRoots : Type 0
 DropsOtherRoots =
     (c : Configuration) (me s k index : ℕ) (digests : List (List ℕ)) (bytes : List ℕ) (past : List Entry)
-    → IsNoRoot c past k (digest_of_children digests) → Answers c me s (Meta k levels.Root index digests) bytes past → ⊥
+    → IsNoRoot c past k (digest_of_children digests) → FrameAnswersInput c me s (Meta k levels.Root index digests) bytes past → ⊥
 
 -- Digests of an inner part that no root's got digests say.
 abbrev pub DropsOtherDigests : Type 0
@@ -328,7 +328,7 @@ DropsOtherDigests =
     (c : Configuration) (me s k index : ℕ) (digests : List (List ℕ)) (bytes : List ℕ) (past : List Entry)
     → ((upper : List (List ℕ)) → GotDigests c me past levels.Root 0 upper
     → slice_get upper index ≡ Some (digest_of_children digests) → IsNoRoot c past k (digest_of_children upper))
-    → Answers c me s (Meta k levels.Inner index digests) bytes past → ⊥
+    → FrameAnswersInput c me s (Meta k levels.Inner index digests) bytes past → ⊥
 
 -- A page that no got digests say which a root's got digests say.
 abbrev pub DropsOtherPages : Type 0
@@ -338,7 +338,7 @@ DropsOtherPages =
     → GotDigests c me past levels.Inner (index / 32) lower
     → slice_get upper (index / 32) ≡ Some (digest_of_children lower) → slice_get lower (index % 32) ≡ Some (sha256 text)
     → IsNoRoot c past k (digest_of_children upper))
-    → Answers c me s (Page k index text) bytes past → ⊥
+    → FrameAnswersInput c me s (Page k index text) bytes past → ⊥
 
 -- ---- requests that wait. A right primary numbers each (NumbersWaiting of Refused).
 

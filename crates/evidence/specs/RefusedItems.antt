@@ -16,15 +16,15 @@ use Rattle.protocol.specs.Space.Linear.{Item, item_outcome, item_after, Legal, C
 -- ---- legal
 
 -- the tuples that these items leave, one after another
-abbrev pub left_by : Contents → List Item → Contents
-left_by ts [] = ts
-left_by ts (item ∷ items) = left_by (item_after ts item) items
+abbrev pub tuples_left_by : Contents → List Item → Contents
+tuples_left_by ts [] = ts
+tuples_left_by ts (item ∷ items) = tuples_left_by (item_after ts item) items
 
 -- An item whose answer is not that of the space which the items before it leave.
 abbrev pub AnswersAsOneSpace : Type 0
 AnswersAsOneSpace =
     (before after : List Item) (item : Item) → Legal (before ++ item ∷ after)
-    → item.answer ≡ item_outcome (left_by no_tuples before) item
+    → item.answer ≡ item_outcome (tuples_left_by no_tuples before) item
 
 -- ---- covers
 

@@ -30,13 +30,13 @@ GivesNoLowPages =
 -- ---- the checkpoints of a new view change
 
 -- a state of this number is installed here
-abbrev pub Installs : ℕ → List Entry → Entry → Type 0
-Installs k past (Installed r number root) = number ≡ k
-Installs k past _ = ⊥
+abbrev pub InstallsStateOf : ℕ → List Entry → Entry → Type 0
+InstallsStateOf k past (Installed r number root) = number ≡ k
+InstallsStateOf k past _ = ⊥
 
 -- the number is 0, or a multiple of the period that was executed, or was installed
 abbrev pub HasSnapshot : Configuration → ℕ → List Entry → Type 0
-HasSnapshot c k past = (k ≡ 0) ⊎ (((k % c.period ≡ 0) × Once (Executes k) past) ⊎ Once (Installs k) past)
+HasSnapshot c k past = (k ≡ 0) ⊎ (((k % c.period ≡ 0) × Once (Executes k) past) ⊎ Once (InstallsStateOf k) past)
 
 -- A new view change with another low mark than its sender's.
 abbrev pub ChangesFromLowMark : Type 0

@@ -12,7 +12,7 @@ use Rattle.protocol.specs.Replica.Certificates.{is_in_marks, latest_change, logg
 use Rattle.protocol.specs.Replica.RightReplica.{SentBefore}
 use Rattle.evidence.specs.Examples.{four}
 use Rattle.evidence.specs.ExamplesOfChanges.{ChangesInBeginning}
-use Rattle.evidence.specs.Refused.{GoesOn}
+use Rattle.evidence.specs.Refused.{ReplicaGoesOn}
 
 -- Another replica's view change came, above the view and within its bounds, and it is still that replica's latest.
 abbrev pub CameLast : Configuration → ℕ → List Entry → ℕ × ViewChangeData → Type 0
@@ -38,7 +38,7 @@ SendsNewViews =
     → Each (λ batch. (batch ≡ null_batch)
     ⊎ ((v i : ℕ) × (logged c me (outputs ++ input ∷ past) v i ≡ Some batch)
     × (is_in_marks c (low c me (outputs ++ input ∷ past)) i ≡ true))) new.batches
-    → GoesOn c me outputs input past
+    → ReplicaGoesOn c me outputs input past
     → (leaf : ℕ) → leaf < 64 → (sent : List ℕ) × (leaf_of sent ≡ Some leaf) × SentBefore sent (outputs ++ input ∷ past)
 
 -- In the beginning the primary of view 1 gets the view changes of two others for that view, and sends its own alone.
@@ -47,4 +47,4 @@ BeginsItsView =
     (clients : ℕ) (seed first second own : List ℕ)
     → ChangesInBeginning (four clients seed) 2 first → ChangesInBeginning (four clients seed) 3 second
     → ChangesInBeginning (four clients seed) 1 own
-    → GoesOn (four clients seed) 1 (Sent 1 own ∷ []) (Got 1 second) (Got 1 first ∷ []) → ⊥
+    → ReplicaGoesOn (four clients seed) 1 (Sent 1 own ∷ []) (Got 1 second) (Got 1 first ∷ []) → ⊥

@@ -10,7 +10,7 @@ use Rattle.protocol.specs.System.Trace.Entry.{Got}
 use Rattle.protocol.specs.Replica.Certificates.{view, target, is_active_in, low, is_in_marks, logged, prepare_of, commit_of}
 use Rattle.protocol.specs.Replica.State.{Call}
 use Rattle.protocol.specs.Replica.Owed.{SendsMessage, IsBegunBelow, latest_checkpoint}
-use Rattle.evidence.specs.Refused.{AtEachPoint, GoesOn}
+use Rattle.evidence.specs.Refused.{AtEachPoint, ReplicaGoesOn}
 
 -- The bytes are a request that waits already, and a correct replica that goes on gives these outputs to them.
 pub record GetsAgain (c : Configuration) (me : ℕ) (bytes : List ℕ) (outputs past : List Entry) : Type 0 where
@@ -18,7 +18,7 @@ pub record GetsAgain (c : Configuration) (me : ℕ) (bytes : List ℕ) (outputs 
   pub hears : heard (members c) me bytes
       ≡ Some (record { sender = client_party call.client; message = Request call.timestamp modes.Ordered call.op })
   pub waits : AtEachPoint c me past (λ point. Has (λ x. x ≡ call) point.waiting)
-  pub goes : GoesOn c me outputs (Got me bytes) past
+  pub goes : ReplicaGoesOn c me outputs (Got me bytes) past
 
 -- The replica is active in the view, and the number is in the marks, above the executed one.
 pub record IsRunning (c : Configuration) (me : ℕ) (past : List Entry) (v i : ℕ) : Type 0 where

@@ -118,9 +118,9 @@ FeedsEachTick =
     → Feeds c steps trace → length (filter (is_tick_of p) trace) ≡ length (filter (ticks_for p) steps)
 
 -- the party gets the frame
-abbrev pub Gets : ℕ → List ℕ → Entry → Type 0
-Gets q bytes (Got p got) = (p ≡ q) × (got ≡ bytes)
-Gets q bytes _ = ⊥
+abbrev pub PartyGetsFrame : ℕ → List ℕ → Entry → Type 0
+PartyGetsFrame q bytes (Got p got) = (p ≡ q) × (got ≡ bytes)
+PartyGetsFrame q bytes _ = ⊥
 
 -- After a flush, a frame, whoever made it, that one of its correct receivers did not get.
 abbrev pub FlushDeliversAll : Type 0
@@ -128,7 +128,7 @@ FlushDeliversAll =
     (c : Configuration) (steps : List Step) (i q : ℕ) (made : Made) (trace : List Entry)
     (feeds : Feeds c (steps ++ flush ∷ []) trace)
     → slice_get feeds.0.frames i ≡ Some made → Has (λ r. r ≡ q) made.receivers → is_correct c q ≡ true
-    → Has (Gets q made.bytes) trace
+    → Has (PartyGetsFrame q made.bytes) trace
 
 -- A frame that was sent, and that one of its correct receivers did not get.
 abbrev pub FlushDeliversSent : Type 0
@@ -136,7 +136,7 @@ FlushDeliversSent =
     (c : Configuration) (steps : List Step) (sender q : ℕ) (bytes : List ℕ) (frame : Frame) (trace : List Entry)
     → Feeds c (steps ++ flush ∷ []) trace → Has (λ e. e ≡ Sent sender bytes) trace
     → frame_of bytes ≡ Some frame → Has (λ r. r ≡ q) (meant_for c sender frame.authenticator) → is_correct c q ≡ true
-    → Has (Gets q bytes) trace
+    → Has (PartyGetsFrame q bytes) trace
 
 -- ---- a replica
 

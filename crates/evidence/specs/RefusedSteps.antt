@@ -16,7 +16,7 @@ use Rattle.protocol.specs.Space.Linear.{Item, IsLinear}
 use Rattle.protocol.specs.System.Run.{IsRun}
 use Rattle.protocol.specs.System.Schedule.{Step, calls, deliver, feed, seal, sign, ticks, flush, Made, meant_for, sealed_bytes, signed_bytes, IsAllowed, Feeds, Acceptance, IsReport}
 use Rattle.protocol.specs.Replica.RightReplica.{others}
-use Rattle.evidence.specs.RefusedRuns.{Gets}
+use Rattle.evidence.specs.RefusedRuns.{PartyGetsFrame}
 use Rattle.evidence.specs.Examples.{four}
 use Rattle.evidence.specs.FirstOperation.{FirstFrames, AreFirstFrames, first_answer, first_item, first_trace}
 use Rattle.wire_format.specs.Lists.{Each}
@@ -48,15 +48,15 @@ ReportsNoOther =
     → IsReport c trace accepted items → Has (λ x. x ≡ a) accepted → Once (IsAcceptance a) trace
 
 -- each acceptance is at a lower position than those after it
-abbrev pub Rise : List Acceptance → Type 0
-Rise [] = ⊤
-Rise (a ∷ accepted) = Each (λ b. a.position < b.position) accepted × Rise accepted
+abbrev pub PositionsRise : List Acceptance → Type 0
+PositionsRise [] = ⊤
+PositionsRise (a ∷ accepted) = Each (λ b. a.position < b.position) accepted × PositionsRise accepted
 
 -- A report in another order, or of one acceptance twice.
 abbrev pub ReportsInOrder : Type 0
 ReportsInOrder =
     (c : Configuration) (trace : List Entry) (accepted : List Acceptance) (items : List Item)
-    → IsReport c trace accepted items → Rise accepted
+    → IsReport c trace accepted items → PositionsRise accepted
 
 -- A report of a run whose items are not legal, don't cover the run, or are not placed.
 abbrev pub ReportsAreLinear : Type 0
@@ -92,18 +92,18 @@ FeedsWhatMayBeFed =
     (c : Configuration) (steps : List Step) (trace : List Entry) → Feeds c steps trace → Always (MayBeFed c) trace
 
 -- the party is one of the configuration
-abbrev pub IsParty : Configuration → ℕ → Type 0
-IsParty c p = (is_replica c p ≡ true) ⊎ (is_client c p ≡ true)
+abbrev pub IsPartyOf : Configuration → ℕ → Type 0
+IsPartyOf c p = (is_replica c p ≡ true) ⊎ (is_client c p ≡ true)
 
 -- 1 to 10 parties, ascending
 abbrev pub ArePartiesInOrder : Configuration → List ℕ → Type 0
-ArePartiesInOrder c ps = (1 ≤ length ps) × (length ps ≤ 10) × AllPairs (λ p q. p < q) ps × All (IsParty c) ps
+ArePartiesInOrder c ps = (1 ≤ length ps) × (length ps ≤ 10) × AllPairs (λ p q. p < q) ps × All (IsPartyOf c) ps
 
 -- A frame may be made outside the correct parties: a faulty party's, and a signed one a replica's with one of its 64
 -- leaves.
 abbrev pub MayMake : Configuration → Step → Type 0
 MayMake c (seal sender receivers body) =
-    IsParty c sender × (is_correct c sender ≡ false) × ArePartiesInOrder c receivers
+    IsPartyOf c sender × (is_correct c sender ≡ false) × ArePartiesInOrder c receivers
 MayMake c (sign replica leaf receivers body) =
     (is_replica c replica ≡ true) × (is_correct c replica ≡ false) × (leaf < 64) × ArePartiesInOrder c receivers
 MayMake c _ = ⊤
@@ -120,7 +120,7 @@ FlushDeliversSealed =
     (c : Configuration) (steps : List Step) (sender q : ℕ) (receivers body : List ℕ) (trace : List Entry)
     → Feeds c (steps ++ flush ∷ []) trace → Has (λ x. x ≡ seal sender receivers body) steps → Has (λ r. r ≡ q) receivers
     → is_correct c q ≡ true
-    → Has (Gets q (sealed_bytes c sender receivers body)) trace
+    → Has (PartyGetsFrame q (sealed_bytes c sender receivers body)) trace
 
 -- The same of one that a step signed.
 abbrev pub FlushDeliversSigned : Type 0
@@ -128,7 +128,7 @@ FlushDeliversSigned =
     (c : Configuration) (steps : List Step) (replica leaf q : ℕ) (receivers body : List ℕ) (trace : List Entry)
     → Feeds c (steps ++ flush ∷ []) trace → Has (λ x. x ≡ sign replica leaf receivers body) steps
     → Has (λ r. r ≡ q) receivers → is_correct c q ≡ true
-    → Has (Gets q (signed_bytes c replica leaf body)) trace
+    → Has (PartyGetsFrame q (signed_bytes c replica leaf body)) trace
 
 -- A sealed frame with another after it that an output of the event before it sent: steps come between events.
 abbrev pub SealedIsNewest : Type 0

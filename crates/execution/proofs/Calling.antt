@@ -20,11 +20,11 @@ use Rattle.wire_format.proofs.Saying.{reads_said}
 use Rattle.wire_format.proofs.Telling.{carries_frames, reads_batches}
 use Rattle.protocol.specs.System.Configuration.{Configuration, is_client}
 use Rattle.protocol.specs.Replica.State.{Call, call_in}
-use Rattle.execution.specs.Calls.{HoldsCall, IsCallOf}
+use Rattle.execution.specs.Calls.{HoldsCall, IsCallOfFrame}
 
 -- the call of a frame is that of its body
 call_said : (clients : ℕ) (frame : List ℕ) (body : BodyData) (call : Option Call)
-    → HasBody frame body → ((c : Configuration) → c.clients ≡ clients → call_in c body ≡ call) → IsCallOf clients frame call
+    → HasBody frame body → ((c : Configuration) → c.clients ≡ clients → call_in c body ≡ call) → IsCallOfFrame clients frame call
 call_said clients frame body call s h = λ c e. ap (option_and_then (call_in c)) (reads_said frame s.0 s.1 ∙ ap Some s.2) ∙ h c e
 
 -- other messages are no calls
@@ -35,17 +35,17 @@ no_request c body other = go body.message other
     go (request timestamp mode op) e = absurd (let g : ⊥ = cc in g)
     go _ e = refl
 
-pub no_call_of_others : (clients : ℕ) (frame : List ℕ) → IsFrame frame → has_type_of_requests frame ≡ false → IsCallOf clients frame None
+pub no_call_of_others : (clients : ℕ) (frame : List ℕ) → IsFrame frame → has_type_of_requests frame ≡ false → IsCallOfFrame clients frame None
 no_call_of_others clients frame is other =
     call_said clients frame is.0.body None (is.0, is.1, refl) (λ c e. no_request c is.0.body (ap has_type_of_requests (sym is.1.spelled) ∙ other))
 
 module _ (clients : ℕ) (frame : List ℕ) (it : RequestBytes) (holds : HoldsRequest frame it) where
   in_request : (call : Option Call)
       → ((c : Configuration) → c.clients ≡ clients → call_in c (record { sender = party_number it.sender; message = request it.timestamp.0 it.mode holds.op }) ≡ call)
-      → IsCallOf clients frame call
+      → IsCallOfFrame clients frame call
   in_request call h = call_said clients frame (record { sender = party_number it.sender; message = request it.timestamp.0 it.mode holds.op }) call holds.body h
 
-  pub no_call_of_reads : it.mode ≡ modes.ReadOnly → IsCallOf clients frame None
+  pub no_call_of_reads : it.mode ≡ modes.ReadOnly → IsCallOfFrame clients frame None
   no_call_of_reads e = in_request None (λ c k. ap (λ (m : Mode). call_in c (record { sender = party_number it.sender; message = request it.timestamp.0 m holds.op })) e)
 
   no_client : (c : Configuration) → is_client c (party_number it.sender) ≡ false → call_in c (record { sender = party_number it.sender; message = request it.timestamp.0 it.mode holds.op }) ≡ None
@@ -55,7 +55,7 @@ module _ (clients : ℕ) (frame : List ℕ) (it : RequestBytes) (holds : HoldsRe
       go modes.ReadOnly = refl
       go modes.Ordered = rw e refl
 
-  pub no_call_of_replicas : party_number it.sender < 256 → IsCallOf clients frame None
+  pub no_call_of_replicas : party_number it.sender < 256 → IsCallOfFrame clients frame None
   no_call_of_replicas below = in_request None (λ c k. no_client c (ap (λ b. b && ltb (party_number it.sender) (256 + c.clients)) (lt-leb 256 (party_number it.sender) below)))
 
   -- only clients of the configuration call
@@ -69,7 +69,7 @@ module _ (clients : ℕ) (frame : List ℕ) (it : RequestBytes) (holds : HoldsRe
       go true = over
       go false = refl
 
-  pub no_call_of_strangers : (number : ℕ) → party_number it.sender ≡ 256 + number → clients ≤ number → IsCallOf clients frame None
+  pub no_call_of_strangers : (number : ℕ) → party_number it.sender ≡ 256 + number → clients ≤ number → IsCallOfFrame clients frame None
   no_call_of_strangers number from many = in_request None (λ c k. no_client c (stranger c (party_number it.sender) (omega (arith, many, k, from))))
 
   module _ (client : ClientId) (from : party_number it.sender ≡ 256 + client.number) where

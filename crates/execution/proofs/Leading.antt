@@ -9,9 +9,9 @@ use Rattle.space.proofs.Batches.{next_after}
 use Rattle.wire_format.specs.Words.{requests_of}
 use Rattle.protocol.specs.System.Configuration.{Configuration}
 use Rattle.protocol.specs.Replica.State.{State, run_frame, ran_in, execute}
-use Rattle.execution.specs.Executed.{ExecutedData, Executes, told_of}
-use Rattle.execution.specs.Running.{SoFar, state_with, state_of, frame_ran, Runs, RunsAll}
-use Rattle.execution.specs.Touching.{RepliesState, Changes}
+use Rattle.execution.specs.Executed.{ExecutedData, ExecutesBatchText, told_of}
+use Rattle.execution.specs.Running.{SoFar, state_with, state_of, frame_ran, RunsOneFrame, RunsAll}
+use Rattle.execution.specs.Touching.{RepliesState, ChangesAreTouched}
 
 -- ---- one frame
 
@@ -28,7 +28,7 @@ pub record Left (clients number : ℕ) (xs : List (Bor (List ℕ))) (x y : SoFar
       → x.told ++ map told_of (ran_in c number (state_of n x) (texts xs)) ≡ y.told ++ map told_of (ran_in c number (state_of n y) (texts (drop i xs)))
 
 pub goes_on : (clients number : ℕ) (xs : List (Bor (List ℕ))) (x y z : SoFar) (i : ℕ) (d : Bor (List ℕ)) → i < length xs
-    → Left clients number xs x y i → Runs clients number (get_or xs i d).now y z → Left clients number xs x z (i + 1)
+    → Left clients number xs x y i → RunsOneFrame clients number (get_or xs i d).now y z → Left clients number xs x z (i + 1)
 goes_on clients number xs x y z i d l left step = record {
   states = λ c n e.
       let k = step c n e in
@@ -55,7 +55,7 @@ ends clients number xs x y i e left = λ c n m. record {
 
 pub executes : (old new : ExecutedData) (number : ℕ) (batch : List ℕ) (frames : List (List ℕ)) (x y : SoFar)
     → state_of old.state.number x ≡ old.state → x.told ≡ [] → frames ≡ requests_of batch → number ≡ suc old.state.number
-    → new.state ≡ state_of number y → RunsAll old.clients number frames x y → Executes old batch y.told new
+    → new.state ≡ state_of number y → RunsAll old.clients number frames x y → ExecutesBatchText old batch y.told new
 unfolding execute
 executes old new number batch frames x y was none same next is run = λ c e.
     let k = run c old.state.number e in
@@ -73,7 +73,7 @@ executes old new number batch frames x y was none same next is run = λ c e.
 
 -- ---- changes
 
-pub changes_on : (w w' w'' : WatchedState) (r r' r'' : RepliesState) → Changes w r w' r' → Changes w' r' w'' r'' → Changes w r w'' r''
+pub changes_on : (w w' w'' : WatchedState) (r r' r'' : RepliesState) → ChangesAreTouched w r w' r' → ChangesAreTouched w' r' w'' r'' → ChangesAreTouched w r w'' r''
 changes_on w w' w'' r r' r'' one two = record {
   space = λ page l h. let b = two.space page l h in let a = one.space page l b.0 in (a.0, b.1 ∙ a.1);
   replies = λ client l h. let b = two.replies client l h in let a = one.replies client l b.0 in (a.0, b.1 ∙ a.1);

@@ -9,8 +9,8 @@ use Rattle.tuple_tree.specs.Values.{TupleTree, IsTuple}
 use Rattle.tuple_tree.specs.Spelling.{tuple_spelling}
 use Rattle.tuple_codec.specs.Spelling.{outcome_spelling}
 use Rattle.tuple_codec.proofs.Lengths.{tuple_short, outcome_short}
-use Rattle.space.specs.Births.{Entry, SpaceState, IsState as IsSpace}
-use Rattle.space.specs.Pages.{stored_text, entry_text, entries_text, on_page, page_text as tuple_page}
+use Rattle.space.specs.Births.{BornTuple, SpaceState, IsState as IsSpace}
+use Rattle.space.specs.Pages.{stored_text, entry_text, entries_text, on_page, tuple_page_text as tuple_page}
 use Rattle.space.specs.declared.version.Version.{Version}
 use Rattle.space.specs.declared.version.Version.TheVariants as versions
 use Rattle.reply_cache.specs.Replies.{Kept, IsReply}
@@ -31,14 +31,14 @@ stored_short : (v : Version) (t : TupleTree) → IsTuple t → length (stored_te
 stored_short versions.One t h = let l = tuple_short t h in omega arith
 stored_short versions.Two t h = let l = tuple_short t h in let n = length-append (to_be_bytes w16 (length (tuple_spelling t))) (tuple_spelling t) in omega arith
 
-entry_short : (v : Version) (e : Entry) → IsTuple e.1 → length (entry_text v e) ≤ 1034
+entry_short : (v : Version) (e : BornTuple) → IsTuple e.1 → length (entry_text v e) ≤ 1034
 entry_short v e h = let l = stored_short v e.1 h in let n = length-append (to_be_bytes w64 e.0) (stored_text v e.1) in omega arith
 
-entries_short : (v : Version) (es : List Entry) → All (λ e. IsTuple e.1) es → length (entries_text v es) ≤ 1034 * length es
+entries_short : (v : Version) (es : List BornTuple) → All (λ e. IsTuple e.1) es → length (entries_text v es) ≤ 1034 * length es
 entries_short v [] h = omega arith
 entries_short v (e ∷ es) h =
-    let first = entry_short v e (All-head (λ (x : Entry). IsTuple x.1) e es h) in
-    let rest = entries_short v es (All-tail (λ (x : Entry). IsTuple x.1) e es h) in
+    let first = entry_short v e (All-head (λ (x : BornTuple). IsTuple x.1) e es h) in
+    let rest = entries_short v es (All-tail (λ (x : BornTuple). IsTuple x.1) e es h) in
     let n = length-append (entry_text v e) (entries_text v es) in
     omega arith
 
@@ -46,8 +46,8 @@ tuples_short : (s : SpaceState) (page : ℕ) → IsSpace s → length (tuple_pag
 unfolding on_page
 tuples_short s page h =
     let few = h.pages page in
-    let n = length-filter (λ (e : Entry). e.0 % 256 == page) s.entries in
-    let l = entries_short s.version (on_page page s.entries) (All-filter (λ (e : Entry). e.0 % 256 == page) (λ (e : Entry). IsTuple e.1) s.entries h.tuples) in
+    let n = length-filter (λ (e : BornTuple). e.0 % 256 == page) s.entries in
+    let l = entries_short s.version (on_page page s.entries) (All-filter (λ (e : BornTuple). e.0 % 256 == page) (λ (e : BornTuple). IsTuple e.1) s.entries h.tuples) in
     omega arith
 
 -- ---- replies

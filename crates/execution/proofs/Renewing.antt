@@ -7,7 +7,7 @@ use Rattle.std.proofs.lemmas.List.{get_or-replicate, get_or_past, length-replica
 use Rattle.std.proofs.lemmas.List.Elements.{All-head, All-tail, All-push}
 use Rattle.space.specs.Watching.{WatchedState, is_changed, is_touched as is_space_touched}
 use Rattle.space.proofs.Touching.{written_whole}
-use Rattle.reply_cache.specs.Pages.{page_text as reply_page, reply_text}
+use Rattle.reply_cache.specs.Pages.{reply_page_text as reply_page, reply_text}
 use Rattle.partition_tree.specs.Changes.{pages_with}
 use Rattle.partition_tree.specs.Digests.{empty_pages}
 use Rattle.partition_tree.specs.declared.page.Page.{Page}
@@ -15,20 +15,20 @@ use Rattle.partition_tree.proofs.Changing.{length-pages_with, pages_with-each}
 use Rattle.protocol.specs.Replica.State.{State, kept_of, page_text, all_pages, pages_of}
 use Rattle.protocol.proofs.Words.Paging.{tuple_page_at}
 use Rattle.execution.specs.Running.{state_with}
-use Rattle.execution.specs.Touching.{RepliesState, HasPages, AreRenewed, IsAmong, is_touched, is_page_touched}
+use Rattle.execution.specs.Touching.{RepliesState, HasPages, AreRenewed, PageIsAmong, is_touched, is_page_touched}
 
 -- ---- members of pages
 
-among_left : (i : ℕ) (ps : List Page) (p : Page) → IsAmong i ps → IsAmong i (ps ++ p ∷ [])
+among_left : (i : ℕ) (ps : List Page) (p : Page) → PageIsAmong i ps → PageIsAmong i (ps ++ p ∷ [])
 among_left i [] p h = absurd h
 among_left i (q ∷ qs) p (inl e) = inl e
 among_left i (q ∷ qs) p (inr h) = inr (among_left i qs p h)
 
-among_last : (i : ℕ) (ps : List Page) (p : Page) → p.index ≡ i → IsAmong i (ps ++ p ∷ [])
+among_last : (i : ℕ) (ps : List Page) (p : Page) → p.index ≡ i → PageIsAmong i (ps ++ p ∷ [])
 among_last i [] p e = inl e
 among_last i (q ∷ qs) p e = inr (among_last i qs p e)
 
-not_among : (i : ℕ) (ps : List Page) → All (λ (p : Page). p.index ≢ i) ps → IsAmong i ps → ⊥
+not_among : (i : ℕ) (ps : List Page) → All (λ (p : Page). p.index ≢ i) ps → PageIsAmong i ps → ⊥
 not_among i [] apart h = h
 not_among i (p ∷ ps) apart (inl e) = All-head (λ (p : Page). p.index ≢ i) p ps apart e
 not_among i (p ∷ ps) apart (inr h) = not_among i ps (All-tail (λ (p : Page). p.index ≢ i) p ps apart) h
@@ -52,7 +52,7 @@ renewed_page st touched ps p e h = record {
   among = λ i l t. go i t (below_or_at i p.index l);
 }
   where
-    go : (i : ℕ) → touched i ≡ true → (i < p.index) ⊎ (p.index ≡ i) → IsAmong i (ps ++ p ∷ [])
+    go : (i : ℕ) → touched i ≡ true → (i < p.index) ⊎ (p.index ≡ i) → PageIsAmong i (ps ++ p ∷ [])
     go i t (inl m) = among_left i ps p (h.among i m t)
     go i t (inr m) = among_last i ps p m
 
@@ -60,7 +60,7 @@ renewed_page st touched ps p e h = record {
 pub passed_page : (st : State) (touched : ℕ → Bool) (ps : List Page) (index : ℕ) → touched index ≡ false → AreRenewed st touched ps index → AreRenewed st touched ps (index + 1)
 passed_page st touched ps index off h = record { texts = h.texts; among = λ i l t. go i t (below_or_at i index l) }
   where
-    go : (i : ℕ) → touched i ≡ true → (i < index) ⊎ (index ≡ i) → IsAmong i ps
+    go : (i : ℕ) → touched i ≡ true → (i < index) ⊎ (index ≡ i) → PageIsAmong i ps
     go i t (inl m) = h.among i m t
     go i t (inr e) = absurd (let bad : true ≡ false = sym t ∙ ap touched (sym e) ∙ off in cc)
 

@@ -5,15 +5,15 @@ use Rattle.std.proofs.Math.ListN.{set}
 use Rattle.std.proofs.lemmas.Bool.{cases_eq, ltb-true, ltb-false}
 use Rattle.std.proofs.lemmas.List.{get_or-set_same, get_or-set_other, length-set, map-set}
 use Rattle.space.specs.Births.{SpaceState}
-use Rattle.space.specs.Pages.{ArePages as AreSpacePages, IsStateAt, header_text, texts_of}
+use Rattle.space.specs.Pages.{ArePagesOfTuples as AreSpacePages, IsStateAt, header_text, texts_of}
 use Rattle.reply_cache.specs.Replies.{Replies}
-use Rattle.reply_cache.specs.Pages.{ArePages as AreReplyPages}
+use Rattle.reply_cache.specs.Pages.{ArePagesOfReplies as AreReplyPages}
 use Rattle.protocol.specs.Replica.State.{State, IsReplicatedState, page_text, all_pages, pages_of}
 use Rattle.protocol.proofs.Words.Paging.{header_at, tuple_page_at}
 use Rattle.space.specs.Watching.{WatchedState, is_touched}
 use Rattle.execution.specs.Running.{state_with}
 use Rattle.execution.specs.Touching.{RepliesState}
-use Rattle.execution.specs.Keeping.{IsExecuted}
+use Rattle.execution.specs.Keeping.{IsExecutedState}
 use Rattle.execution.specs.Installing.{HasPagesAt, AreTexts, NoneBehind, NoneFalls, NoneReplaces}
 use Rattle.execution.proofs.Renewing.{has_all, all_of, page_there, replies_at, rest_at}
 use Rattle.execution.proofs.Measuring.{pages_determine}
@@ -117,7 +117,7 @@ none_replaces old st number pages h falls other has none = falls (subst (NoneFal
 
 pub keeps_read : (number clients : ℕ) (pages : List (List ℕ)) (w : WatchedState) (r : RepliesState) (s : SpaceState) (q : Replies)
     → clients ≤ 256 → w.state ≡ s → r.replies ≡ q → HasPagesAt number pages (state_with number s q) → ((page : ℕ) → page < 256 → is_touched w page ≡ false)
-    → IsExecuted number clients pages w r
+    → IsExecutedState number clients pages w r
 keeps_read number clients pages w r s q few e f h untouched =
     let same : state_with number s q ≡ state_with number w.state r.replies = rw (e, f) refl in
     record {

@@ -14,13 +14,13 @@ module _ {A : Type 0} where
   call_data x = record { client = x.client.number; timestamp = x.timestamp.0; op = operation_of x.op }
 
 -- The call, or none, is that of the frame in each configuration with so many clients.
-abbrev pub IsCallOf : ℕ → List ℕ → Option CallData → Type 0
-IsCallOf clients frame call = (c : Configuration) → c.clients ≡ clients → call_of c frame ≡ call
+abbrev pub IsCallOfFrame : ℕ → List ℕ → Option CallData → Type 0
+IsCallOfFrame clients frame call = (c : Configuration) → c.clients ≡ clients → call_of c frame ≡ call
 
 -- The frame spells a call of this client with the request's timestamp, and the request's bytes spell its operation.
 pub record HoldsCall (clients : ℕ) (frame : List ℕ) (client : ClientId) (it : RequestBytes) : Type 0 where
   pub op : Operation
-  pub call : IsCallOf clients frame
+  pub call : IsCallOfFrame clients frame
       (Some (record { client = client.number; timestamp = it.timestamp.0; op = op }))
   pub spelled : SpellsOperation it.op.now op
   pub known : client.number < clients

@@ -31,8 +31,8 @@ pub record IsAfter (c : Configuration) (old : ExecutedData) (batch : List ℕ) (
   pub ran : told ≡ map told_of (ran_in c (suc old.state.number) old.state (requests_of batch))
 
 -- It is so in each configuration with so many clients.
-abbrev pub Executes : ExecutedData → List ℕ → List (ℕ × Kept) → ExecutedData → Type 0
-Executes old batch told new = (c : Configuration) → c.clients ≡ old.clients → IsAfter c old batch told new
+abbrev pub ExecutesBatchText : ExecutedData → List ℕ → List (ℕ × Kept) → ExecutedData → Type 0
+ExecutesBatchText old batch told new = (c : Configuration) → c.clients ≡ old.clients → IsAfter c old batch told new
 
 -- ---- codes, by which a proof tells values apart
 

@@ -40,8 +40,8 @@ pub record RunsFrames (c : Configuration) (number before : ℕ) (frames : List (
   pub told : new.told ≡ old.told ++ map told_of (ran_in c number (state_of before old) frames)
 
 -- They do so in each configuration with so many clients.
-abbrev pub Runs : ℕ → ℕ → List ℕ → SoFar → SoFar → Type 0
-Runs clients number frame old new =
+abbrev pub RunsOneFrame : ℕ → ℕ → List ℕ → SoFar → SoFar → Type 0
+RunsOneFrame clients number frame old new =
     (c : Configuration) (before : ℕ) → c.clients ≡ clients → RunsFrame c number before frame old new
 
 abbrev pub RunsAll : ℕ → ℕ → List (List ℕ) → SoFar → SoFar → Type 0

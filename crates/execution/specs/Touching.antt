@@ -8,7 +8,7 @@ use Rattle.space.specs.Births.{IsState as IsSpace}
 use Rattle.space.specs.Watching.{WatchedState, IsWrittenAs, KeepsWritten, is_touched as is_space_touched}
 use Rattle.reply_cache.specs.Replies.{Replies, AreReplies}
 use Rattle.reply_cache.specs.RepliesCode.{replies_code}
-use Rattle.reply_cache.specs.Pages.{page_text as reply_page}
+use Rattle.reply_cache.specs.Pages.{reply_page_text as reply_page}
 use Rattle.partition_tree.specs.declared.page.Page.{Page}
 use Rattle.protocol.specs.Replica.State.{State, page_text, header_page}
 
@@ -32,7 +32,7 @@ TouchesReplies old new =
     → (is_touched old client ≡ false) × (reply_page new.replies client ≡ reply_page old.replies client)
 
 -- How requests change both: they touch what they change, and leave a space and replies.
-pub record Changes (w : WatchedState) (r : RepliesState) (w' : WatchedState) (r' : RepliesState) : Type 0 where
+pub record ChangesAreTouched (w : WatchedState) (r : RepliesState) (w' : WatchedState) (r' : RepliesState) : Type 0 where
   pub space : KeepsWritten w w'
   pub replies : TouchesReplies r r'
   pub is_space : IsSpace w.state → IsSpace w'.state
@@ -57,15 +57,15 @@ is_page_touched w r page =
     true
 
 -- one of these has the index
-abbrev pub IsAmong : ℕ → List Page → Type 0
-IsAmong index [] = ⊥
-IsAmong index (page ∷ pages) = (page.index ≡ index) ⊎ IsAmong index pages
+abbrev pub PageIsAmong : ℕ → List Page → Type 0
+PageIsAmong index [] = ⊥
+PageIsAmong index (page ∷ pages) = (page.index ≡ index) ⊎ PageIsAmong index pages
 
 -- The pages have the state's texts, and those below the end that are touched are among them.
 pub record AreRenewed (st : State) (touched : ℕ → Bool) (pages : List Page) (end : ℕ) : Type 0 where
   pub texts : All (λ page. page.text.items ≡ page_text st page.index) pages
-  pub among : (index : ℕ) → index < end → touched index ≡ true → IsAmong index pages
+  pub among : (index : ℕ) → index < end → touched index ≡ true → PageIsAmong index pages
 
 -- If the earlier pages have those below an index, the later ones have that of the index too.
-abbrev pub Renews : State → (ℕ → Bool) → ℕ → List Page → List Page → Type 0
-Renews st touched index old new = AreRenewed st touched old index → AreRenewed st touched new (index + 1)
+abbrev pub RenewsPages : State → (ℕ → Bool) → ℕ → List Page → List Page → Type 0
+RenewsPages st touched index old new = AreRenewed st touched old index → AreRenewed st touched new (index + 1)

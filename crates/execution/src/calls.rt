@@ -2,7 +2,7 @@
 
 ghost use Rattle.std.specs.Prelude.{◌≡◌, ◌<◌, IfOk, IfSome, IsNone, None, option_map};
 ghost use Rattle.wire.specs.Headers.{IsFrame};
-ghost use Rattle.execution.specs.Calls.{call_data, HoldsCall, IsCallOf};
+ghost use Rattle.execution.specs.Calls.{call_data, HoldsCall, IsCallOfFrame};
 
 use std::alloc::Allocator;
 use terms::{ClientId, FIRST_CLIENT, Mode, NoMemory, Timestamp};
@@ -24,7 +24,7 @@ pub fn read_call<A: Allocator + Clone>(
     clients: u16,
 ) -> Result<Option<Call<A>>, NoMemory>
     requires { IsFrame frame.now }
-    ensures found { IfOk result (λ call. IsCallOf clients frame.now (option_map call_data call)) }
+    ensures found { IfOk result (λ call. IsCallOfFrame clients frame.now (option_map call_data call)) }
     ensures client { IfOk result (λ found. IfSome found (λ call. call.client.number < clients)) }
 {
     let Some((client, request)) = call_in(frame, clients) else {
@@ -42,7 +42,7 @@ pub fn read_call<A: Allocator + Clone>(
 fn call_in(frame: &[u8], clients: u16) -> Option<(ClientId, RequestBytes<'_>)>
     requires { IsFrame frame.now }
     ensures some { IfSome result (λ found. HoldsCall clients frame.now found.0 found.1) }
-    ensures none { IsNone result → IsCallOf clients frame.now None }
+    ensures none { IsNone result → IsCallOfFrame clients frame.now None }
 {
     if !has_type_of_requests(frame) {
         return None;

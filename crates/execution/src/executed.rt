@@ -3,7 +3,7 @@
 ghost use Rattle.std.specs.Prelude.{◌≡◌, ◌+◌, ◌^◌, ◌<◌, ◌≤◌, true, false, map, option_map, IfOk};
 ghost use Rattle.reply_cache.specs.ReplyView as reply_view;
 ghost use Rattle.protocol.specs.Replica.State.{IsReplicatedState, opening, kept_of, last_time, pages_of, root_of};
-ghost use Rattle.execution.specs.Executed.{Executes, told};
+ghost use Rattle.execution.specs.Executed.{ExecutesBatchText, told};
 ghost use Rattle.execution.specs.Installing.{HasPagesAt, NoneFalls, NoneReplaces};
 ghost use Rattle.execution.specs.contracts.executed.Executed.{the_row};
 ghost use Rattle.std.specs.Borrow.{sem};
@@ -37,7 +37,7 @@ pub struct Executed {
 
 impl Model for Executed {
     ghost use Rattle.execution.specs.Executed.{ExecutedData, executed_code};
-    ghost use Rattle.execution.specs.Keeping.{IsExecuted};
+    ghost use Rattle.execution.specs.Keeping.{IsExecutedState};
 
     ghost Value = { ExecutedData };
 
@@ -48,7 +48,7 @@ impl Model for Executed {
       clients = e.clients;
     } };
 
-    ghost invariant = { λ e. IsExecuted e.number.0 e.clients e.tree e.space e.replies };
+    ghost invariant = { λ e. IsExecutedState e.number.0 e.clients e.tree e.space e.replies };
 }
 
 impl Executed {
@@ -93,7 +93,7 @@ impl Executed {
 
     /// The reply to the client's last request that ran. Takes no memory.
     pub fn last(&self, client: ClientId) -> Option<&Reply>
-        ensures { option_map (λ reply. reply_view.kept_of reply.now) result
+        ensures { option_map (λ reply. reply_view.kept_of_reply reply.now) result
             ≡ kept_of self.now.state client.number }
     {
         self.replies.replies().last(client)
@@ -123,7 +123,7 @@ impl Executed {
     pub fn execute(&mut self, batch: &[u8]) -> Result<Vec<Ran>, NoMemory>
         requires { self.old.state.number + 1 < 2 ^ 48 }
         ensures executed { IfOk result
-            (λ ran. Executes self.old batch.now (map told ran.items) self.new) }
+            (λ ran. ExecutesBatchText self.old batch.now (map told ran.items) self.new) }
         ensures number { self.new.state.number ≡ self.old.state.number + 1 }
         ensures clients { self.new.clients ≡ self.old.clients }
     {

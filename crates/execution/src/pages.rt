@@ -4,7 +4,7 @@ ghost use Rattle.std.specs.Prelude.{◌≡◌, ◌<◌, [], slice_index_or, IfOk
 ghost use Rattle.space.specs.Watching.{IsWrittenAs};
 ghost use Rattle.protocol.specs.Replica.State.{page_text, pages_of};
 ghost use Rattle.execution.specs.Running.{state_with};
-ghost use Rattle.execution.specs.Touching.{is_page_touched, AreRenewed, Renews, HasPages};
+ghost use Rattle.execution.specs.Touching.{is_page_touched, AreRenewed, RenewsPages, HasPages};
 
 use crate::installing::HEADER;
 use crate::replies::WatchedReplies;
@@ -70,7 +70,7 @@ fn add_page(
 ) -> Result<(), NoMemory>
     requires index { index < TEXTS }
     requires has { HasPages tree.now space.now replies.now }
-    ensures { OnOk result (Renews (state_with number.0 space.now.state replies.now.replies)
+    ensures { OnOk result (RenewsPages (state_with number.0 space.now.state replies.now.replies)
         (is_page_touched space.now replies.now) index pages.old.items pages.new.items) }
 {
     if !is_touched(space, replies, index) {

@@ -5,8 +5,8 @@ ghost use Rattle.space.specs.declared.births.TheConstants.{PAGES as TUPLE_PAGES}
 ghost use Rattle.terms.specs.declared.parties.TheConstants.{MAX_CLIENTS};
 ghost use Rattle.wire.specs.Headers.{IsFrame};
 ghost use Rattle.wire_format.specs.Lists.{Each};
-ghost use Rattle.execution.specs.Running.{so_far, Runs, RunsAll};
-ghost use Rattle.execution.specs.Touching.{Changes};
+ghost use Rattle.execution.specs.Running.{so_far, RunsOneFrame, RunsAll};
+ghost use Rattle.execution.specs.Touching.{ChangesAreTouched};
 
 use crate::calls::read_call;
 use crate::replies::WatchedReplies;
@@ -41,10 +41,10 @@ fn run_frame(
     requires frame { IsFrame frame.now }
     requires births { space.old.state.next < 2 ^ 62 }
     requires clients { clients ≤ MAX_CLIENTS }
-    ensures runs { OnOk result (Runs clients number.0 frame.now
+    ensures runs { OnOk result (RunsOneFrame clients number.0 frame.now
         (so_far space.old replies.old ran.old.items) (so_far space.new replies.new ran.new.items)) }
     ensures births { space.new.state.next ≤ space.old.state.next + TUPLE_PAGES }
-    ensures changes { Changes space.old replies.old space.new replies.new }
+    ensures changes { ChangesAreTouched space.old replies.old space.new replies.new }
 {
     let Some(call) = read_call(arena, frame, clients)? else {
         return Ok(());
@@ -81,7 +81,7 @@ pub fn run_frames(
     ensures runs { OnOk result (RunsAll clients number.0 (map (λ frame. frame.now) frames.now)
         (so_far space.old replies.old ran.old.items) (so_far space.new replies.new ran.new.items)) }
     ensures births { space.new.state.next ≤ space.old.state.next + TUPLE_PAGES * length frames.now }
-    ensures changes { Changes space.old replies.old space.new replies.new }
+    ensures changes { ChangesAreTouched space.old replies.old space.new replies.new }
 {
     let arena = Bump::new(alloc);
     for frame in frames {

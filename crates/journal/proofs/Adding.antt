@@ -6,7 +6,7 @@ use mathlib.Core.List.{IsPrefix}
 use prog.Atomic.{either}
 use Rattle.logbook.specs.Pages.{Cell, cell, keeps, no_nib, step, Moves, Goes}
 use Rattle.protocol.specs.System.Trace.{Entry}
-use Rattle.journal.specs.Ties.{IsCounted, Adds}
+use Rattle.journal.specs.Ties.{CellsCountEvents, BookAddsEvent}
 use Rattle.journal.proofs.Fronts.{prefix_whole}
 
 abbrev pub shown : List (List Entry) → List (List Entry)
@@ -16,7 +16,7 @@ abbrev pub moved : List (List Entry) → List (List Entry) → ℕ → Type 0
 moved xs ys n = Unit {0}
 
 adds_goes : (log v : List (List Entry)) (e : List Entry) (old : ℕ) → length v ≡ old → IsPrefix v log → (b : Bool) → (length log == old) ≡ b
-    → Goes IsCounted shown moved 0 (v, (no_nib, None)) (λ n. either (n == old) (old + 1) n) (Adds (step 0 old (old + 1) e) (v, (no_nib, None))) ((length log, true) ∷ (0, true) ∷ []) log
+    → Goes CellsCountEvents shown moved 0 (v, (no_nib, None)) (λ n. either (n == old) (old + 1) n) (BookAddsEvent (step 0 old (old + 1) e) (v, (no_nib, None))) ((length log, true) ∷ (0, true) ∷ []) log
 adds_goes log v e old len pre true is =
     let here : length log ≡ old = grind (arith, nat_tests) in
     let same : v ≡ log = prefix_whole v log pre (omega arith) in
@@ -43,7 +43,7 @@ adds_goes log v e old len pre false is =
 
 -- for each book, the exchange adds the event to all that were seen, or finds a longer history
 pub adds_moves : (v : List (List Entry)) (e : List Entry) (old : ℕ) → length v ≡ old
-    → Moves IsCounted shown moved 0 (v, (no_nib, None)) (λ n. either (n == old) (old + 1) n) (Adds (step 0 old (old + 1) e) (v, (no_nib, None)))
+    → Moves CellsCountEvents shown moved 0 (v, (no_nib, None)) (λ n. either (n == old) (old + 1) n) (BookAddsEvent (step 0 old (old + 1) e) (v, (no_nib, None)))
 adds_moves v e old len cs log kept pre away =
-    let P : List Cell → Type 0 = λ c. (0 < length c) × ((cell c 0).1 ≡ true) × Goes IsCounted shown moved 0 (v, (no_nib, None)) (λ n. either (n == old) (old + 1) n) (Adds (step 0 old (old + 1) e) (v, (no_nib, None))) c log in
+    let P : List Cell → Type 0 = λ c. (0 < length c) × ((cell c 0).1 ≡ true) × Goes CellsCountEvents shown moved 0 (v, (no_nib, None)) (λ n. either (n == old) (old + 1) n) (BookAddsEvent (step 0 old (old + 1) e) (v, (no_nib, None))) c log in
     subst P (sym kept) (omega arith, refl, adds_goes log v e old len pre (length log == old) refl)

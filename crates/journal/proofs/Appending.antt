@@ -8,17 +8,17 @@ use Rattle.protocol.specs.System.Run.{IsRun}
 use Rattle.events.specs.Outputs.{after_entries}
 use Rattle.journal.specs.Carrying.{Carried, IsCarriedFrom}
 use Rattle.journal.specs.Codes.{journaled_from, part_from}
-use Rattle.journal.specs.Comparing.{ordering_of, IsKept}
+use Rattle.journal.specs.Comparing.{ordering_of, JournalIsKept}
 use Rattle.journal.specs.Histories.{IsRight, IsEventOf}
 use Rattle.journal.specs.Parts.{Journaled, Part, longer, longer_part}
 use Rattle.protocol.specs.System.Reads.{orders, without_reads}
-use Rattle.journal.specs.Ties.{Knot, Ties, Marks, KeepsTies}
+use Rattle.journal.specs.Ties.{Knot, TiesJournal, SeenHasHistory, KeepsTies}
 use Rattle.journal.proofs.Turned.{turned_longer, filtered_back}
 use Rattle.journal.proofs.Running.{run_empty, run_longer}
 use Rattle.journal.proofs.Carriers.{carried_empty, carried_longer}
 
-pub kept_empty : (c : Configuration) (entries : List Entry) (limit : ℕ) → entries ≡ [] → IsKept c entries limit
-kept_empty c entries limit none = subst (λ (xs : List Entry). IsKept c xs limit) (sym none) (record {
+pub kept_empty : (c : Configuration) (entries : List Entry) (limit : ℕ) → entries ≡ [] → JournalIsKept c entries limit
+kept_empty c entries limit none = subst (λ (xs : List Entry). JournalIsKept c xs limit) (sym none) (record {
   run = run_empty c;
   carried = carried_empty c;
   room = omega arith;
@@ -42,22 +42,22 @@ module _ (c : Configuration) (p : ℕ) (t h es : List Entry) (agrees : history_o
   plainly : history_of p t ≡ h
   plainly = filtered_back (λ (e : Entry). party_of e == p) t h agrees
 
-  pub kept_longer : (limit : ℕ) (from : Option ℕ) → IsKept c t limit → is_correct c p ≡ true → IsRight c p (after_entries es (reverse h)) → IsCarriedFrom c (reverse t) from es → length (reverse t) + length es ≤ limit
-      → IsKept c (t ++ es) limit
+  pub kept_longer : (limit : ℕ) (from : Option ℕ) → JournalIsKept c t limit → is_correct c p ≡ true → IsRight c p (after_entries es (reverse h)) → IsCarriedFrom c (reverse t) from es → length (reverse t) + length es ≤ limit
+      → JournalIsKept c (t ++ es) limit
   kept_longer limit from kept correct right by room = record {
     run = subst (IsRun c) (sym (turned_longer t es)) (run_longer c p es (reverse t) (reverse h) kept.run agrees correct event right);
     carried = subst (Carried c) (sym (turned_longer t es)) (carried_longer c p es (reverse t) from kept.carried event by);
     room = omega (arith, length-append t es, length-reverse t, room);
   }
 
-  pub ties_kept : (old new : Option Knot) (seen : Option (List (List Entry))) → Ties old t → KeepsTies p es old new seen → Ties new (t ++ es)
+  pub ties_kept : (old new : Option Knot) (seen : Option (List (List Entry))) → TiesJournal old t → KeepsTies p es old new seen → TiesJournal new (t ++ es)
   ties_kept old new seen ties keeps = (keeps t event ties).ties
 
-  pub marks_kept : (old new : Option Knot) (seen : Option (List (List Entry))) → Ties old t → KeepsTies p es old new seen → Marks history_of seen p (h ++ es)
+  pub marks_kept : (old new : Option Knot) (seen : Option (List (List Entry))) → TiesJournal old t → KeepsTies p es old new seen → SeenHasHistory history_of seen p (h ++ es)
   marks_kept old new seen ties keeps =
-      subst (λ (xs : List Entry). Marks history_of seen p (xs ++ es)) plainly (keeps t event ties).history
+      subst (λ (xs : List Entry). SeenHasHistory history_of seen p (xs ++ es)) plainly (keeps t event ties).history
 
-  pub ordering_kept : (old new : Option Knot) (seen : Option (List (List Entry))) (o : List Entry) → Ties old t → KeepsTies p es old new seen → without_reads (reverse h) ≡ reverse o
-      → Marks ordering_of seen p (o ++ without_reads es)
+  pub ordering_kept : (old new : Option Knot) (seen : Option (List (List Entry))) (o : List Entry) → TiesJournal old t → KeepsTies p es old new seen → without_reads (reverse h) ≡ reverse o
+      → SeenHasHistory ordering_of seen p (o ++ without_reads es)
   ordering_kept old new seen o ties keeps alike =
-      subst (λ (xs : List Entry). Marks ordering_of seen p (xs ++ without_reads es)) (ap without_reads plainly ∙ filtered_back orders h o alike) (keeps t event ties).ordering
+      subst (λ (xs : List Entry). SeenHasHistory ordering_of seen p (xs ++ without_reads es)) (ap without_reads plainly ∙ filtered_back orders h o alike) (keeps t event ties).ordering

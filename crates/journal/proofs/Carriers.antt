@@ -14,7 +14,7 @@ use Rattle.protocol.specs.System.Configuration.{Configuration}
 use Rattle.protocol.specs.System.Trace.{Entry, is_output, Has, Always}
 use Rattle.protocol.specs.System.Trace.Entry.{Got}
 use Rattle.events.specs.Outputs.{after_entries}
-use Rattle.journal.specs.Carrying.{is_faulty, is_exempt, Sends, IsCarriedAt, Carried, IsSentAt, IsSentFrom, ComesFrom, IsCarriedFrom}
+use Rattle.journal.specs.Carrying.{is_faulty, is_exempt, EntrySendsBytes, IsCarriedAt, Carried, IsSentAt, IsSentFrom, ComesFrom, IsCarriedFrom}
 use Rattle.journal.specs.Histories.{IsOutputOf, IsEventOf}
 use Rattle.journal.proofs.Turned.{reverse_first}
 
@@ -41,14 +41,14 @@ has_turned P (x ∷ xs) (inr h) = subst (Has P) (sym (reverse_first xs x)) (has_
 
 -- ---- bytes that were sent at a position were sent before
 
-sent_there : (past : List Entry) (k : ℕ) (bytes : List ℕ) → IsSentAt (reverse past) k bytes → Has (Sends bytes) past
+sent_there : (past : List Entry) (k : ℕ) (bytes : List ℕ) → IsSentAt (reverse past) k bytes → Has (EntrySendsBytes bytes) past
 sent_there past k bytes h = go (slice_get (reverse past) k) refl h
   where
-    go : (o : Option Entry) → slice_get (reverse past) k ≡ o → MatchOption o ⊥ (Sends bytes) → Has (Sends bytes) past
+    go : (o : Option Entry) → slice_get (reverse past) k ≡ o → MatchOption o ⊥ (EntrySendsBytes bytes) → Has (EntrySendsBytes bytes) past
     go None is h = absurd h
-    go (Some e) is h = subst (Has (Sends bytes)) (reverse-reverse past) (has_turned (Sends bytes) (reverse past) (has_there (Sends bytes) (reverse past) k e is h))
+    go (Some e) is h = subst (Has (EntrySendsBytes bytes)) (reverse-reverse past) (has_turned (EntrySendsBytes bytes) (reverse past) (has_there (EntrySendsBytes bytes) (reverse past) k e is h))
 
-sent_before : (past : List Entry) (from : Option ℕ) (bytes : List ℕ) → IsSentFrom (reverse past) from bytes → Has (Sends bytes) past
+sent_before : (past : List Entry) (from : Option ℕ) (bytes : List ℕ) → IsSentFrom (reverse past) from bytes → Has (EntrySendsBytes bytes) past
 sent_before past None bytes h = absurd h
 sent_before past (Some k) bytes h = sent_there past k bytes h
 

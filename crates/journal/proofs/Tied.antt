@@ -8,7 +8,7 @@ use Rattle.protocol.specs.System.Trace.{Entry, history_of}
 use Rattle.journal.specs.Comparing.{ordering_of}
 use Rattle.journal.specs.Histories.{IsEventOf}
 use Rattle.protocol.specs.System.Reads.{orders}
-use Rattle.journal.specs.Ties.{entries_in, Kind, AreLast, Knot, IsTied, Reaches, Shows, AddsEvent, TiesLonger}
+use Rattle.journal.specs.Ties.{entries_in, Kind, AreLast, Knot, IsTied, SeenReachesLast, SeenShowsAll, AddsEvent, TiesLonger}
 use Rattle.journal.proofs.Events.{own_event, other_event, history_append, ordering_append, other_ordering, own_ordering, no_ordering}
 
 in_append : (xs ys : List (List Entry)) → entries_in (xs ++ ys) ≡ entries_in xs ++ entries_in ys
@@ -54,7 +54,7 @@ module _ (of : Kind) (none : (p : ℕ) → of p [] ≡ []) (app : (p : ℕ) (xs 
   rest_none p (suc k) (x ∷ xs) ys le h = rest_none p k xs ys (omega arith) h
 
   -- a beginning up to the party's last event has all of the party's entries
-  pub seen_whole : (events seen : List (List Entry)) (lasts : List ℕ) (p : ℕ) → AreLast of events lasts → Reaches seen events (slice_get lasts p) → of p (entries_in events) ≡ of p (entries_in seen)
+  pub seen_whole : (events seen : List (List Entry)) (lasts : List ℕ) (p : ℕ) → AreLast of events lasts → SeenReachesLast seen events (slice_get lasts p) → of p (entries_in events) ≡ of p (entries_in seen)
   seen_whole events seen lasts p last reach =
       let none0 : of p (entries_in (drop reach.count events)) ≡ [] = last p reach.count reach.count_is in
       let none1 : of p (entries_in (drop reach.count (seen ++ reach.begins.0))) ≡ [] = subst (λ (l : List (List Entry)). of p (entries_in (drop reach.count l)) ≡ []) (sym reach.begins.1) none0 in
@@ -94,11 +94,11 @@ nothing_of p = refl
 no_ordering_of : (p : ℕ) → ordering_of p [] ≡ []
 no_ordering_of p = refl
 
-pub shows_history : (knot : Knot) (p : ℕ) (seen : List (List Entry)) → Reaches seen knot.events (slice_get knot.lasts p) → Shows history_of (Some knot) (Some seen) p
+pub shows_history : (knot : Knot) (p : ℕ) (seen : List (List Entry)) → SeenReachesLast seen knot.events (slice_get knot.lasts p) → SeenShowsAll history_of (Some knot) (Some seen) p
 shows_history knot p seen reach entries history tied marks =
     ap (history_of p) (sym tied.entries_are) ∙ (seen_whole history_of nothing_of history_append knot.events seen knot.lasts p tied.lasts reach ∙ marks)
 
-pub shows_ordering : (knot : Knot) (p : ℕ) (seen : List (List Entry)) → Reaches seen knot.events (slice_get knot.ordered p) → Shows ordering_of (Some knot) (Some seen) p
+pub shows_ordering : (knot : Knot) (p : ℕ) (seen : List (List Entry)) → SeenReachesLast seen knot.events (slice_get knot.ordered p) → SeenShowsAll ordering_of (Some knot) (Some seen) p
 shows_ordering knot p seen reach entries history tied marks =
     ap (ordering_of p) (sym tied.entries_are) ∙ (seen_whole ordering_of no_ordering_of ordering_append knot.events seen knot.ordered p tied.ordered reach ∙ marks)
 

@@ -17,7 +17,7 @@ use Rattle.protocol.proofs.Words.Elements.{each_has}
 use Rattle.protocol.proofs.Words.Linking.{heard_said, signed_said}
 use Rattle.protocol.proofs.Words.Reacting.{is_replica_right, is_client_right, asks_its_call}
 use Rattle.protocol.proofs.Words.Temporal.{once_weaker, once_in_trace}
-use Rattle.journal.specs.Carrying.{is_faulty, is_exempt, Sends, IsCarriedAt}
+use Rattle.journal.specs.Carrying.{is_faulty, is_exempt, EntrySendsBytes, IsCarriedAt}
 use Rattle.journal.specs.Laws.{CarriedIsUnforged}
 use Rattle.journal.proofs.Events.{own_entry}
 
@@ -55,7 +55,7 @@ abbrev AllSent : List Entry → Type 0
 AllSent past = (frame : List ℕ) → Once (HasSeen frame) past → IsSent past frame
 
 -- a frame in bytes that were sent was seen
-seen_of_sent : (past : List Entry) (bytes frame : List ℕ) → Has (Sends bytes) past → Has (λ x. x ≡ frame) (frames_in bytes) → Once (HasSeen frame) past
+seen_of_sent : (past : List Entry) (bytes frame : List ℕ) → Has (EntrySendsBytes bytes) past → Has (λ x. x ≡ frame) (frames_in bytes) → Once (HasSeen frame) past
 seen_of_sent [] bytes frame h there = absurd h
 seen_of_sent (e ∷ past) bytes frame (inr h) there = inr (seen_of_sent past bytes frame h there)
 seen_of_sent (Sent p text ∷ past) bytes frame (inl is) there = inl (subst (λ (x : List ℕ). Has (λ y. y ≡ frame) (frames_in x)) (sym is) there)

@@ -16,13 +16,13 @@ abbrev pub is_exempt : Configuration → List ℕ → Bool
 is_exempt c bytes = option_map_or (λ body. is_faulty c body.sender) (said bytes) true
 
 -- these bytes are sent here
-abbrev pub Sends : List ℕ → Entry → Type 0
-Sends bytes (Sent p text) = text ≡ bytes
-Sends bytes _ = ⊥
+abbrev pub EntrySendsBytes : List ℕ → Entry → Type 0
+EntrySendsBytes bytes (Sent p text) = text ≡ bytes
+EntrySendsBytes bytes _ = ⊥
 
 -- a received frame was sent before, or may come from anywhere
 abbrev pub IsCarriedAt : Configuration → List Entry → Entry → Type 0
-IsCarriedAt c past (Got p bytes) = Has (Sends bytes) past ⊎ (is_exempt c bytes ≡ true)
+IsCarriedAt c past (Got p bytes) = Has (EntrySendsBytes bytes) past ⊎ (is_exempt c bytes ≡ true)
 IsCarriedAt c past _ = ⊤
 
 -- Each frame that a party got was sent before, except those that name a faulty sender.
@@ -33,7 +33,7 @@ pub record Carried (c : Configuration) (trace : List Entry) : Type 0 where
 
 -- the bytes were sent at this position
 abbrev pub IsSentAt : List Entry → ℕ → List ℕ → Type 0
-IsSentAt entries k bytes = MatchOption (slice_get entries k) ⊥ (Sends bytes)
+IsSentAt entries k bytes = MatchOption (slice_get entries k) ⊥ (EntrySendsBytes bytes)
 
 -- the same, if a position is given
 abbrev pub IsSentFrom : List Entry → Option ℕ → List ℕ → Type 0

@@ -17,7 +17,7 @@ abbrev pub AreFaulty : Configuration → List Bool → Type 0
 AreFaulty c marks = (p : ℕ) → unwrap_or (slice_get marks p) false ≡ is_faulty c p
 
 -- The entries, the oldest first, make a run in which received frames were sent, and the limit is kept.
-pub record IsKept (c : Configuration) (entries : List Entry) (limit : ℕ) : Type 0 where
+pub record JournalIsKept (c : Configuration) (entries : List Entry) (limit : ℕ) : Type 0 where
   pub run : IsRun c (reverse entries)
   pub carried : Carried c (reverse entries)
   pub room : length entries ≤ limit

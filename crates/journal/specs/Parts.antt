@@ -46,17 +46,17 @@ abbrev pub longer_part : Part → List Entry → Part
 longer_part part entries = record part { history = after_entries entries part.history }
 
 -- the journal's history of the party is the share's
-abbrev pub Agrees : Journaled → Part → Type 0
-Agrees journal share = history_of share.party journal.trace ≡ share.history
+abbrev pub JournalAgrees : Journaled → Part → Type 0
+JournalAgrees journal share = history_of share.party journal.trace ≡ share.history
 
 -- the same, and the frame that the event received was sent or may come from anywhere
 abbrev pub InStep : Configuration → Journaled → Part → Option ℕ → List Entry → Type 0
-InStep c journal share from entries = Agrees journal share × IsCarriedFrom c journal.trace from entries
+InStep c journal share from entries = JournalAgrees journal share × IsCarriedFrom c journal.trace from entries
 
 -- there is room for the entries
-abbrev pub HasRoom : Journaled → List Entry → Type 0
-HasRoom journal entries = length journal.trace + length entries ≤ journal.limit
+abbrev pub JournalHasRoom : Journaled → List Entry → Type 0
+JournalHasRoom journal entries = length journal.trace + length entries ≤ journal.limit
 
 -- the share of ordering has the share's history without reads
-abbrev pub AreAlike : Part → Part → Type 0
-AreAlike share order = (share.party ≡ order.party) × (without_reads share.history ≡ order.history)
+abbrev pub AgreeInOrdering : Part → Part → Type 0
+AgreeInOrdering share order = (share.party ≡ order.party) × (without_reads share.history ≡ order.history)

@@ -4,7 +4,7 @@ ghost use Rattle.std.specs.Prelude.{◌≡◌, ◌↔◌, IfOk, IsTrue};
 ghost use Rattle.protocol.specs.System.Configuration.{is_correct};
 ghost use Rattle.protocol.specs.System.Schedule.{is_party};
 ghost use Rattle.events.specs.EntryView.{entry_of_kind};
-ghost use Rattle.journal.specs.Carrying.{ComesFrom, IsCarriedTo, IsSentAt, IsSentFrom, Sends, is_exempt, is_faulty};
+ghost use Rattle.journal.specs.Carrying.{ComesFrom, IsCarriedTo, IsSentAt, IsSentFrom, EntrySendsBytes, is_exempt, is_faulty};
 ghost use Rattle.journal.specs.Comparing.{AreFaulty};
 
 use crate::entries::are_same_bytes;
@@ -125,7 +125,7 @@ fn is_sent_at(trace: &[Entry], at: usize, bytes: &[u8]) -> bool
 }
 
 fn sends(kind: &EntryKind, bytes: &[u8]) -> bool
-    ensures { IsTrue result ↔ Sends bytes.now (entry_of_kind kind.now) }
+    ensures { IsTrue result ↔ EntrySendsBytes bytes.now (entry_of_kind kind.now) }
 {
     match kind {
         EntryKind::Sent(_, sent) => are_same_bytes(sent.as_slice(), bytes),

@@ -34,9 +34,9 @@ pub struct Law;
 impl Rule<Event, u64> for Law {
     ghost use Rattle.std.specs.Prelude.{[]};
     ghost use base.Fml.{ftrue};
-    ghost use Rattle.journal.specs.Ties.{IsCounted};
+    ghost use Rattle.journal.specs.Ties.{CellsCountEvents};
 
-    ghost holds = { λ cells events. IsCounted cells events };
+    ghost holds = { λ cells events. CellsCountEvents cells events };
 
     ghost first = { [] };
 
@@ -62,9 +62,9 @@ impl Gain<Event, u64> for Nothing {
 pub struct Add;
 
 impl Play<Event, u64> for Add {
-    ghost use Rattle.journal.specs.Ties.{Adds};
+    ghost use Rattle.journal.specs.Ties.{BookAddsEvent};
 
-    ghost then = { Adds };
+    ghost then = { BookAddsEvent };
 }
 
 // The request of the step: the event.

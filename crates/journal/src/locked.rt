@@ -6,9 +6,9 @@ ghost use Rattle.protocol.specs.System.Run.{IsRun};
 ghost use Rattle.journal.specs.Carrying.{Carried, IsCarriedFrom};
 ghost use Rattle.journal.specs.Faults.{AppendIsRight};
 ghost use Rattle.journal.specs.Histories.{IsEventOf, IsRight};
-ghost use Rattle.journal.specs.Parts.{Agrees, AreAlike, HasRoom, InStep, IsOpening, longer, longer_part};
+ghost use Rattle.journal.specs.Parts.{JournalAgrees, AgreeInOrdering, JournalHasRoom, InStep, IsOpening, longer, longer_part};
 ghost use Rattle.protocol.specs.System.Reads.{without_reads};
-ghost use Rattle.journal.specs.Ties.{Ties};
+ghost use Rattle.journal.specs.Ties.{TiesJournal};
 
 use crate::carrying::Faulty;
 use crate::fault::AppendFault;
@@ -39,9 +39,9 @@ pub struct Journal<N: Naming> {
 impl<N: Naming> Model for Journal<N> {
     ghost use Rattle.std.specs.Prelude.{reverse};
     ghost use Rattle.journal.specs.Codes.{journaled_code};
-    ghost use Rattle.journal.specs.Comparing.{IsKept};
+    ghost use Rattle.journal.specs.Comparing.{JournalIsKept};
     ghost use Rattle.journal.specs.Parts.{Journaled};
-    ghost use Rattle.journal.specs.Ties.{Ties};
+    ghost use Rattle.journal.specs.Ties.{TiesJournal};
 
     ghost Value = { Journaled };
 
@@ -49,7 +49,7 @@ impl<N: Naming> Model for Journal<N> {
 
     ghost view = { λ j. record { trace = reverse j.entries.items; limit = j.limit } };
 
-    ghost invariant = { λ j. IsKept N.config j.entries.items j.limit × Ties j.tie j.entries.items };
+    ghost invariant = { λ j. JournalIsKept N.config j.entries.items j.limit × TiesJournal j.tie j.entries.items };
 }
 
 impl<N: Naming> Journal<N> {
@@ -99,7 +99,7 @@ impl<N: Naming> Journal<N> {
         seen: Option<Front<N>>,
     ) -> Result<(Journal<N>, Vec<Share<N>>, Vec<OrderShare<N>>), NoMemory>
         requires config { config.now ≡ N.config }
-        requires tie { Ties tie [] }
+        requires tie { TiesJournal tie [] }
         requires seen { IfSome seen (λ front. front ≡ []) }
         ensures opens { IfOk result (λ r. IsOpening config.now limit r.0 r.1.items r.2.items) }
     {
@@ -147,7 +147,7 @@ impl<N: Naming> Journal<N> {
 
     /// Whether the share's history is the journal's history of its party.
     pub fn agrees(&self, share: &Share<N>) -> bool
-        ensures { IsTrue result ↔ Agrees self.now share.now }
+        ensures { IsTrue result ↔ JournalAgrees self.now share.now }
     {
         agree(
             &self.tie,
@@ -160,8 +160,8 @@ impl<N: Naming> Journal<N> {
 
     // Whether the share of ordering has the entries of ordering of the share, which agrees with the journal.
     fn are_alike(&self, share: &Share<N>, order: &OrderShare<N>) -> bool
-        requires { Agrees self.now share.now }
-        ensures { IsTrue result ↔ AreAlike share.now order.now }
+        requires { JournalAgrees self.now share.now }
+        ensures { IsTrue result ↔ AgreeInOrdering share.now order.now }
     {
         share.party.number() == order.party.number()
             && are_alike(
@@ -189,7 +189,7 @@ impl<N: Naming> Journal<N> {
 
     #[tactic(auto, using(crate::proofs::Turned::turned_length))]
     fn has_room(&self, entries: &[Entry]) -> bool
-        ensures { IsTrue result ↔ HasRoom self.now entries.now }
+        ensures { IsTrue result ↔ JournalHasRoom self.now entries.now }
     {
         entries.len() <= self.limit as usize - self.entries.len()
     }
@@ -215,7 +215,7 @@ impl<N: Naming> Journal<N> {
         ensures refused { OnErr result (self.new ≡ self.old) }
         ensures unkept { OnErr result (share.new ≡ share.old) }
         ensures tells { AppendIsRight result (InStep N.config self.old share.old from entries.items)
-            (HasRoom self.old entries.items) }
+            (JournalHasRoom self.old entries.items) }
     {
         if !self.is_in_step(share, from, entries.as_slice()) {
             return Err(AppendFault::NotInJournal);
@@ -253,7 +253,7 @@ impl<N: Naming> Journal<N> {
         entries: Vec<Entry>,
     ) -> Result<(), AppendFault>
         requires event { IsEventOf share.old.party entries.items }
-        requires right { AreAlike share.old order.old
+        requires right { AgreeInOrdering share.old order.old
             → IsRight N.config share.old.party (after_entries entries.items share.old.history) }
         ensures taken { OnOk result (self.new ≡ longer self.old entries.items) }
         ensures kept { OnOk result (share.new ≡ longer_part share.old entries.items) }
@@ -262,8 +262,8 @@ impl<N: Naming> Journal<N> {
         ensures unkept { OnErr result (share.new ≡ share.old) }
         ensures unordered { OnErr result (order.new ≡ order.old) }
         ensures tells { AppendIsRight result
-            (InStep N.config self.old share.old from entries.items × AreAlike share.old order.old)
-            (HasRoom self.old entries.items) }
+            (InStep N.config self.old share.old from entries.items × AgreeInOrdering share.old order.old)
+            (JournalHasRoom self.old entries.items) }
     {
         if !self.is_in_step(share, from, entries.as_slice()) || !self.are_alike(share, order) {
             return Err(AppendFault::NotInJournal);

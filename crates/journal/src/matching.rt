@@ -5,7 +5,7 @@ ghost use Rattle.terms.specs.Parties.{party_number};
 ghost use Rattle.protocol.specs.System.Trace.{history_of};
 ghost use Rattle.journal.specs.Comparing.{ordering_of};
 ghost use Rattle.protocol.specs.System.Reads.{without_reads};
-ghost use Rattle.journal.specs.Ties.{IsTiedHistory, Marks, Ties};
+ghost use Rattle.journal.specs.Ties.{IsTiedHistory, SeenHasHistory, TiesJournal};
 
 use crate::comparing::{is_history, is_ordering};
 use crate::front::Front;
@@ -22,8 +22,8 @@ pub(crate) fn agree<N: Naming>(
     seen: &Option<Front<N>>,
     history: &[Entry],
 ) -> bool
-    requires ties { Ties tie.now trace.now }
-    requires marks { Marks history_of seen.now (party_number party) history.now }
+    requires ties { TiesJournal tie.now trace.now }
+    requires marks { SeenHasHistory history_of seen.now (party_number party) history.now }
     ensures { IsTrue result ↔ (history_of (party_number party) (reverse trace.now) ≡ reverse history.now) }
 {
     is_known(tie, party, seen) || is_history(trace, party.number(), history)
@@ -38,7 +38,7 @@ pub(crate) fn are_alike<N: Naming>(
     ordering: &[Entry],
 ) -> bool
     requires tied { IsTiedHistory tie.now (party_number party) history.now }
-    requires marks { Marks ordering_of seen.now (party_number party) ordering.now }
+    requires marks { SeenHasHistory ordering_of seen.now (party_number party) ordering.now }
     ensures { IsTrue result ↔ (without_reads (reverse history.now) ≡ reverse ordering.now) }
 {
     is_ordering_known(tie, party, seen) || is_ordering(history, ordering)

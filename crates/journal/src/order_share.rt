@@ -29,7 +29,7 @@ impl<N: Naming> Model for OrderShare<N> {
     ghost use Rattle.journal.specs.Comparing.{ordering_of};
     ghost use Rattle.journal.specs.Codes.{part_code};
     ghost use Rattle.journal.specs.Parts.{Part};
-    ghost use Rattle.journal.specs.Ties.{Marks};
+    ghost use Rattle.journal.specs.Ties.{SeenHasHistory};
 
     ghost Value = { Part };
 
@@ -38,7 +38,7 @@ impl<N: Naming> Model for OrderShare<N> {
     ghost view = { λ s. record { party = party_number s.party; history = reverse s.history.items } };
 
     ghost invariant = { λ s. (is_correct_replica N.config (party_number s.party) ≡ true)
-        × Marks ordering_of s.seen (party_number s.party) s.history.items };
+        × SeenHasHistory ordering_of s.seen (party_number s.party) s.history.items };
 }
 
 impl<N: Naming> OrderShare<N> {

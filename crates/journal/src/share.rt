@@ -31,7 +31,7 @@ impl<N: Naming> Model for Share<N> {
     ghost use Rattle.journal.specs.Histories.{IsRight};
     ghost use Rattle.journal.specs.Codes.{part_code};
     ghost use Rattle.journal.specs.Parts.{Part};
-    ghost use Rattle.journal.specs.Ties.{Marks};
+    ghost use Rattle.journal.specs.Ties.{SeenHasHistory};
 
     ghost Value = { Part };
 
@@ -41,7 +41,7 @@ impl<N: Naming> Model for Share<N> {
 
     ghost invariant = { λ s. (is_correct N.config (party_number s.party) ≡ true)
         × IsRight N.config (party_number s.party) (reverse s.history.items)
-        × Marks history_of s.seen (party_number s.party) s.history.items };
+        × SeenHasHistory history_of s.seen (party_number s.party) s.history.items };
 }
 
 impl<N: Naming> Share<N> {

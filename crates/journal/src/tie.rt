@@ -5,7 +5,7 @@ ghost use Rattle.std.specs.Prelude.{◌≡◌, [], Some, IfSome, OnSome, IfOk, I
 ghost use Rattle.terms.specs.Parties.{party_number};
 ghost use Rattle.protocol.specs.System.Trace.{history_of};
 ghost use Rattle.journal.specs.Comparing.{ordering_of};
-ghost use Rattle.journal.specs.Ties.{AddsEvent, IsTied, KeepsTies, Reaches, Shows};
+ghost use Rattle.journal.specs.Ties.{AddsEvent, IsTied, KeepsTies, SeenReachesLast, SeenShowsAll};
 
 use crate::entries::have_ordering;
 use crate::front::{Book, Front};
@@ -45,7 +45,7 @@ fn last_of(lasts: &[u64], party: Party) -> Option<u64>
 
 // Whether `seen` begins `whole`, and has at least `last` events.
 fn reaches<N: Naming>(seen: &Front<N>, whole: &Front<N>, last: Option<u64>) -> bool
-    ensures { IsTrue result → Reaches seen.now whole.now last }
+    ensures { IsTrue result → SeenReachesLast seen.now whole.now last }
 {
     match last {
         Some(last) => last <= seen.count() && seen.begins(whole),
@@ -74,13 +74,13 @@ impl<N: Naming> Tie<N> {
     }
 
     fn shows(&self, party: Party, seen: &Front<N>) -> bool
-        ensures { IsTrue result → Shows history_of (Some self.now) (Some seen.now) (party_number party) }
+        ensures { IsTrue result → SeenShowsAll history_of (Some self.now) (Some seen.now) (party_number party) }
     {
         reaches(seen, &self.front, last_of(self.lasts.as_slice(), party))
     }
 
     fn shows_ordering(&self, party: Party, seen: &Front<N>) -> bool
-        ensures { IsTrue result → Shows ordering_of (Some self.now) (Some seen.now) (party_number party) }
+        ensures { IsTrue result → SeenShowsAll ordering_of (Some self.now) (Some seen.now) (party_number party) }
     {
         reaches(seen, &self.front, last_of(self.ordered.as_slice(), party))
     }
@@ -112,7 +112,7 @@ pub(crate) fn is_known<N: Naming>(
     party: Party,
     seen: &Option<Front<N>>,
 ) -> bool
-    ensures { IsTrue result → Shows history_of tie.now seen.now (party_number party) }
+    ensures { IsTrue result → SeenShowsAll history_of tie.now seen.now (party_number party) }
 {
     match (tie, seen) {
         (Some(tie), Some(seen)) => tie.shows(party, seen),
@@ -126,7 +126,7 @@ pub(crate) fn is_ordering_known<N: Naming>(
     party: Party,
     seen: &Option<Front<N>>,
 ) -> bool
-    ensures { IsTrue result → Shows ordering_of tie.now seen.now (party_number party) }
+    ensures { IsTrue result → SeenShowsAll ordering_of tie.now seen.now (party_number party) }
 {
     match (tie, seen) {
         (Some(tie), Some(seen)) => tie.shows_ordering(party, seen),

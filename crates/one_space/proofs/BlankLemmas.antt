@@ -9,11 +9,11 @@ use Rattle.std.specs.Io.BufRead.{drop_through}
 use Rattle.tuple_tree.specs.Items.{none}
 use Rattle.tuple_codec.specs.Operations.{Operation, out, rdp, inp, cas, rd_all, in_all, upgrade}
 use Rattle.tuple_text.specs.Texts.{AreBlanks}
-use Rattle.tuple_text.specs.Lines.{name, IsSkipped, IsComment}
-use Rattle.tuple_text.specs.Faults.{Refuses, IsBadAt, Begins, EndsTooLong, KeepsBoth}
+use Rattle.tuple_text.specs.Lines.{operation_name, IsSkipped, IsComment}
+use Rattle.tuple_text.specs.Faults.{RefusesLine, IsBadAt, LineBegins, EndsTooLong, KeepsBoth}
 use Rattle.tuple_text.specs.declared.faults.LineFault.TheVariants.{BadByte, NoMemory}
 use Rattle.one_space.specs.Pieces.{TakesPiece}
-use Rattle.one_space.specs.NextLines.{GivesLine, Fails, IsJudged, IsRefused}
+use Rattle.one_space.specs.NextLines.{GivesLine, NextLineFails, IsJudged, IsRefused}
 use Rattle.one_space.specs.declared.pieces.PieceEnd.TheVariants.{Full, LineFeed, InputEnd}
 use Rattle.one_space.specs.declared.input.NextLine.{NextLine}
 use Rattle.one_space.specs.declared.input.NextLine.TheVariants as next
@@ -64,7 +64,7 @@ strip-behind p q some = ap (λ x. cond (x == 13) (take (length (p ++ q) - 1) (p 
     at false = refl
 
 -- No operation's name begins with a blank.
-unnamed : (o : Operation) (rest : List ℕ) → AreBlanks (name o ++ rest) → ⊥
+unnamed : (o : Operation) (rest : List ℕ) → AreBlanks (operation_name o ++ rest) → ⊥
 unnamed (out t) rest h = omega (arith, h.0)
 unnamed (rdp p) rest h = omega (arith, h.0)
 unnamed (inp p) rest h = omega (arith, h.0)
@@ -75,10 +75,10 @@ unnamed upgrade rest h = omega (arith, h.0)
 
 -- a line whose first n bytes are blanks, as many as a line may have, and which is longer
 module _ (l : List ℕ) (n : ℕ) (blank : AreBlanks (take n l)) (least : 65536 ≤ n) (most : n ≤ 65536) (long : n + 1 ≤ length l) where
-  begins : Begins KeepsBoth (take n l)
+  begins : LineBegins KeepsBoth (take n l)
   begins =
       let behind : List ℕ = 32 ∷ 40 ∷ 41 ∷ [] in (
-        name (out none) ++ behind,
+        operation_name (out none) ++ behind,
         out none,
         (take n l, behind, refl, blank, (32 ∷ [], 40 ∷ 41 ∷ [], [], refl, (omega arith, (refl, tt)), (([], refl, tt), tt), tt)),
         (omega arith, (omega arith, tt)),
@@ -87,7 +87,7 @@ module _ (l : List ℕ) (n : ℕ) (blank : AreBlanks (take n l)) (least : 65536 
   short : (k : ℕ) → k ≤ n → EndsTooLong (take k l) → ⊥
   short k below e =
       let front : AreBlanks (take k l) = subst AreBlanks (take-take k n l below) (blanks-take (take n l) k blank) in
-      unnamed e.o e.rest (blanks-back e.lead (name e.o ++ e.rest) (subst AreBlanks e.whole front))
+      unnamed e.o e.rest (blanks-back e.lead (operation_name e.o ++ e.rest) (subst AreBlanks e.whole front))
 
   bad_at : IsBadAt l n
   bad_at = record {
@@ -108,7 +108,7 @@ module _ (l p : List ℕ) (same : take (length p) l ≡ p) (blank : AreBlanks p)
   front : (n : ℕ) → n ≤ length p → AreBlanks (take n l)
   front n below = subst AreBlanks (ap (take n) (sym same) ∙ take-take n (length p) l below) (blanks-take p n blank)
 
-  pub refused_blanks : (AreBlanks l → ⊥) → Refuses (BadByte 65536) l
+  pub refused_blanks : (AreBlanks l → ⊥) → RefusesLine (BadByte 65536) l
   refused_blanks other = (unskipped, bad_at l 65536 (front 65536 (omega (arith, many))) (omega arith) (omega arith) (omega (arith, many, long)))
     where
       unskipped : IsSkipped l → ⊥
@@ -130,7 +130,7 @@ refused_end p l blank many other = (
 
 -- another byte before the last of a part
 pub refused_part : (p q ys : List ℕ) → AreBlanks p → 65537 ≤ length p → NoLineFeed q → 0 < length q → (AreBlanks (take (length q - 1) q) → ⊥)
-    → Fails (no.Refused (BadByte 65536)) (p ++ (q ++ ys))
+    → NextLineFails (no.Refused (BadByte 65536)) (p ++ (q ++ ys))
 refused_part p q ys blank many clean some other =
     let n = length p + (length q - 1) in
     let both = length-append p q in
@@ -190,20 +190,20 @@ OfBlanks start before Said = IfSome start (λ ys. (p : List ℕ) → AreBlanks p
 
 part_refused : (xs before mid full : List ℕ) (known left : Option (List ℕ)) (limit : ℕ) → Drops xs known before mid → IfSome known (λ ys. TakesPiece (Some Full) limit ys left mid full)
     → (AreBlanks (take (length full - 1) full) → ⊥)
-    → (p : List ℕ) → AreBlanks p → 65537 ≤ length p → NoLineFeed before → Fails (no.Refused (BadByte 65536)) (p ++ (before ++ xs))
+    → (p : List ℕ) → AreBlanks p → 65537 ≤ length p → NoLineFeed before → NextLineFails (no.Refused (BadByte 65536)) (p ++ (before ++ xs))
 part_refused xs before mid full known left limit d taken other p blank many clean =
     let t = subst (λ o. IfSome o (λ ys. TakesPiece (Some Full) limit ys left mid full)) d.left_is taken in
     let some : 0 < length full = omega (arith, d.some, ap length t.kept, length-append mid t.part) in
     let whole : p ++ (before ++ xs) ≡ (p ++ d.blanks) ++ (full ++ t.rest) =
     ap (λ l. p ++ l) (d.whole ∙ ap (λ l. d.blanks ++ l) (ap (λ l. mid ++ l) t.taken ∙ sym (append_assoc mid t.part t.rest) ∙ ap (λ l. l ++ t.rest) (sym t.kept)))
     ∙ sym (append_assoc p d.blanks (full ++ t.rest)) in
-    subst (Fails (no.Refused (BadByte 65536))) (sym whole)
+    subst (NextLineFails (no.Refused (BadByte 65536))) (sym whole)
     (refused_part (p ++ d.blanks) full t.rest (blanks-append p d.blanks blank d.are) (omega (arith, many, length-append p d.blanks))
     (subst NoLineFeed (sym t.kept) (All-append (λ b. (b == 10) ≡ false) mid t.part (d.clean clean) t.one_line)) some other)
 
 pub part_refused_known : (start known left : Option (List ℕ)) (before mid full : List ℕ) (limit : ℕ) → IfSome start (λ xs. Drops xs known before mid)
     → IfSome known (λ ys. TakesPiece (Some Full) limit ys left mid full) → (AreBlanks (take (length full - 1) full) → ⊥)
-    → OfBlanks start before (Fails (no.Refused (BadByte 65536)))
+    → OfBlanks start before (NextLineFails (no.Refused (BadByte 65536)))
 part_refused_known None known left before mid full limit d taken other = tt
 part_refused_known (Some xs) known left before mid full limit d taken other = part_refused xs before mid full known left limit d taken other
 
@@ -212,7 +212,7 @@ abbrev pub EndJudged : {A : Type 0} → Result (NextLine A) NoLine → List ℕ 
 EndJudged r l = (p : List ℕ) → AreBlanks p → 65537 ≤ length p → MatchResult r (λ given. IsJudged given (p ++ l)) (λ failed. IsRefused failed (p ++ l))
 
 abbrev pub Answers : {A : Type 0} → Option (List ℕ) → Result (NextLine A) NoLine → List ℕ → Type 0
-Answers left r xs = MatchResult r (λ given. GivesLine given xs left) (λ failed. Fails failed xs)
+Answers left r xs = MatchResult r (λ given. GivesLine given xs left) (λ failed. NextLineFails failed xs)
 
 end_at : {A : Type 0} (xs before mid full : List ℕ) (known left : Option (List ℕ)) (limit : ℕ) (r : Result (NextLine A) NoLine)
     → Drops xs known before mid → IfSome known (λ ys. TakesPiece (Some LineFeed) limit ys left mid full) → EndJudged r (strip_carriage_return full)
@@ -283,7 +283,7 @@ judged_long (Some ys) left line (Ok given) long other hash judged = absurd (judg
 judged_long (Some ys) left line (Err failed) long other hash judged = refused_long (Some ys) line failed long judged
 
 refused_front : (n : ℕ) (line ys : List ℕ) → 65537 ≤ n → n + 1 ≤ length line → AreBlanks (take n line) → (AreBlanks (take (length line - 1) line) → ⊥) → NoLineFeed line
-    → Fails (no.Refused (BadByte 65536)) (line ++ ys)
+    → NextLineFails (no.Refused (BadByte 65536)) (line ++ ys)
 refused_front n line ys many long blank other clean =
     let p = take n line in
     let q = drop n line in
@@ -292,12 +292,12 @@ refused_front n line ys many long blank other clean =
     let second : length q ≡ length line - n = length-drop n line in
     let place : length p + (length q - 1) ≡ length line - 1 = omega (arith, first, second, long) in
     let same : p ++ take (length q - 1) q ≡ take (length line - 1) line = sym (take-append-add p q (length q - 1)) ∙ ap (λ i. take i (p ++ q)) place ∙ ap (take (length line - 1)) whole in
-    subst (Fails (no.Refused (BadByte 65536))) (sym (append_assoc p q ys) ∙ ap (λ l. l ++ ys) whole)
+    subst (NextLineFails (no.Refused (BadByte 65536))) (sym (append_assoc p q ys) ∙ ap (λ l. l ++ ys) whole)
     (refused_part p q ys blank (omega (arith, first, many)) (All-drop (λ b. (b == 10) ≡ false) n line clean) (omega (arith, second, long))
     (λ h. other (subst AreBlanks same (blanks-append p (take (length q - 1) q) blank h))))
 
 pub refused_first : (start : Option (List ℕ)) (line : List ℕ) → 65538 ≤ length line → AreBlanks (take 65537 line) → (AreBlanks (take (length line - 1) line) → ⊥)
-    → IfSome start (λ ys. NoLineFeed line → Fails (no.Refused (BadByte 65536)) (line ++ ys))
+    → IfSome start (λ ys. NoLineFeed line → NextLineFails (no.Refused (BadByte 65536)) (line ++ ys))
 refused_first None line long blank other = tt
 refused_first (Some ys) line long blank other = refused_front 65537 line ys (omega arith) (omega (arith, long)) blank other
 

@@ -4,11 +4,11 @@ use Rattle.std.specs.Str.Lines.{lines, strip_carriage_return}
 use Rattle.std.specs.Io.BufRead.{drop_through, DropsThrough}
 use Rattle.tuple_text.specs.Lines.{IsSkipped, IsComment}
 use Rattle.tuple_text.specs.Texts.{AreBlanks}
-use Rattle.tuple_text.specs.Faults.{Faults, Passes, StopsAt, Begins, EndsTooLong, KeepsBoth, KeepsLevels, KeepsCounts, AnyOperation}
+use Rattle.tuple_text.specs.Faults.{Faults, PassesNoLimit, StopsAt, LineBegins, EndsTooLong, KeepsBoth, KeepsLevels, KeepsCounts, AnyOperation}
 use Rattle.tuple_text.specs.declared.faults.LineFault.{LineFault}
 use Rattle.tuple_text.specs.declared.faults.LineFault.TheVariants.{BadByte, TooDeep, TooManyFields, TooLong, NoMemory}
 use Rattle.one_space.specs.Pieces.{TakesPiece}
-use Rattle.one_space.specs.NextLines.{IsNextLine, BeginsWith, GivesLine, Fails, IsJudged, IsRefused}
+use Rattle.one_space.specs.NextLines.{IsNextLine, BeginsWith, GivesLine, NextLineFails, IsJudged, IsRefused}
 use Rattle.one_space.specs.declared.pieces.PieceEnd.TheVariants.{Full, LineFeed, InputEnd}
 use Rattle.one_space.specs.declared.input.NextLine.{NextLine}
 use Rattle.one_space.specs.declared.input.NextLine.TheVariants as next
@@ -48,14 +48,14 @@ module _ (l xs : List ℕ) where
   given_of left next.Skipped first judged = (l, first, judged)
   given_of left (next.Operation op) first judged = (l, first, judged)
 
-  pub failed_of : (others : List (List ℕ)) (failed : NoLine) → lines xs ≡ l ∷ others → IsRefused failed l → Fails failed xs
+  pub failed_of : (others : List (List ℕ)) (failed : NoLine) → lines xs ≡ l ∷ others → IsRefused failed l → NextLineFails failed xs
   failed_of others (no.Refused fault) split refused = (refused.0, record { first = l; others = others; split = split; holds = refused.1 })
   failed_of others no.NoMemory split refused = tt
   failed_of others (no.Read error) split refused = absurd refused
 
   pub judged_of : {A : Type 0} (left : Option (List ℕ)) (r : Result (NextLine A) NoLine) → IsNextLine l xs left
       → MatchResult r (λ given. IsJudged given l) (λ failed. IsRefused failed l)
-      → MatchResult r (λ given. GivesLine given xs left) (λ failed. Fails failed xs)
+      → MatchResult r (λ given. GivesLine given xs left) (λ failed. NextLineFails failed xs)
   judged_of left (Ok given) first judged = given_of left given first judged
   judged_of left (Err failed) first judged = failed_of (lines first.rest) failed first.split judged
 
@@ -66,20 +66,20 @@ next_at (Some xs) left limit line taken = begins_at limit xs left line taken
 
 pub judged_next : {A : Type 0} (start left : Option (List ℕ)) (l : List ℕ) (r : Result (NextLine A) NoLine) → IfSome start (λ xs. IsNextLine l xs left)
     → MatchResult r (λ given. IsJudged given l) (λ failed. IsRefused failed l)
-    → IfSome start (λ xs. MatchResult r (λ given. GivesLine given xs left) (λ failed. Fails failed xs))
+    → IfSome start (λ xs. MatchResult r (λ given. GivesLine given xs left) (λ failed. NextLineFails failed xs))
 judged_next None left l r first judged = tt
 judged_next (Some xs) left l r first judged = judged_of l xs left r first judged
 
 pub judged_at : {A : Type 0} (start left : Option (List ℕ)) (limit : ℕ) (line : List ℕ) (r : Result (NextLine A) NoLine)
     → IfSome start (λ xs. TakesPiece (Some LineFeed) limit xs left [] line)
     → MatchResult r (λ given. IsJudged given (strip_carriage_return line)) (λ failed. IsRefused failed (strip_carriage_return line))
-    → IfSome start (λ xs. MatchResult r (λ given. GivesLine given xs left) (λ failed. Fails failed xs))
+    → IfSome start (λ xs. MatchResult r (λ given. GivesLine given xs left) (λ failed. NextLineFails failed xs))
 judged_at start left limit line r taken judged = judged_next start left (strip_carriage_return line) r (next_at start left limit line taken) judged
 
 pub judged_last : {A : Type 0} (start left : Option (List ℕ)) (limit : ℕ) (line : List ℕ) (r : Result (NextLine A) NoLine) → 0 < length line
     → IfSome start (λ xs. TakesPiece (Some InputEnd) limit xs left [] line)
     → MatchResult r (λ given. IsJudged given line) (λ failed. IsRefused failed line)
-    → IfSome start (λ xs. MatchResult r (λ given. GivesLine given xs left) (λ failed. Fails failed xs))
+    → IfSome start (λ xs. MatchResult r (λ given. GivesLine given xs left) (λ failed. NextLineFails failed xs))
 judged_last None left limit line r some taken judged = tt
 judged_last (Some xs) left limit line r some taken judged = judged_of line xs left r (begins_last limit xs left line taken some) judged
 
@@ -105,11 +105,11 @@ module _ (l k : List ℕ) (same : take 65537 l ≡ k) (long : 65537 ≤ length l
   full : length k ≡ 65537
   full = ap length (sym same) ∙ length-take-le 65537 l long
 
-  passes : (n : ℕ) → Passes k n → Passes l n
+  passes : (n : ℕ) → PassesNoLimit k n → PassesNoLimit l n
   passes n p = record {
     within = omega (arith, p.limit, long);
     limit = p.limit;
-    begins = subst (Begins KeepsBoth) (front n (omega (arith, p.limit))) p.begins;
+    begins = subst (LineBegins KeepsBoth) (front n (omega (arith, p.limit))) p.begins;
     short = λ j below e. p.short j below (subst EndsTooLong (sym (front j (omega (arith, p.limit)))) e);
   }
 
@@ -123,25 +123,25 @@ module _ (l k : List ℕ) (same : take 65537 l ≡ k) (long : 65537 ≤ length l
   faults : (fault : LineFault) → Faults fault k → Faults fault l
   faults (BadByte n) b = record {
     passes = passes n b.passes;
-    longest = λ below limit e. b.longest (omega (arith, full, limit)) limit (subst (Begins AnyOperation) (sym (front (n + 1) (omega arith))) e);
+    longest = λ below limit e. b.longest (omega (arith, full, limit)) limit (subst (LineBegins AnyOperation) (sym (front (n + 1) (omega arith))) e);
     unfinished = λ e. absurd (omega (arith, b.passes.limit, long, e));
   }
   faults TooDeep f = (
     f.0,
     stops f.0 f.1,
-    subst (Begins AnyOperation) (front (f.0 + 1) (omega (arith, f.1.limit))) f.2,
-    λ e. f.3 (subst (Begins KeepsLevels) (sym (front (f.0 + 1) (omega (arith, f.1.limit)))) e),
+    subst (LineBegins AnyOperation) (front (f.0 + 1) (omega (arith, f.1.limit))) f.2,
+    λ e. f.3 (subst (LineBegins KeepsLevels) (sym (front (f.0 + 1) (omega (arith, f.1.limit)))) e),
   )
   faults TooManyFields f = (
     f.0,
     stops f.0 f.1,
-    subst (Begins KeepsLevels) (front (f.0 + 1) (omega (arith, f.1.limit))) f.2,
-    λ e. f.3 (subst (Begins KeepsCounts) (sym (front (f.0 + 1) (omega (arith, f.1.limit)))) e),
+    subst (LineBegins KeepsLevels) (front (f.0 + 1) (omega (arith, f.1.limit))) f.2,
+    λ e. f.3 (subst (LineBegins KeepsCounts) (sym (front (f.0 + 1) (omega (arith, f.1.limit)))) e),
   )
   faults TooLong f = (
     f.0,
     stops f.0 f.1,
-    subst (Begins KeepsBoth) (front (f.0 + 1) (omega (arith, f.1.limit))) f.2,
+    subst (LineBegins KeepsBoth) (front (f.0 + 1) (omega (arith, f.1.limit))) f.2,
     subst EndsTooLong (front (f.0 + 1) (omega (arith, f.1.limit))) f.3,
   )
   faults NoMemory f = tt
@@ -171,7 +171,7 @@ refused_line l k no.NoMemory same long refused = tt
 refused_line l k (no.Read error) same long refused = refused
 
 pub refused_long : (start : Option (List ℕ)) (line : List ℕ) (failed : NoLine) → 65538 ≤ length line → IsRefused failed (take 65537 line)
-    → IfSome start (λ ys. NoLineFeed line → Fails failed (line ++ ys))
+    → IfSome start (λ ys. NoLineFeed line → NextLineFails failed (line ++ ys))
 refused_long None line failed long refused = tt
 refused_long (Some ys) line failed long refused = λ clean.
     let whole = long_line_of line ys 65537 clean (omega arith) in

@@ -11,11 +11,11 @@ use Rattle.tuple_text.specs.Lines.{IsLine, IsSkipped}
 use Rattle.tuple_text.specs.declared.faults.LineFault.TheVariants.{TooLong}
 use Rattle.space.specs.Applying.{Contents, outcome, tuples_after}
 use Rattle.space.specs.Births.{SpaceState, tuples_of, state_after}
-use Rattle.one_space.specs.Run.{Ending, complete, refused_at, cut_short, result_line, Runs, at_end, stops, skips, answers, refuses, is_late}
-use Rattle.one_space.specs.NextLines.{GivesLine, Fails, BeginsWith, IsNextLine}
+use Rattle.one_space.specs.Run.{Ending, complete, refused_at, cut_short, result_line, RunsLines, at_end, stops, skips, answers, refuses, is_late}
+use Rattle.one_space.specs.NextLines.{GivesLine, NextLineFails, BeginsWith, IsNextLine}
 use Rattle.one_space.specs.declared.pieces.ReadFault.{ReadFault}
 use Rattle.one_space.specs.declared.pieces.ReadFault.TheVariants as pieces
-use Rattle.one_space.specs.Endings.{Along, AddsResults, StopsBy, MovesOn, IsWriteFault, fault_at, read_fault_of}
+use Rattle.one_space.specs.Endings.{Along, AddsResults, StopsBy, FrontIsWritten, IsWriteFault, fault_at_line, read_fault_of}
 use Rattle.one_space.specs.declared.input.NextLine.TheVariants as next
 use Rattle.one_space.specs.declared.input.NoLine.{NoLine}
 use Rattle.one_space.specs.declared.input.NoLine.TheVariants as no
@@ -28,21 +28,21 @@ use Rattle.space.proofs.Keeping.{tuples_of-state_after}
 
 module _ (initial : Contents) (bytes : List ℕ) (known old new : Option (List ℕ)) (n : ℕ) (ts : Contents) (pending : List ℕ) (along : Along initial bytes known old new n ts pending) where
   -- nothing more is written
-  adds : (ending : Ending) → Runs n ts (lines along.rest) [] ending → AddsResults initial bytes ending old new pending
-  adds ending r = (along.done, subst (λ w. Runs 1 initial (lines bytes) w ending) (append-nil (along.done ++ pending)) (along.leads [] ending r), along.wrote)
+  adds : (ending : Ending) → RunsLines n ts (lines along.rest) [] ending → AddsResults initial bytes ending old new pending
+  adds ending r = (along.done, subst (λ w. RunsLines 1 initial (lines bytes) w ending) (append-nil (along.done ++ pending)) (along.leads [] ending r), along.wrote)
 
   pub at_last : lines along.rest ≡ [] → AddsResults initial bytes complete old new pending
-  at_last e = adds complete (subst (λ ls. Runs n ts ls [] complete) (sym e) at_end)
+  at_last e = adds complete (subst (λ ls. RunsLines n ts ls [] complete) (sym e) at_end)
 
   pub cut : AddsResults initial bytes cut_short old new pending
   cut = adds cut_short stops
 
   pub late : 2 ^ 48 ≤ n → BeginsWith (λ _. Unit {0}) along.rest → AddsResults initial bytes (refused_at n TooLong) old new pending
-  late h b = adds (refused_at n TooLong) (subst (λ ls. Runs n ts ls [] (refused_at n TooLong)) (sym b.split) (is_late h))
+  late h b = adds (refused_at n TooLong) (subst (λ ls. RunsLines n ts ls [] (refused_at n TooLong)) (sym b.split) (is_late h))
 
-  pub failed : (failure : NoLine) → n < 2 ^ 48 → Fails failure along.rest → StopsBy (fault_at n failure) initial bytes old new pending
+  pub failed : (failure : NoLine) → n < 2 ^ 48 → NextLineFails failure along.rest → StopsBy (fault_at_line n failure) initial bytes old new pending
   failed (no.Refused fault) below f =
-      adds (refused_at n fault) (subst (λ ls. Runs n ts ls [] (refused_at n fault)) (sym f.1.split) (refuses below f.0 f.1.holds))
+      adds (refused_at n fault) (subst (λ ls. RunsLines n ts ls [] (refused_at n fault)) (sym f.1.split) (refuses below f.0 f.1.holds))
   failed no.NoMemory below f = cut
   failed (no.Read error) below f = cut
 
@@ -52,7 +52,7 @@ module _ (initial : Contents) (bytes : List ℕ) (known old new : Option (List �
     done = along.done;
     known_is = given.1.left_is;
     wrote = along.wrote;
-    leads = λ more ending r. along.leads more ending (subst (λ ls. Runs n ts ls more ending) (sym given.1.split) (skips below given.2 r));
+    leads = λ more ending r. along.leads more ending (subst (λ ls. RunsLines n ts ls more ending) (sym given.1.split) (skips below given.2 r));
   }
 
   pub past_operation : (left : Option (List ℕ)) (o : Operation) (first : List ℕ) (more_pending : List ℕ) (after : Contents) → n < 2 ^ 48 → IsNextLine first along.rest left
@@ -64,22 +64,22 @@ module _ (initial : Contents) (bytes : List ℕ) (known old new : Option (List �
     wrote = along.wrote;
     leads = λ more ending r.
         let answered = along.leads (result_line (outcome ts 0 o) ++ more) ending
-        (subst (λ ls. Runs n ts ls (result_line (outcome ts 0 o) ++ more) ending) (sym given.split) (answers o below is_line (subst (λ us. Runs (n + 1) us (lines given.rest) more ending) e r))) in
-        subst (λ l. Runs 1 initial (lines bytes) l ending)
+        (subst (λ ls. RunsLines n ts ls (result_line (outcome ts 0 o) ++ more) ending) (sym given.split) (answers o below is_line (subst (λ us. RunsLines (n + 1) us (lines given.rest) more ending) e r))) in
+        subst (λ l. RunsLines 1 initial (lines bytes) l ending)
         (sym (append_assoc (along.done ++ pending) (result_line (outcome ts 0 o)) more) ∙ ap (λ l. l ++ more) (append_assoc along.done pending (result_line (outcome ts 0 o)) ∙ ap (λ l. along.done ++ l) (sym w)))
         answered;
   }
 
 -- The first pending bytes went to the writer.
 pub moved : (initial : Contents) (bytes : List ℕ) (known old new written : Option (List ℕ)) (n : ℕ) (ts : Contents) (pending still : List ℕ)
-    → Along initial bytes known old new n ts pending → MovesOn new written pending still → Along initial bytes known old written n ts still
+    → Along initial bytes known old new n ts pending → FrontIsWritten new written pending still → Along initial bytes known old written n ts still
 moved initial bytes known old new written n ts pending still along moves = record {
   rest = along.rest;
   done = along.done ++ moves.gone;
   known_is = along.known_is;
   wrote = Appends-trans old new written along.done moves.gone along.wrote moves.wrote;
   leads = λ more ending r.
-      subst (λ l. Runs 1 initial (lines bytes) (l ++ more) ending) (ap (λ l. along.done ++ l) (sym moves.split) ∙ sym (append_assoc along.done moves.gone still)) (along.leads more ending r);
+      subst (λ l. RunsLines 1 initial (lines bytes) (l ++ more) ending) (ap (λ l. along.done ++ l) (sym moves.split) ∙ sym (append_assoc along.done moves.gone still)) (along.leads more ending r);
 }
 
 -- a property of the bytes left, if these are known
@@ -103,16 +103,16 @@ state_after_next s o = omega (arith, next_after s 0 o)
 
 -- The bytes left, after the next line was read.
 module _ {A : Type 0} (initial : Contents) (bytes : List ℕ) (known old new : Option (List ℕ)) (n : ℕ) (ts : Contents) (pending : List ℕ) (along : Along initial bytes known old new n ts pending)
-    (left : Option (List ℕ)) (result : Result (NextLine A) NoLine) (read : IfSome known (λ xs. MatchResult result (λ x. GivesLine x xs left) (λ why. Fails why xs))) where
-  told : MatchResult result (λ x. GivesLine x along.rest left) (λ why. Fails why along.rest)
-  told = known_of (λ xs. MatchResult result (λ x. GivesLine x xs left) (λ why. Fails why xs)) initial bytes known old new n ts pending along read
+    (left : Option (List ℕ)) (result : Result (NextLine A) NoLine) (read : IfSome known (λ xs. MatchResult result (λ x. GivesLine x xs left) (λ why. NextLineFails why xs))) where
+  told : MatchResult result (λ x. GivesLine x along.rest left) (λ why. NextLineFails why along.rest)
+  told = known_of (λ xs. MatchResult result (λ x. GivesLine x xs left) (λ why. NextLineFails why xs)) initial bytes known old new n ts pending along read
 
   gives : (field x : NextLine A) → result ≡ Ok field → field ≡ x → GivesLine x along.rest left
   gives field x e f =
-      subst (λ y. GivesLine y along.rest left) f (subst (λ r. MatchResult r (λ y. GivesLine y along.rest left) (λ why. Fails why along.rest)) e told)
+      subst (λ y. GivesLine y along.rest left) f (subst (λ r. MatchResult r (λ y. GivesLine y along.rest left) (λ why. NextLineFails why along.rest)) e told)
 
-  fails : (why : NoLine) → result ≡ Err why → Fails why along.rest
-  fails why e = subst (λ r. MatchResult r (λ y. GivesLine y along.rest left) (λ why. Fails why along.rest)) e told
+  fails : (why : NoLine) → result ≡ Err why → NextLineFails why along.rest
+  fails why e = subst (λ r. MatchResult r (λ y. GivesLine y along.rest left) (λ why. NextLineFails why along.rest)) e told
 
   pub ends : (field : NextLine A) → result ≡ Ok field → field ≡ next.End → AddsResults initial bytes complete old new pending
   ends field e f = at_last initial bytes known old new n ts pending along (gives field next.End e f)
@@ -120,7 +120,7 @@ module _ {A : Type 0} (initial : Contents) (bytes : List ℕ) (known old new : O
   pub skips_on : (field : NextLine A) → n < 2 ^ 48 → result ≡ Ok field → field ≡ next.Skipped → Along initial bytes left old new (n + 1) ts pending
   skips_on field below e f = past_skipped initial bytes known old new n ts pending along left below (gives field next.Skipped e f)
 
-  pub fails_so : (why : NoLine) → n < 2 ^ 48 → result ≡ Err why → StopsBy (fault_at n why) initial bytes old new pending
+  pub fails_so : (why : NoLine) → n < 2 ^ 48 → result ≡ Err why → StopsBy (fault_at_line n why) initial bytes old new pending
   fails_so why below e = failed initial bytes known old new n ts pending along why below (fails why e)
 
   pub runs_on : (field : NextLine A) (op : Op A) (after before : SpaceState) (more_pending : List ℕ) → n < 2 ^ 48
@@ -172,7 +172,7 @@ module _ (initial : Contents) (bytes : List ℕ) (known old new : Option (List �
 module _ (initial : Contents) (start old new written : Option (List ℕ)) (pending : List ℕ) (appended : Appends new written pending) where
   all_written : (bytes : List ℕ) (ending : Ending) → AddsResults initial bytes ending old new pending → AddsResults initial bytes ending old written []
   all_written bytes ending a =
-      (a.0 ++ pending, subst (λ w. Runs 1 initial (lines bytes) w ending) (sym (append-nil (a.0 ++ pending))) a.1, Appends-trans old new written a.0 pending a.2 appended)
+      (a.0 ++ pending, subst (λ w. RunsLines 1 initial (lines bytes) w ending) (sym (append-nil (a.0 ++ pending))) a.1, Appends-trans old new written a.0 pending a.2 appended)
 
   pub written_at_last : (e : Ending) → IfSome start (λ bytes. AddsResults initial bytes e old new pending) → IfSome start (λ bytes. AddsResults initial bytes e old written [])
   written_at_last e h =

@@ -8,9 +8,9 @@ use Rattle.tuple_codec.specs.OperationView.{operation_of}
 use Rattle.tuple_codec.specs.declared.operations.Op.{Op}
 use Rattle.tuple_text.specs.declared.faults.LineFault.TheVariants.{TooLong}
 use Rattle.one_space.specs.Run.{Ending, complete, refused_at}
-use Rattle.one_space.specs.NextLines.{GivesLine, Fails, BeginsWith}
-use Rattle.one_space.specs.Endings.{fault_at}
-use Rattle.one_space.specs.Scripts.{Says, at_end, skips, calls, refuses, is_late, SaysSome, EndsBy, ReadSoFar, KeptSoFar, KeepsFirst, AreFirst}
+use Rattle.one_space.specs.NextLines.{GivesLine, NextLineFails, BeginsWith}
+use Rattle.one_space.specs.Endings.{fault_at_line}
+use Rattle.one_space.specs.Scripts.{LinesSay, at_end, skips, calls, refuses, is_late, SaysSome, EndsBy, ReadSoFar, KeptSoFar, KeepsFirst, AreFirstOperations}
 use Rattle.one_space.specs.declared.pieces.ReadFault.{ReadFault}
 use Rattle.one_space.specs.declared.pieces.ReadFault.TheVariants as pieces
 use Rattle.one_space.specs.declared.input.NextLine.{NextLine}
@@ -48,28 +48,28 @@ module _ (most : ℕ) (xs : List (Op Global)) (op : Op Global) (all : List Opera
 -- The bytes left, after the next line was read.
 module _ (most : ℕ) (bytes : List ℕ) (known : Option (List ℕ)) (n : ℕ) (old : Vec (Op Global) Global) (before : KeptSoFar most bytes known n old)
     (left : Option (List ℕ)) (result : Result (NextLine Global) NoLine)
-    (read : IfSome known (λ xs. MatchResult result (λ x. GivesLine x xs left) (λ why. Fails why xs))) where
+    (read : IfSome known (λ xs. MatchResult result (λ x. GivesLine x xs left) (λ why. NextLineFails why xs))) where
   so_far : ReadSoFar bytes known n before.all
   so_far = before.so_far
 
-  told : MatchResult result (λ x. GivesLine x so_far.rest left) (λ why. Fails why so_far.rest)
-  told = subst (λ o. IfSome o (λ xs. MatchResult result (λ x. GivesLine x xs left) (λ why. Fails why xs))) so_far.known_is read
+  told : MatchResult result (λ x. GivesLine x so_far.rest left) (λ why. NextLineFails why so_far.rest)
+  told = subst (λ o. IfSome o (λ xs. MatchResult result (λ x. GivesLine x xs left) (λ why. NextLineFails why xs))) so_far.known_is read
 
   gives : (field x : NextLine Global) → result ≡ Ok field → field ≡ x → GivesLine x so_far.rest left
   gives field x e f =
-      subst (λ y. GivesLine y so_far.rest left) f (subst (λ r. MatchResult r (λ y. GivesLine y so_far.rest left) (λ why. Fails why so_far.rest)) e told)
+      subst (λ y. GivesLine y so_far.rest left) f (subst (λ r. MatchResult r (λ y. GivesLine y so_far.rest left) (λ why. NextLineFails why so_far.rest)) e told)
 
-  fails : (why : NoLine) → result ≡ Err why → Fails why so_far.rest
-  fails why e = subst (λ r. MatchResult r (λ y. GivesLine y so_far.rest left) (λ why. Fails why so_far.rest)) e told
+  fails : (why : NoLine) → result ≡ Err why → NextLineFails why so_far.rest
+  fails why e = subst (λ r. MatchResult r (λ y. GivesLine y so_far.rest left) (λ why. NextLineFails why so_far.rest)) e told
 
-  ends_so : (ending : Ending) → Says n (lines so_far.rest) [] ending → Says 1 (lines bytes) before.all ending
-  ends_so ending r = subst (λ os. Says 1 (lines bytes) os ending) (append-nil before.all) (so_far.leads [] ending r)
+  ends_so : (ending : Ending) → LinesSay n (lines so_far.rest) [] ending → LinesSay 1 (lines bytes) before.all ending
+  ends_so ending r = subst (λ os. LinesSay 1 (lines bytes) os ending) (append-nil before.all) (so_far.leads [] ending r)
 
-  pub ends : (new : Vec (Op Global) Global) (field : NextLine Global) → result ≡ Ok field → field ≡ next.End → new ≡ old → AreFirst most bytes new
+  pub ends : (new : Vec (Op Global) Global) (field : NextLine Global) → result ≡ Ok field → field ≡ next.End → new ≡ old → AreFirstOperations most bytes new
   ends new field e f same =
       rw same (record {
         all = before.all;
-        said = ends_so complete (subst (λ ls. Says n ls [] complete) (sym (gives field next.End e f)) at_end);
+        said = ends_so complete (subst (λ ls. LinesSay n ls [] complete) (sym (gives field next.End e f)) at_end);
         first = before.first;
       })
 
@@ -82,7 +82,7 @@ module _ (most : ℕ) (bytes : List ℕ) (known : Option (List ℕ)) (n : ℕ) (
         so_far = record {
           rest = given.1.rest;
           known_is = given.1.left_is;
-          leads = λ more ending r. so_far.leads more ending (subst (λ ls. Says n ls more ending) (sym given.1.split) (skips below given.2 r));
+          leads = λ more ending r. so_far.leads more ending (subst (λ ls. LinesSay n ls more ending) (sym given.1.split) (skips below given.2 r));
         };
         first = before.first;
       })
@@ -99,19 +99,19 @@ module _ (most : ℕ) (bytes : List ℕ) (known : Option (List ℕ)) (n : ℕ) (
           known_is = given.1.left_is;
           leads = λ more ending r.
               let said = so_far.leads (operation_of op ∷ more) ending
-              (subst (λ ls. Says n ls (operation_of op ∷ more) ending) (sym given.1.split) (calls (operation_of op) below given.2 r)) in
-              subst (λ os. Says 1 (lines bytes) os ending) (sym (append_assoc before.all (operation_of op ∷ []) more)) said;
+              (subst (λ ls. LinesSay n ls (operation_of op ∷ more) ending) (sym given.1.split) (calls (operation_of op) below given.2 r)) in
+              subst (λ os. LinesSay 1 (lines bytes) os ending) (sym (append_assoc before.all (operation_of op ∷ []) more)) said;
         };
         first = keeps before.all before.first;
       }
 
-  failed : (why : NoLine) → n < 2 ^ 48 → Fails why so_far.rest → EndsBy (fault_at n why) bytes
+  failed : (why : NoLine) → n < 2 ^ 48 → NextLineFails why so_far.rest → EndsBy (fault_at_line n why) bytes
   failed (no.Refused fault) below f =
-      (before.all, ends_so (refused_at n fault) (subst (λ ls. Says n ls [] (refused_at n fault)) (sym f.1.split) (refuses below f.0 f.1.holds)))
+      (before.all, ends_so (refused_at n fault) (subst (λ ls. LinesSay n ls [] (refused_at n fault)) (sym f.1.split) (refuses below f.0 f.1.holds)))
   failed no.NoMemory below f = tt
   failed (no.Read error) below f = tt
 
-  pub fails_so : (why : NoLine) → n < 2 ^ 48 → result ≡ Err why → EndsBy (fault_at n why) bytes
+  pub fails_so : (why : NoLine) → n < 2 ^ 48 → result ≡ Err why → EndsBy (fault_at_line n why) bytes
   fails_so why below e = failed why below (fails why e)
 
 -- The bytes left after the last possible line.
@@ -129,19 +129,19 @@ module _ (most : ℕ) (bytes : List ℕ) (known : Option (List ℕ)) (n : ℕ) (
       subst (λ b. LeftBehind unread.rest b) f
       (subst (λ r. IfOk r (LeftBehind unread.rest)) e (subst (λ o. IfSome o (λ xs. IfOk result (LeftBehind xs))) unread.known_is more))
 
-  says_so : (ending : Ending) → Says n (lines unread.rest) [] ending → Says 1 (lines bytes) before.all ending
-  says_so ending r = subst (λ os. Says 1 (lines bytes) os ending) (append-nil before.all) (unread.leads [] ending r)
+  says_so : (ending : Ending) → LinesSay n (lines unread.rest) [] ending → LinesSay 1 (lines bytes) before.all ending
+  says_so ending r = subst (λ os. LinesSay 1 (lines bytes) os ending) (append-nil before.all) (unread.leads [] ending r)
 
   pub one_too_many : (field : Bool) → result ≡ Ok field → field ≡ true → 2 ^ 48 ≤ n → SaysSome bytes (refused_at n TooLong)
   one_too_many field e f low =
       let another = left_behind field true e f in
-      (before.all, says_so (refused_at n TooLong) (subst (λ ls. Says n ls [] (refused_at n TooLong)) (sym another.split) (is_late low)))
+      (before.all, says_so (refused_at n TooLong) (subst (λ ls. LinesSay n ls [] (refused_at n TooLong)) (sym another.split) (is_late low)))
 
-  pub none_left : (new : Vec (Op Global) Global) (field : Bool) → result ≡ Ok field → field ≡ false → new ≡ old → AreFirst most bytes new
+  pub none_left : (new : Vec (Op Global) Global) (field : Bool) → result ≡ Ok field → field ≡ false → new ≡ old → AreFirstOperations most bytes new
   none_left new field e f same =
       rw same (record {
         all = before.all;
-        said = says_so complete (subst (λ ls. Says n ls [] complete) (sym (left_behind field false e f)) at_end);
+        said = says_so complete (subst (λ ls. LinesSay n ls [] complete) (sym (left_behind field false e f)) at_end);
         first = before.first;
       })
 

@@ -12,16 +12,16 @@ use Rattle.one_space.specs.declared.complaints.Complaint.{Complaint}
 use Rattle.one_space.specs.declared.complaints.Complaint.TheVariants.{Line, Malformed, Step, Configuration, Unreadable, Stopped}
 
 -- Only a byte that can't continue any valid line is named by its place.
-abbrev pub place_text : LineFault → List ℕ
-place_text (BadByte offset) = codes " at byte " ++ decimal offset
-place_text TooDeep = codes ""
-place_text TooManyFields = codes ""
-place_text TooLong = codes ""
-place_text NoMemory = codes ""
+abbrev pub fault_place_text : LineFault → List ℕ
+fault_place_text (BadByte offset) = codes " at byte " ++ decimal offset
+fault_place_text TooDeep = codes ""
+fault_place_text TooManyFields = codes ""
+fault_place_text TooLong = codes ""
+fault_place_text NoMemory = codes ""
 
 abbrev pub complaint_text : Complaint → List ℕ
 complaint_text (Line number fault) =
-    codes "line " ++ decimal number ++ codes ": refused " ++ decimal (line_refusal fault) ++ place_text fault
+    codes "line " ++ decimal number ++ codes ": refused " ++ decimal (line_refusal fault) ++ fault_place_text fault
 complaint_text Malformed = codes "refused " ++ decimal malformed_refusal
 complaint_text (Step line) = codes "line " ++ decimal line ++ codes ": refused " ++ decimal step_refusal
 complaint_text Configuration = codes "refused " ++ decimal configuration_refusal

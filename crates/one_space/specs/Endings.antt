@@ -3,7 +3,7 @@ use Rattle.std.specs.Prelude.{◌≡◌, ℕ, List, [], ◌++◌, Option, Some, 
 use Rattle.std.specs.Str.Lines.{lines}
 use Rattle.std.specs.Io.KnownBytes.{Appends}
 use Rattle.space.specs.Applying.{Contents}
-use Rattle.one_space.specs.Run.{Ending, complete, refused_at, cut_short, Runs}
+use Rattle.one_space.specs.Run.{Ending, complete, refused_at, cut_short, RunsLines}
 use Rattle.one_space.specs.declared.input.NoLine.{NoLine}
 use Rattle.one_space.specs.declared.input.NoLine.TheVariants as no
 use Rattle.one_space.specs.declared.pieces.ReadFault.{ReadFault}
@@ -15,7 +15,7 @@ use Rattle.one_space.specs.declared.session.LocalFault.TheVariants.{Refused, NoM
 -- The run begins with the initial contents of the space.
 abbrev pub AddsResults : Contents → List ℕ → Ending → Option (List ℕ) → Option (List ℕ) → List ℕ → Type 0
 AddsResults initial bytes ending old new pending =
-    (done : List ℕ) × Runs 1 initial (lines bytes) (done ++ pending) ending × Appends old new done
+    (done : List ℕ) × RunsLines 1 initial (lines bytes) (done ++ pending) ending × Appends old new done
 
 abbrev pub StopsBy : LocalFault → Contents → List ℕ → Option (List ℕ) → Option (List ℕ) → List ℕ → Type 0
 StopsBy (Refused line fault) initial bytes old new pending = AddsResults initial bytes (refused_at line fault) old new pending
@@ -38,10 +38,10 @@ EndsKnown contents result initial known old new pending =
     IfSome known (λ bytes. EndsRun result initial bytes (contents old) (contents new) pending)
 
 -- the fault of a line of this number
-abbrev pub fault_at : ℕ → NoLine → LocalFault
-fault_at line (no.Refused fault) = Refused line fault
-fault_at line no.NoMemory = NoMemory
-fault_at line (no.Read error) = Read error
+abbrev pub fault_at_line : ℕ → NoLine → LocalFault
+fault_at_line line (no.Refused fault) = Refused line fault
+fault_at_line line no.NoMemory = NoMemory
+fault_at_line line (no.Read error) = Read error
 
 -- The written bytes, the pending ones, and any run over the remaining lines from number n on make a run over all
 -- lines. It begins with the initial contents of the space.
@@ -52,11 +52,11 @@ pub record Along
   pub done : List ℕ
   pub known_is : known ≡ Some rest
   pub wrote : Appends old new done
-  pub leads : (more : List ℕ) (ending : Ending) → Runs n ts (lines rest) more ending
-      → Runs 1 initial (lines bytes) ((done ++ pending) ++ more) ending
+  pub leads : (more : List ℕ) (ending : Ending) → RunsLines n ts (lines rest) more ending
+      → RunsLines 1 initial (lines bytes) ((done ++ pending) ++ more) ending
 
 -- A front of these bytes went to the writer, and the others are left.
-pub record MovesOn (old new : Option (List ℕ)) (bytes left : List ℕ) : Type 0 where
+pub record FrontIsWritten (old new : Option (List ℕ)) (bytes left : List ℕ) : Type 0 where
   pub gone : List ℕ
   pub wrote : Appends old new gone
   pub split : gone ++ left ≡ bytes

@@ -6,7 +6,7 @@ use Rattle.tuple_codec.specs.OperationView.{operation_of}
 use Rattle.tuple_codec.specs.declared.operations.Op.{Op}
 use Rattle.space.specs.Applying.{Contents, outcome}
 use Rattle.space.specs.Births.{SpaceState, tuples_of}
-use Rattle.one_space.specs.Endings.{Along, AddsResults, StopsBy, EndsRun, MovesOn}
+use Rattle.one_space.specs.Endings.{Along, AddsResults, StopsBy, EndsRun, FrontIsWritten}
 use Rattle.one_space.specs.Run.{complete, result_line}
 use Rattle.one_space.specs.declared.session.LocalFault.{LocalFault}
 use Rattle.one_space.specs.declared.session.Session.{Session}
@@ -50,7 +50,7 @@ AddsResult op s old new = new.items ≡ old.items ++ result_line (outcome (tuple
 abbrev pub WritesDue : {W E : Type 0} → (W → Option (List ℕ)) → Result (Unit {0}) E
     → W → W → Vec ℕ Global → Vec ℕ Global → Type 0
 WritesDue contents result old new held left =
-    OnOk result (MovesOn (contents old) (contents new) held.items left.items)
+    OnOk result (FrontIsWritten (contents old) (contents new) held.items left.items)
 
 -- All these bytes went to the writer.
 abbrev pub WritesAll : {W E : Type 0} → (W → Option (List ℕ)) → Result (Unit {0}) E → W → W → List ℕ → Type 0

@@ -3,7 +3,7 @@ use Rattle.std.specs.Prelude.{◌≡◌, ◌≢◌, ℕ, Bool, MatchBool, List, 
 use Rattle.std.specs.Str.Lines.{lines}
 use Rattle.tuple_codec.specs.OperationView.{operation_of}
 use Rattle.tuple_text.specs.Lines.{IsLine, IsSkipped}
-use Rattle.tuple_text.specs.Faults.{Refuses}
+use Rattle.tuple_text.specs.Faults.{RefusesLine}
 use Rattle.tuple_text.specs.declared.faults.LineFault.TheVariants.{NoMemory}
 use Rattle.one_space.specs.declared.pieces.ReadFault.{ReadFault}
 use Rattle.one_space.specs.declared.pieces.ReadFault.TheVariants as read
@@ -30,14 +30,14 @@ GivesLine next.End xs left = lines xs ≡ []
 GivesLine next.Skipped xs left = (l : List ℕ) × IsNextLine l xs left × IsSkipped l
 GivesLine (next.Operation op) xs left = (l : List ℕ) × IsNextLine l xs left × IsLine (operation_of op) l
 
-abbrev pub Fails : NoLine → List ℕ → Type 0
-Fails (no.Refused fault) xs = (fault ≢ NoMemory) × BeginsWith (Refuses fault) xs
-Fails no.NoMemory xs = Unit {0}
-Fails (no.Read error) xs = Unit {0}
+abbrev pub NextLineFails : NoLine → List ℕ → Type 0
+NextLineFails (no.Refused fault) xs = (fault ≢ NoMemory) × BeginsWith (RefusesLine fault) xs
+NextLineFails no.NoMemory xs = Unit {0}
+NextLineFails (no.Read error) xs = Unit {0}
 
 -- The first line of the bytes xs is read, or the fault says why not.
 abbrev pub ReadsLine : {A : Type 0} → Result (NextLine A) NoLine → List ℕ → Option (List ℕ) → Type 0
-ReadsLine result xs left = MatchResult result (λ next. GivesLine next xs left) (λ no. Fails no xs)
+ReadsLine result xs left = MatchResult result (λ next. GivesLine next xs left) (λ no. NextLineFails no xs)
 
 -- the same of the bytes that are left, if they are known
 abbrev pub ReadsNext : {A : Type 0} → Result (NextLine A) NoLine → Option (List ℕ) → Option (List ℕ) → Type 0
@@ -58,9 +58,9 @@ IsJudged next.Skipped l = IsSkipped l
 IsJudged (next.Operation op) l = IsLine (operation_of op) l
 
 abbrev pub IsRefused : NoLine → List ℕ → Type 0
-IsRefused (no.Refused fault) l = (fault ≢ NoMemory) × Refuses fault l
+IsRefused (no.Refused fault) l = (fault ≢ NoMemory) × RefusesLine fault l
 IsRefused no.NoMemory l = Unit {0}
 IsRefused (no.Read error) l = ⊥
 
-abbrev pub Judges : {A : Type 0} → Result (NextLine A) NoLine → List ℕ → Type 0
-Judges result l = MatchResult result (λ next. IsJudged next l) (λ no. IsRefused no l)
+abbrev pub JudgesNextLine : {A : Type 0} → Result (NextLine A) NoLine → List ℕ → Type 0
+JudgesNextLine result l = MatchResult result (λ next. IsJudged next l) (λ no. IsRefused no l)

@@ -3,7 +3,7 @@
 use Rattle.std.specs.Prelude.{◌≢◌, ℕ, ◌+◌, ◌^◌, ◌<◌, ◌≤◌, List, [], ◌∷◌, ◌++◌}
 use Rattle.tuple_codec.specs.Operations.{Operation, Outcome}
 use Rattle.tuple_text.specs.Lines.{IsLine, IsSkipped}
-use Rattle.tuple_text.specs.Faults.{Refuses}
+use Rattle.tuple_text.specs.Faults.{RefusesLine}
 use Rattle.tuple_text.specs.Written.{outcome_text}
 use Rattle.tuple_text.specs.declared.faults.LineFault.{LineFault}
 use Rattle.tuple_text.specs.declared.faults.LineFault.TheVariants.{NoMemory, TooLong}
@@ -20,15 +20,15 @@ result_line r = outcome_text r ++ 10 ∷ []
 
 -- A run over these lines writes these bytes and has this ending. The first line has number n, and the space then
 -- holds these tuples, the oldest first. Numbers of lines stay below 2 to the power of 48.
-pub data Runs : ℕ → Contents → List (List ℕ) → List ℕ → Ending → Type 0 where
-  at_end : {n : ℕ} {ts : Contents} → Runs n ts [] [] complete
-  stops : {n : ℕ} {ts : Contents} {ls : List (List ℕ)} → Runs n ts ls [] cut_short
+pub data RunsLines : ℕ → Contents → List (List ℕ) → List ℕ → Ending → Type 0 where
+  at_end : {n : ℕ} {ts : Contents} → RunsLines n ts [] [] complete
+  stops : {n : ℕ} {ts : Contents} {ls : List (List ℕ)} → RunsLines n ts ls [] cut_short
   skips : {n : ℕ} {ts : Contents} {l : List ℕ} {ls : List (List ℕ)} {written : List ℕ} {ending : Ending}
-      → n < 2 ^ 48 → IsSkipped l → Runs (n + 1) ts ls written ending → Runs n ts (l ∷ ls) written ending
+      → n < 2 ^ 48 → IsSkipped l → RunsLines (n + 1) ts ls written ending → RunsLines n ts (l ∷ ls) written ending
   answers : {n : ℕ} {ts : Contents} {l : List ℕ} {ls : List (List ℕ)} {written : List ℕ} {ending : Ending}
-      → (o : Operation) → n < 2 ^ 48 → IsLine o l → Runs (n + 1) (tuples_after ts 0 o) ls written ending
-      → Runs n ts (l ∷ ls) (result_line (outcome ts 0 o) ++ written) ending
+      → (o : Operation) → n < 2 ^ 48 → IsLine o l → RunsLines (n + 1) (tuples_after ts 0 o) ls written ending
+      → RunsLines n ts (l ∷ ls) (result_line (outcome ts 0 o) ++ written) ending
   refuses : {n : ℕ} {ts : Contents} {l : List ℕ} {ls : List (List ℕ)} {fault : LineFault}
-      → n < 2 ^ 48 → fault ≢ NoMemory → Refuses fault l → Runs n ts (l ∷ ls) [] (refused_at n fault)
+      → n < 2 ^ 48 → fault ≢ NoMemory → RefusesLine fault l → RunsLines n ts (l ∷ ls) [] (refused_at n fault)
   is_late : {n : ℕ} {ts : Contents} {l : List ℕ} {ls : List (List ℕ)}
-      → 2 ^ 48 ≤ n → Runs n ts (l ∷ ls) [] (refused_at n TooLong)
+      → 2 ^ 48 ≤ n → RunsLines n ts (l ∷ ls) [] (refused_at n TooLong)

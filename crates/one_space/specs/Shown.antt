@@ -13,8 +13,8 @@ abbrev pub DigitsSpell : List ℕ → TupleTree → Type 0
 DigitsSpell digits t = (bytes : List ℕ) × (decode_of digits ≡ Ok bytes) × SpellsTuple bytes t
 
 -- The tuple's text and a line feed were added.
-abbrev pub Shows : List ℕ → Option (List ℕ) → Option (List ℕ) → Type 0
-Shows digits old new = (t : TupleTree) × DigitsSpell digits t × Appends old new (tuple_written t ++ 10 ∷ [])
+abbrev pub ShowsTuple : List ℕ → Option (List ℕ) → Option (List ℕ) → Type 0
+ShowsTuple digits old new = (t : TupleTree) × DigitsSpell digits t × Appends old new (tuple_written t ++ 10 ∷ [])
 
 -- Malformed digits spell no tuple, and nothing is written for them.
 abbrev pub ShowFails : ShowFault → List ℕ → Option (List ℕ) → Option (List ℕ) → Type 0
@@ -31,7 +31,7 @@ GivesNone (Write error) digits = ⊥
 -- The digits' tuple was shown, or the fault says why not.
 abbrev pub EndsShow : Result (Unit {0}) ShowFault → List ℕ → Option (List ℕ) → Option (List ℕ) → Type 0
 EndsShow result digits old new =
-    MatchResult result (λ _. Shows digits old new) (λ fault. ShowFails fault digits old new)
+    MatchResult result (λ _. ShowsTuple digits old new) (λ fault. ShowFails fault digits old new)
 
 -- The digits' tuple was read, or the fault says why not.
 abbrev pub ReadsDigits : Result TupleTree ShowFault → List ℕ → Type 0

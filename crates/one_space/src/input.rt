@@ -1,9 +1,9 @@
 //! Lines of a script, read with memory for one line.
 
 ghost use Rattle.std.specs.Prelude.{◌≡◌, ◌<◌, ◌≤◌, ℕ, List, IfOk, IfSome, vec_len};
-ghost use Rattle.tuple_text.specs.Faults.{Refuses};
+ghost use Rattle.tuple_text.specs.Faults.{RefusesLine};
 ghost use Rattle.tuple_text.specs.declared.faults.LineFault.TheVariants.{BadByte};
-ghost use Rattle.one_space.specs.NextLines.{ReadsNext, TellsLine, Judges, IsRefused};
+ghost use Rattle.one_space.specs.NextLines.{ReadsNext, TellsLine, JudgesNextLine, IsRefused};
 ghost use Rattle.one_space.specs.LongLines.{ReadsOn, ReadsBlanks, JudgesBlanks, DropsBlanks};
 
 use crate::pieces::{PieceEnd, ReadFault, drop_return, is_blank, keep_last, read_piece};
@@ -85,7 +85,7 @@ pub fn has_line<B: BufRead>(reader: &mut B, line: &mut Vec<u8>) -> Result<bool, 
 }
 
 fn judge<A: Allocator + Copy>(alloc: A, line: &[u8]) -> Result<NextLine<A>, NoLine>
-    ensures { Judges result line.now }
+    ensures { JudgesNextLine result line.now }
 {
     match read_line(alloc, line) {
         Ok(Some(op)) => Ok(NextLine::Operation(op)),
@@ -97,7 +97,7 @@ fn judge<A: Allocator + Copy>(alloc: A, line: &[u8]) -> Result<NextLine<A>, NoLi
 
 /// Why a line with this fault isn't read.
 pub fn refusal_of(fault: LineFault) -> NoLine
-    ensures { (l : List ℕ) → Refuses fault l → IsRefused result l }
+    ensures { (l : List ℕ) → RefusesLine fault l → IsRefused result l }
 {
     match fault {
         LineFault::NoMemory => NoLine::NoMemory,

@@ -5,10 +5,10 @@ ghost use Rattle.std.specs.Io.Buffered.{reader_buffer, reader_remaining};
 ghost use Rattle.memchr.specs.Find.{IsFirstByte, is_byte};
 ghost use Rattle.tuple_codec.specs.OperationView.{operation_of};
 ghost use Rattle.space.specs.Applying.{nothing_in};
-ghost use Rattle.space.specs.Births.{Follows, TuplesFollow, empty_in, tuples_of};
-ghost use Rattle.one_space.specs.Endings.{EndsKnown, HeldForLine, IsWriteFault, fault_at, read_fault_of};
+ghost use Rattle.space.specs.Births.{StateFollows, TuplesFollow, empty_in, tuples_of};
+ghost use Rattle.one_space.specs.Endings.{EndsKnown, HeldForLine, IsWriteFault, fault_at_line, read_fault_of};
 ghost use Rattle.tuple_codec.specs.Operations.{found, absent};
-ghost use Rattle.tuple_text.specs.Written.{Appends};
+ghost use Rattle.tuple_text.specs.Written.{WritesText};
 ghost use Rattle.one_space.specs.Run.{result_line};
 ghost use Rattle.one_space.specs.NextLines.{IsNextLine};
 ghost use Rattle.one_space.specs.Moments.{moment_of, RunsLine, EndsLines, AddsResult, WritesDue, WritesAll};
@@ -296,7 +296,7 @@ impl Session {
 
 /// The fault of a line of this number.
 pub fn line_fault(line: u64, no: NoLine) -> LocalFault
-    ensures { result ≡ fault_at line no }
+    ensures { result ≡ fault_at_line line no }
 {
     match no {
         NoLine::Refused(fault) => LocalFault::Refused { line, fault },
@@ -329,7 +329,7 @@ fn answer<A: Allocator>(
     results: &mut Vec<u8>,
 ) -> Result<(), NoMemory>
     requires { space.old.next < 2 ^ 62 }
-    ensures state { OnOk result (Follows space.old space.new 0 (operation_of op.now)) }
+    ensures state { OnOk result (StateFollows space.old space.new 0 (operation_of op.now)) }
     ensures tuples { OnOk result (TuplesFollow space.old space.new 0 (operation_of op.now)) }
     ensures ok { OnOk result (AddsResult op.now space.old results.old results.new) }
     ensures err { OnErr result (results.new.items ≡ results.old.items) }
@@ -376,7 +376,7 @@ fn add_absent(results: &mut Vec<u8>) -> Result<(), NoMemory>
 }
 
 fn put_found(tuple: &Tuple<Global>, results: &mut Vec<u8>) -> Result<(), NoMemory>
-    ensures { Appends result results.old.items (result_line (found tuple.now)) results.new.items }
+    ensures { WritesText result results.old.items (result_line (found tuple.now)) results.new.items }
 {
     results.extend_from_slice(b"found ")?;
     write_tuple(tuple, results)?;

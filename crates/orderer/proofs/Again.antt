@@ -14,15 +14,15 @@ use Rattle.view_change.specs.ReceivedData.{held_of}
 use Rattle.replica_histories.specs.Resending.{FrameGoes, RowGoes, ViewGoes, AllGoes}
 use Rattle.orderer.specs.State.{OrdererData, IsOrderer}
 use Rattle.orderer.specs.Claiming.{SaysFrame, LogsBatch}
-use Rattle.orderer.specs.Fitting.{given, changes_of, FitsEvent}
-use Rattle.orderer.specs.Saying.{Posted, PostedFrame, PostsAll, PostsBatch, PostsChange, PostsCommit, PostsNewView, PostsPrepare, PostsRow, Says, AreBelow, IsBelow, PostsCheckpoint, SaysAgain, SaysAlso, SaysBatch, SaysLastAgain, SaysLastAlso, row_place}
+use Rattle.orderer.specs.Fitting.{given, changes_held, FitsEvent}
+use Rattle.orderer.specs.Saying.{Posted, PostedFrame, PostsAll, PostsBatch, PostsChange, PostsCommit, PostsNewView, PostsPrepare, PostsRow, SaysToOthers, AreBelow, IsBelow, PostsCheckpoint, SaysAgain, SaysAlso, SaysOwnBatch, SaysLastAgain, SaysLastAlso, row_place}
 use Rattle.std.specs.Prelude.{is_some, ◌==◌}
 use Rattle.std.proofs.lemmas.Bool.{eqb-true, eqb-false}
 use Rattle.std.proofs.lemmas.List.{append-nil, append_assoc}
 use Rattle.wire_format.specs.Words.{requests_of, said}
 use Rattle.signing.specs.Heard.{heard}
 use Rattle.ordering.specs.Log.{LogData, with_batch}
-use Rattle.ordering.specs.Votes.{vote_of}
+use Rattle.ordering.specs.Votes.{voted_digest}
 use Rattle.protocol.specs.Replica.Certificates.{are_genuine, logged, commit_of}
 use Rattle.protocol.specs.Replica.RightReplica.{others}
 use Rattle.protocol.proofs.Words.Options.{some_injective}
@@ -47,7 +47,7 @@ use Rattle.orderer.proofs.Voting.{said_in}
 
 -- ---- among the outputs
 
-pub posted_now : (o : OrdererData) (message : Message) (before after : List Output) → Says o message before after → Posted o message after
+pub posted_now : (o : OrdererData) (message : Message) (before after : List Output) → SaysToOthers o message before after → Posted o message after
 posted_now o message before after s =
     subst (Posted o message) (sym s.given_is) (has_right (λ output. PostsToOthers o.endpoint message output) before (s.output ∷ []) (inl s.posts))
 
@@ -106,14 +106,14 @@ module _ (c : Configuration) (o : OrdererData) (outs : List Output) (known : mem
       commit = λ digest is. posted_goes (Commit o.log.view i digest) (p.2 digest (subst (λ (m : ℕ). logs.commit_of o.log i m ≡ Some digest) (sym own) is));
     }
 
-    view_goes : (executed : ℕ) → PostsAll executed o outs → ViewGoes me o.log (changes_of o) executed entries
+    view_goes : (executed : ℕ) → PostsAll executed o outs → ViewGoes me o.log (changes_held o) executed entries
     view_goes executed p = record {
       new_view = λ frame is. frame_goes frame (p.new_view frame is);
       rows = λ i above most. row_goes i (p.rows i above most);
       checkpoint = λ m is. posted_goes (Checkpoint m.number m.digest) (p.checkpoint m is);
     }
 
-    pub all_goes : (executed : ℕ) → (o.log.active ≡ true → PostsAll executed o outs) → (o.log.active ≡ false → PostsChange o outs) → AllGoes me o.log (changes_of o) executed entries
+    pub all_goes : (executed : ℕ) → (o.log.active ≡ true → PostsAll executed o outs) → (o.log.active ≡ false → PostsChange o outs) → AllGoes me o.log (changes_held o) executed entries
     all_goes executed active inactive = record {
       active = λ is. view_goes executed (active is);
       inactive = λ is held has. frame_goes held.frame (inactive is held (subst (λ (m : ℕ). held_of o.received.held m ≡ Some held) (sym own) has));
@@ -179,7 +179,7 @@ no_checkpoint_again o outs none place = (
 -- ---- the log
 
 pub prepare_again : (number : ℕ) (digest : List ℕ) (o new : OrdererData) (before after : List Output) → IsOrderer o → logs.prepare_of o.log number o.log.me ≡ Some digest
-    → Says o (Prepare o.log.view number digest) before after → new ≡ o → SaysAlso (row_place number + 1) (row_place number + 2) (PostsPrepare number) o before new after
+    → SaysToOthers o (Prepare o.log.view number digest) before after → new ≡ o → SaysAlso (row_place number + 1) (row_place number + 2) (PostsPrepare number) o before new after
 prepare_again number digest o new before after own has says is = (
   subst (λ (x : OrdererData). SaysAgain (row_place number + 1) (row_place number + 2) o before x after) (sym is) (record {
     goes = λ active c s desk w known below f.
@@ -205,10 +205,10 @@ prepare_again number digest o new before after own has says is = (
 committed_here : (c : Configuration) (me : ℕ) (log : LogData) (history : List Entry) (number : ℕ) (digest : List ℕ) → FitsLog c me log history → logs.commit_of log number me ≡ Some digest
     → commit_of c me history log.view number me ≡ Some digest
 committed_here c me log history number digest f has =
-    f.commits number me (passed (logs.is_in_marks log number) (vote_of (logs.row_of log number).commits me) digest has).0 ∙ has
+    f.commits number me (passed (logs.is_in_marks log number) (voted_digest (logs.row_of log number).commits me) digest has).0 ∙ has
 
 pub commit_again : (number : ℕ) (digest : List ℕ) (o new : OrdererData) (before after : List Output) → IsOrderer o → logs.commit_of o.log number o.log.me ≡ Some digest
-    → Says o (Commit o.log.view number digest) before after → new ≡ o → SaysAlso (row_place number + 2) (row_place number + 3) (PostsCommit number) o before new after
+    → SaysToOthers o (Commit o.log.view number digest) before after → new ≡ o → SaysAlso (row_place number + 2) (row_place number + 3) (PostsCommit number) o before new after
 commit_again number digest o new before after own has says is = (
   subst (λ (x : OrdererData). SaysAgain (row_place number + 2) (row_place number + 3) o before x after) (sym is) (record {
     goes = λ active c s desk w known below f.
@@ -236,11 +236,11 @@ logged_here : (c : Configuration) (me : ℕ) (log : LogData) (history : List Ent
 logged_here c me log history number text f has = f.batches number (passed (logs.is_in_marks log number) (logs.row_of log number).batch text has).0 ∙ has
 
 -- the batches of the new view with which the view began are below
-begun_below : (c : Configuration) (me number : ℕ) (o : OrdererData) (history : List Entry) → o.begun < number → FitsChanges c me o.log (changes_of o) history → IsBegunBelow c o.log.view number history
+begun_below : (c : Configuration) (me number : ℕ) (o : OrdererData) (history : List Entry) → o.begun < number → FitsChanges c me o.log (changes_held o) history → IsBegunBelow c o.log.view number history
 begun_below c me number o history above f new once at = let most = f.begun new once at in omega (arith, most, above)
 
 pub batch_again : (number : ℕ) (text : List ℕ) (o new : OrdererData) (before after : List Output) → IsOrderer o → o.log.me ≡ logs.primary o.log o.log.view → o.begun < number
-    → logs.logged_batch o.log number ≡ Some text → Says o (PrePrepare o.log.view number text) before after → new ≡ o → SaysAlso (row_place number) (row_place number + 1) (PostsBatch number) o before new after
+    → logs.logged_batch o.log number ≡ Some text → SaysToOthers o (PrePrepare o.log.view number text) before after → new ≡ o → SaysAlso (row_place number) (row_place number + 1) (PostsBatch number) o before new after
 batch_again number text o new before after own primary above has says is = (
   subst (λ (x : OrdererData). SaysAgain (row_place number) (row_place number + 1) o before x after) (sym is) (record {
     goes = λ active c s desk w known below f.
@@ -268,7 +268,7 @@ batch_again number text o new before after own primary above has says is = (
 
 -- the replica's last checkpoint
 pub checkpoint_again : (entry : CheckpointEntry) (o new : OrdererData) (before after : List Output) → o.last_checkpoint ≡ Some entry
-    → Says o (Checkpoint entry.number entry.digest) before after → new ≡ o → (place : ℕ) → SaysLastAlso true place PostsCheckpoint o before new after
+    → SaysToOthers o (Checkpoint entry.number entry.digest) before after → new ≡ o → (place : ℕ) → SaysLastAlso true place PostsCheckpoint o before new after
 checkpoint_again entry o new before after last says is place = (
   subst (λ (x : OrdererData). SaysLastAgain true place o before x after) (sym is) (record {
     goes = λ active c s desk w known below f.
@@ -376,9 +376,9 @@ held_are_genuine c me s desk log due outputs number text f may =
     all_of_each (λ frame. Has (λ x. x ≡ frame) desk.frames) (λ request. is_some (heard (members c) me request)) (λ frame k. (f.of_desk.frames frame k).1) (requests_of text) may.held
 
 pub says_batch : (number : ℕ) (text : List ℕ) (o mid new : OrdererData) (before after : List Output) → IsOrderer o
-    → Says o (PrePrepare o.log.view number text) before after → LogsBatch number text o mid → new ≡ record mid { used = number } → SaysBatch number text o before new after
+    → SaysToOthers o (PrePrepare o.log.view number text) before after → LogsBatch number text o mid → new ≡ record mid { used = number } → SaysOwnBatch number text o before new after
 says_batch number text o mid new before after own says (claims, adds, logs_it) is =
-    subst (λ (x : OrdererData). SaysBatch number text o before x after) (sym (is ∙ ap (λ (x : OrdererData). record x { used = number }) logs_it)) (record {
+    subst (λ (x : OrdererData). SaysOwnBatch number text o before x after) (sym (is ∙ ap (λ (x : OrdererData). record x { used = number }) logs_it)) (record {
       endpoint = refl;
       log = refl;
       target = refl;
@@ -392,6 +392,6 @@ says_batch number text o mid new before after own says (claims, adds, logs_it) i
           e k.is refl f on
           (λ first. (flags_numbered c o.endpoint.me o.log.view o.used number w desk.state desk.waiting text k.bytes (after_outputs s past) calls
           (sym (primary_same c o.log o.log.view faults) ∙ may.own ∙ own.0) may.free (held_are_genuine c o.endpoint.me s desk o.log due past number text f.fits may) reads k.posted.says (f.numbers first)).1)
-          (batches_are_claimed c o.endpoint.me (after_outputs s past) e o.log (changes_of o) claims o.endpoint.me number text
+          (batches_are_claimed c o.endpoint.me (after_outputs s past) e o.log (changes_held o) claims o.endpoint.me number text
           (outputs_pass c o.endpoint.me s desk desk o.log (with_batch o.log number text) due due past e f.fits on) may.within (sym (f.fits.of_log.batches number may.within) ∙ may.free.unused number (omega arith)) k.posted.says adds f.changes);
     })

@@ -7,8 +7,8 @@ use Rattle.ordering.specs.declared.dropped.Dropped.{Dropped}
 use Rattle.ordering.specs.Log as logs
 use Rattle.ordering.specs.Log.{LogData}
 use Rattle.ordering.specs.Checkpoints.{says_checkpoint}
-use Rattle.ordering.specs.Messages.{checkpoint_fault_of, TakesPrepare, TakesCommit, TakesCheckpoint}
-use Rattle.ordering.specs.Taking.{Takes}
+use Rattle.ordering.specs.Messages.{checkpoint_fault_of, LogTakesPrepare, LogTakesCommit, LogTakesCheckpoint}
+use Rattle.ordering.specs.Taking.{TakesOrDrops}
 use Rattle.orderer.specs.State.{OrdererData, HoldsBatches, IsOrderer}
 use Rattle.orderer.specs.Checkpoints.{TakesCheckpoint as TakesOne, counting, said_entry}
 use Rattle.std.specs.Bool.{then_some}
@@ -41,17 +41,17 @@ use Rattle.protocol.specs.Replica.Selection.{is_batch_entry_within, is_checkpoin
 use Rattle.replica_histories.proofs.Cutting.{cut_same}
 use Rattle.view_change.specs.declared.changes.Selection.{Selection}
 use Rattle.view_change.specs.Sets.{texts_of}
-use Rattle.claims.specs.ClaimsView.{ClaimsData, IsAmong}
+use Rattle.claims.specs.ClaimsView.{ClaimsData, IsAmongTexts}
 use Rattle.view_change.specs.ReceivedData.{HeldData, AreHeldFrom, IsJoined, later_view, later_views}
-use Rattle.view_change.specs.ReceivedView.{ReceivedState, AreReceived, configuration_of}
-use Rattle.view_change.specs.Selecting.{AreFrom, IsFrom}
+use Rattle.view_change.specs.ReceivedView.{ReceivedState, AreReceived, judging_configuration}
+use Rattle.view_change.specs.Selecting.{AreFrom, IsAvailable}
 use Rattle.orderer.specs.Changing.{IsJoinedBy, IsJoinedByNone, IsNextView, aimed_view}
 use Rattle.orderer.specs.EnteringViews.{IsSelection}
 use Rattle.desk.specs.Transferring.{MayBeSaid}
 use Rattle.orderer.proofs.ChangingViews.{joined_by, joined_by_none, later_above}
 
 -- the message was taken
-pub taken_by : (r : Result Unit Dropped) (fault : Option Dropped) (old new after : LogData) → is_err r ≡ false → Takes r fault old new after → (fault ≡ None) × (new ≡ after)
+pub taken_by : (r : Result Unit Dropped) (fault : Option Dropped) (old new after : LogData) → is_err r ≡ false → TakesOrDrops r fault old new after → (fault ≡ None) × (new ≡ after)
 taken_by (Ok x) fault old new after none h = h
 taken_by (Err e) fault old new after none h = cc
 
@@ -94,7 +94,7 @@ one_among P [] text each has = absurd has
 one_among P (x ∷ xs) text each (inl same) = subst P same each.0
 one_among P (x ∷ xs) text each (inr has) = one_among P xs text each.1 has
 
-all_among : (texts less : List (List ℕ)) → Each (IsBatch 0) texts → Each (IsAmong texts) less → Each (IsBatch 0) less
+all_among : (texts less : List (List ℕ)) → Each (IsBatch 0) texts → Each (IsAmongTexts texts) less → Each (IsBatch 0) less
 all_among texts [] each among = tt
 all_among texts (x ∷ xs) each among = (one_among (IsBatch 0) texts x each among.0, all_among texts xs each among.1)
 
@@ -103,14 +103,14 @@ pub selected_batches : (texts batches : List (List ℕ)) → Each (IsBatch 0) te
 selected_batches texts [] each from = tt
 selected_batches texts (x ∷ xs) each from = (one from.0, selected_batches texts xs each from.1)
   where
-    one : IsFrom texts x → IsBatch 0 x
+    one : IsAvailable texts x → IsBatch 0 x
     one (inl null) = subst (IsBatch 0) null null_is_batch
     one (inr has) = one_among (IsBatch 0) texts x each has
 
 -- ---- the log
 
 -- if nothing new is logged
-less_held : (begun : ℕ) (old new : LogData) (texts less : List (List ℕ)) → ((i : ℕ) (text : List ℕ) → logs.logged_batch new i ≡ Some text → logs.logged_batch old i ≡ Some text) → Each (IsAmong texts) less
+less_held : (begun : ℕ) (old new : LogData) (texts less : List (List ℕ)) → ((i : ℕ) (text : List ℕ) → logs.logged_batch new i ≡ Some text → logs.logged_batch old i ≡ Some text) → Each (IsAmongTexts texts) less
     → HoldsBatches begun old texts → HoldsBatches begun new less
 less_held begun old new texts less was among h = record {
   logged = λ i text above there. h.logged i text above (was i text there);
@@ -126,7 +126,7 @@ prepare_held begun number vote log texts is within h = same_held begun log (logs
 pub commit_held : (begun number : ℕ) (vote : Vote) (log : LogData) (texts : List (List ℕ)) → IsLog log → logs.is_in_marks log number ≡ true → HoldsBatches begun log texts → HoldsBatches begun (logs.with_commit log number vote) texts
 commit_held begun number vote log texts is within h = same_held begun log (logs.with_commit log number vote) texts (λ i. (commits_count log i number 0 vote is within).0) h
 
-pub cut_held : (begun low : ℕ) (log : LogData) (texts less : List (List ℕ)) → IsLog log → Each (IsAmong texts) less → HoldsBatches begun log texts → HoldsBatches begun (logs.cut_to log low) less
+pub cut_held : (begun low : ℕ) (log : LogData) (texts less : List (List ℕ)) → IsLog log → Each (IsAmongTexts texts) less → HoldsBatches begun log texts → HoldsBatches begun (logs.cut_to log low) less
 cut_held begun low log texts less is among h = less_held begun log (logs.cut_to log low) texts less was among h
   where
     was : (i : ℕ) (text : List ℕ) → logs.logged_batch (logs.cut_to log low) i ≡ Some text → logs.logged_batch log i ≡ Some text
@@ -143,7 +143,7 @@ entered_held begun last view log texts is h = record {
 }
 
 pub batch_held : (begun number : ℕ) (text : List ℕ) (log : LogData) (texts more : List (List ℕ)) → IsLog log → logs.is_in_marks log number ≡ true → IsBatch 0 text → (begun < number → IsBatch 1 text)
-    → Each (IsAmong (text ∷ texts)) more → HoldsBatches begun log texts → HoldsBatches begun (logs.with_batch log number text) more
+    → Each (IsAmongTexts (text ∷ texts)) more → HoldsBatches begun log texts → HoldsBatches begun (logs.with_batch log number text) more
 batch_held begun number text log texts more is within batch some among h = record {
   logged = λ i other above there. go i other above (i == number) refl (sym (batches_are_logged log i number 0 text is within).0 ∙ there);
   claimed = all_among (text ∷ texts) more (batch, h.claimed) among;
@@ -162,14 +162,14 @@ batch_held begun number text log texts more is within batch some among h = recor
 pub with_log : (o : OrdererData) (log : LogData) → IsOrderer o → log.me ≡ o.log.me → log.faults ≡ o.log.faults → HoldsBatches o.begun log o.claims.texts → IsOrderer (record o { log = log })
 with_log o log own me faults held = (me ∙ own.0, faults ∙ own.1, own.2, own.3, held)
 
-pub prepare_taken : (o : OrdererData) (sender : ReplicaId) (p : Prepare) (log : LogData) (r : Result Unit Dropped) → IsOrderer o → IsLog o.log → TakesPrepare o.log log sender p r → IsOrderer (record o { log = log })
+pub prepare_taken : (o : OrdererData) (sender : ReplicaId) (p : Prepare) (log : LogData) (r : Result Unit Dropped) → IsOrderer o → IsLog o.log → LogTakesPrepare o.log log sender p r → IsOrderer (record o { log = log })
 prepare_taken o sender p log (Ok done) own is (none, new) =
     let vote : Vote = record { sender = sender; digest = p.digest } in
     subst (λ (l : LogData). IsOrderer (record o { log = l })) (sym new)
     (with_log o (logs.with_prepare o.log p.number.0 vote) own refl refl (prepare_held o.begun p.number.0 vote o.log o.claims.texts is (prepare_in_marks o.log sender.0 p.view.0 p.number.0 p.digest none) own.4))
 prepare_taken o sender p log (Err e) own is (some, new) = subst (λ (l : LogData). IsOrderer (record o { log = l })) (sym new) own
 
-pub commit_taken : (o : OrdererData) (sender : ReplicaId) (p : Commit) (log : LogData) (r : Result Unit Dropped) → IsOrderer o → IsLog o.log → TakesCommit o.log log sender p r → IsOrderer (record o { log = log })
+pub commit_taken : (o : OrdererData) (sender : ReplicaId) (p : Commit) (log : LogData) (r : Result Unit Dropped) → IsOrderer o → IsLog o.log → LogTakesCommit o.log log sender p r → IsOrderer (record o { log = log })
 commit_taken o sender p log (Ok done) own is (none, new) =
     let vote : Vote = record { sender = sender; digest = p.digest } in
     subst (λ (l : LogData). IsOrderer (record o { log = l })) (sym new)
@@ -181,7 +181,7 @@ checkpoint_counted o sender entry log own is =
     subst (λ (l : LogData). IsOrderer (record o { log = l })) (sym is)
     (with_log o (logs.with_checkpoint_of o.log sender entry) own refl refl (same_held o.begun o.log (logs.with_checkpoint_of o.log sender entry) o.claims.texts (λ i. refl) own.4))
 
-pub checkpoint_taken : (o : OrdererData) (sender : ReplicaId) (p : Checkpoint) (log : LogData) (r : Result Unit Dropped) → IsOrderer o → TakesCheckpoint o.log log sender p r → IsOrderer (record o { log = log })
+pub checkpoint_taken : (o : OrdererData) (sender : ReplicaId) (p : Checkpoint) (log : LogData) (r : Result Unit Dropped) → IsOrderer o → LogTakesCheckpoint o.log log sender p r → IsOrderer (record o { log = log })
 checkpoint_taken o sender p log (Ok done) own (none, new) = checkpoint_counted o sender.0 (record { number = p.number.0; digest = p.root }) log own new
 checkpoint_taken o sender p log (Err e) own (some, new) = subst (λ (l : LogData). IsOrderer (record o { log = l })) (sym new) own
 
@@ -189,7 +189,7 @@ pub view_left : (o : OrdererData) (log : LogData) → IsOrderer o → log ≡ lo
 view_left o log own is =
     subst (λ (l : LogData). IsOrderer (record o { log = l })) (sym is) (with_log o (logs.left o.log) own refl refl (same_held o.begun o.log (logs.left o.log) o.claims.texts (λ i. refl) own.4))
 
-pub log_cut : (o : OrdererData) (low : ℕ) (log : LogData) (claims : ClaimsData) → IsOrderer o → IsLog o.log → log ≡ logs.cut_to o.log low → Each (IsAmong o.claims.texts) claims.texts → IsOrderer (record o { log = log; claims = claims })
+pub log_cut : (o : OrdererData) (low : ℕ) (log : LogData) (claims : ClaimsData) → IsOrderer o → IsLog o.log → log ≡ logs.cut_to o.log low → Each (IsAmongTexts o.claims.texts) claims.texts → IsOrderer (record o { log = log; claims = claims })
 log_cut o low log claims own is new among =
     subst (λ (l : LogData). IsOrderer (record o { log = l; claims = claims })) (sym new) (
       cut_same (λ (l : LogData). l.me) (λ l h rows. refl) o.log low ∙ own.0,
@@ -200,7 +200,7 @@ log_cut o low log claims own is new among =
     )
 
 pub batch_logged : (o : OrdererData) (number : ℕ) (text : List ℕ) (log : LogData) (claims : ClaimsData) → IsOrderer o → IsLog o.log → logs.is_in_marks o.log number ≡ true → IsBatch 0 text → (o.begun < number → IsBatch 1 text)
-    → log ≡ logs.with_batch o.log number text → Each (IsAmong (text ∷ o.claims.texts)) claims.texts → IsOrderer (record o { log = log; claims = claims })
+    → log ≡ logs.with_batch o.log number text → Each (IsAmongTexts (text ∷ o.claims.texts)) claims.texts → IsOrderer (record o { log = log; claims = claims })
 batch_logged o number text log claims own is within batch some new among =
     subst (λ (l : LogData). IsOrderer (record o { log = l; claims = claims })) (sym new)
     (own.0, own.1, own.2, own.3, batch_held o.begun number text o.log o.claims.texts claims.texts is within batch some among own.4)
@@ -231,7 +231,7 @@ held_number c me target view from (Some h ∷ held) are has = go (held_number c 
     go rest true (inr has) = rest has
 
 pub joined_is_number : (r : ReceivedState) (me target view : ℕ) → AreReceived r → Has (λ w. w ≡ view) (later_views me target r.held) → is_number view ≡ true
-joined_is_number r me target view are has = held_number (configuration_of r) me target view 0 r.held are.each has
+joined_is_number r me target view are has = held_number (judging_configuration r) me target view 0 r.held are.each has
 
 -- the view to which others move the replica is a number
 pub joins_next : (o : OrdererData) (me : ℕ) (target : View) (view : Option View) → AreReceived o.received → target.0 ≡ aimed_view o

@@ -5,7 +5,7 @@ use Rattle.std.proofs.lemmas.Bool.{and_parts, ltb-true, leb-false}
 use Rattle.protocol.specs.System.Trace.{Has, Entry}
 use Rattle.protocol.specs.Replica.Selection.{list_of, signed_change, is_within}
 use Rattle.view_change.specs.ReceivedData.{HeldData, later_view, later_views, IsJoined, AreHeldFrom, held_of}
-use Rattle.view_change.specs.ReceivedView.{AreReceived, configuration_of, ReceivedState, held_as}
+use Rattle.view_change.specs.ReceivedView.{AreReceived, judging_configuration, ReceivedState, held_as}
 use Rattle.orderer.specs.State.{OrdererData, IsOrderer}
 use Rattle.orderer.specs.Changing.{IsJoinedBy, IsJoinedByNone, aimed_view, AreChanges, IsUnsayable, change_for, SignsChange}
 use Rattle.wire_format.specs.Messages.{view_change as ViewChange, AuthenticatorData as Authenticator, BodyData as Body, CheckpointEntryData as CheckpointEntry, MessageData as Message, ViewChangeData, macs, signature}
@@ -16,7 +16,7 @@ use Rattle.protocol.specs.Replica.Certificates.{target, view}
 use Rattle.protocol.proofs.Words.Options.{some_injective}
 use Rattle.view_change.specs.Laws.{SizesDecide, ChangesAreJudged}
 use Rattle.view_change.proofs.Opening.{signed_is}
-use Rattle.orderer.specs.Receiving.{JudgesAlike, Receives}
+use Rattle.orderer.specs.Receiving.{JudgesAlike, ReceivesViewChange}
 use Rattle.std.proofs.lemmas.Option.{none-some}
 use Rattle.wire_format.specs.Words.{said}
 use Rattle.wire_format.specs.Spelling.{IsAuthenticator, authenticator_is_signed, authenticator_spelling, body_spelling, frame_limit, is_signed, piece}
@@ -33,7 +33,7 @@ use Rattle.replica_histories.specs.Logs.{FitsLog}
 use Rattle.replica_histories.specs.Views.{entries_of}
 use Rattle.replica_histories.proofs.OneChange.{said_valid, new_changes_are_one}
 use Rattle.orderer.specs.Claiming.{MaySign, SaysFrame}
-use Rattle.orderer.specs.Fitting.{changes_of, given, FitsEvent}
+use Rattle.orderer.specs.Fitting.{changes_held, given, FitsEvent}
 use Rattle.orderer.specs.Going.{IsVotedAll}
 use Rattle.std.proofs.lemmas.List.{append-nil}
 use Rattle.ordering.specs.Log.{left}
@@ -83,7 +83,7 @@ joined_by_none o me t own are mine aimed few = (
 -- ---- which configuration judges it
 
 pub judges_alike : (o : OrdererData) → IsOrderer o → SizesDecide → JudgesAlike o
-judges_alike o own law c known period = law (configuration_of o.received) c (record {
+judges_alike o own law c known period = law (judging_configuration o.received) c (record {
   seed = own.2 ∙ sym (ap (λ (m : Membership). m.seed) known);
   faults = own.3 ∙ sym (ap (λ (m : Membership). m.faults) known);
   period = sym period;
@@ -104,7 +104,7 @@ held_said c first (Some k ∷ held) are zero h is = subst (λ (x : HeldData). (s
 held_said c first (o ∷ held) are (suc s) h is = held_said c (suc first) held are.1 s h is
 
 pub are_changes : (r : ReceivedState) → AreReceived r → AreChanges r.held
-are_changes r are = held_said (configuration_of r) 0 r.held are.each
+are_changes r are = held_said (judging_configuration r) 0 r.held are.each
 
 -- ---- no frame spells it
 
@@ -139,7 +139,7 @@ too_long sender vc exceeds bytes h =
 
 module _ (c : Configuration) (me : ℕ) (desk : Desk) (o : OrdererData) (history : List Entry) (point now : Point) (v : ℕ)
     (fits : FitsLog c me o.log history) (leaves : HistoryReaches c me history now) (voted : IsVotedAll o.log) (kept : map snapshot_of (kept_states o.log.low point.snapshots) ≡ desk.snapshots)
-    (f : FitsChanges c me o.log (changes_of o) history) (own : o.log.me ≡ me) (named : o.endpoint.me ≡ me) where
+    (f : FitsChanges c me o.log (changes_held o) history) (own : o.log.me ≡ me) (named : o.endpoint.me ≡ me) where
   abbrev its : ViewChangeData
   its = change_for v (entries_of desk.snapshots) o
 
@@ -151,7 +151,7 @@ module _ (c : Configuration) (me : ℕ) (desk : Desk) (o : OrdererData) (history
       ∙ ap (λ (w : ℕ). change_for w (entries_of desk.snapshots) o) at
 
   -- so its keys are spent
-  pub unsaid_spent : ChangesAreJudged → ((vc : ViewChangeData) → is_within c vc ≡ is_within (configuration_of o.received) vc) → IsUnsayable o (change_for v (entries_of desk.snapshots) o)
+  pub unsaid_spent : ChangesAreJudged → ((vc : ViewChangeData) → is_within c vc ≡ is_within (judging_configuration o.received) vc) → IsUnsayable o (change_for v (entries_of desk.snapshots) o)
       → (vc : ViewChangeData) (bytes : List ℕ) → vc.view ≡ v → IsNewViewChange c me history point vc → is_within c vc ≡ true → said bytes ≡ Some (record { sender = me; message = ViewChange vc })
       → o.spent ≡ 64
   unsaid_spent judge alike unsaid vc bytes at may within says_it = go unsaid
@@ -164,13 +164,13 @@ module _ (c : Configuration) (me : ℕ) (desk : Desk) (o : OrdererData) (history
       go (inr (inl unsaid)) =
           absurd (unsaid bytes (subst (λ (n : ℕ). said bytes ≡ Some (record { sender = n; message = ViewChange its })) (sym named)
           (subst (λ (x : ViewChangeData). said bytes ≡ Some (record { sender = me; message = ViewChange x })) same says_it)))
-      go (inr (inr refused)) = absurd (refused ((judge (configuration_of o.received) o.log.view o.received.held (o.log.me, its)).1 (above, inside, newer)))
+      go (inr (inr refused)) = absurd (refused ((judge (judging_configuration o.received) o.log.view o.received.held (o.log.me, its)).1 (above, inside, newer)))
         where
           above : o.log.view < v
           above = let l = may.above in let is = fits.view in omega (arith, l, is, at)
 
-          inside : is_within (configuration_of o.received) its ≡ true
-          inside = subst (λ (x : ViewChangeData). is_within (configuration_of o.received) x ≡ true) same (sym (alike vc) ∙ within)
+          inside : is_within (judging_configuration o.received) its ≡ true
+          inside = subst (λ (x : ViewChangeData). is_within (judging_configuration o.received) x ≡ true) same (sym (alike vc) ∙ within)
 
           newer : (h : HeldData) → held_of o.received.held o.log.me ≡ Some h → h.change.view < v
           newer h there =
@@ -208,24 +208,24 @@ not_signed o later view low checkpoints claims said x message r made at same cop
 
 -- the rules that judge view changes find the replica's signature on it
 pub own_is_signed : (o : OrdererData) (x : Change) (frame : List ℕ) → IsOrderer o → IsLog o.log → x.sender.0 ≡ o.log.me → IsOwnSigned o.endpoint (ViewChange (view_change_data x.change)) frame
-    → signed_change (configuration_of o.received) frame ≡ Some (x.sender.0, view_change_data x.change)
+    → signed_change (judging_configuration o.received) frame ≡ Some (x.sender.0, view_change_data x.change)
 own_is_signed o x frame own is sender signed =
-    own_are_signed (configuration_of o.received) o.endpoint.me (view_change_data x.change) frame known (record { says = posted.says; is_sealed = posted.is_sealed })
+    own_are_signed (judging_configuration o.received) o.endpoint.me (view_change_data x.change) frame known (record { says = posted.says; is_sealed = posted.is_sealed })
     ∙ ap (λ (m : ℕ). Some (m, view_change_data x.change)) (sym (sender ∙ own.0))
   where
     -- of these members, with the seed of the keys
     c : Configuration
-    c = record (configuration_of o.received) { faults = o.endpoint.membership.faults; clients = o.endpoint.membership.clients }
+    c = record (judging_configuration o.received) { faults = o.endpoint.membership.faults; clients = o.endpoint.membership.clients }
 
     posted : IsPosted c o.endpoint.me (ViewChange (view_change_data x.change)) [] frame
     posted = signed c (ap (λ (seed : List ℕ). record o.endpoint.membership { seed = seed }) own.2)
 
-    known : o.endpoint.me < replicas (configuration_of o.received)
+    known : o.endpoint.me < replicas (judging_configuration o.received)
     known = let me = own.0 in let faults = own.1 in let sizes = own.3 in let few = is.me in omega (arith, me, faults, sizes, few)
 
 pub signs_change : (view low : ℕ) (checkpoints : List CheckpointEntry) (claims : ClaimsData) (old new : OrdererData) (x : Change) (frame : List ℕ) → x.sender.0 ≡ old.log.me
     → view_change_data x.change ≡ record { view = view; low = low; checkpoints = checkpoints; prepared = claims.prepared; pre_prepared = claims.logged } → low ≡ old.log.low → claims ≡ old.claims
-    → IsOwnSigned old.endpoint (ViewChange (view_change_data x.change)) frame → leaf_of frame ≡ Some old.spent → Receives (held_as x frame) (record old { spent = old.spent + 1 }) new true
+    → IsOwnSigned old.endpoint (ViewChange (view_change_data x.change)) frame → leaf_of frame ≡ Some old.spent → ReceivesViewChange (held_as x frame) (record old { spent = old.spent + 1 }) new true
     → SignsChange view checkpoints old new frame
 signs_change view low checkpoints claims old new x frame sender made at same signed by receives = record {
   by_leaf = by;

@@ -2,7 +2,7 @@
 use Rattle.std.proofs.Common.{◌≡◌, ℕ, List, ◌∷◌, ap, ◌∙◌, subst, suc, ◌+◌, ◌≤◌, ◌<◌, ◌⊎◌, inl, inr, Bool, true, false, cond, [], refl, sym, arith, ◌==◌, eqb-true, ◌++◌, length, map, Vec, Option, Some, None, Result, Ok, Err, IfOk, IfSome, IfNone, MatchOption}
 use Rattle.wire_format.specs.Lists.{Each}
 use Rattle.ordering.specs.Log.{with_batch, Row, LogData, is_in_marks}
-use Rattle.claims.specs.ClaimsView.{ClaimsData, claim_of, IsAmong, digests_of}
+use Rattle.claims.specs.ClaimsView.{ClaimsData, claim_of, IsAmongTexts, digests_of}
 use Rattle.claims.specs.Recording.{with_logged, with_all}
 use Rattle.orderer.specs.State.{OrdererData}
 use Rattle.orderer.specs.Claiming.{LogsBatch, MaySign, SaysFrame}
@@ -14,10 +14,10 @@ use Rattle.wire_format.specs.Messages.{BatchEntryData as Claim, BodyData as Body
 use Rattle.events.specs.declared.output.Output.{Output}
 use Rattle.view_change.specs.Sets.{texts_of, sized}
 use Rattle.protocol.proofs.Words.Elements.{each_has, each_weaker}
-use Rattle.replica_histories.specs.Changes.{AddsLogged, claims_from, texts_from, KeepsChanges, IsOwnView}
+use Rattle.replica_histories.specs.Changes.{AddsLogged, claims_from, texts_in_marks, KeepsChanges, IsOwnView}
 use Rattle.replica_histories.specs.Views.{with_batches}
 use Rattle.desk.specs.Waiting.{texts}
-use Rattle.orderer.specs.Going.{IsVoted}
+use Rattle.orderer.specs.Going.{NoVoteIsDue}
 use Rattle.orderer.specs.Saying.{SaysVotes, PostedFrame, PostsNewView, SaysAlso}
 use Rattle.orderer.specs.EnteringViews.{LogsBatches, SaysVotesOf, HasNoSelection, IsSelection, MaySignView, new_view_of}
 use Rattle.orderer.proofs.Parties.{same_orderer, orderers_twice, same_log}
@@ -34,8 +34,8 @@ use Rattle.ordering.specs.Log as logs
 use Rattle.view_change.specs.declared.changes.Selection.{Selection}
 use Rattle.view_change.specs.declared.changes.Sizes.{Sizes}
 use Rattle.view_change.specs.ReceivedData.{pairs_for}
-use Rattle.view_change.specs.ReceivedView.{configuration_of}
-use Rattle.view_change.specs.Selecting.{NothingSelects, Selects}
+use Rattle.view_change.specs.ReceivedView.{judging_configuration}
+use Rattle.view_change.specs.Selecting.{NothingSelects, SelectsNewView}
 use Rattle.protocol.specs.System.Configuration.{Configuration}
 use Rattle.protocol.specs.System.Trace.{Entry}
 use Rattle.protocol.specs.System.Trace.Entry.{Sent}
@@ -52,14 +52,14 @@ use Rattle.orderer.proofs.Again.{frame_now, nothing_again, never_said, one_below
 use Rattle.orderer.proofs.Staying.{GivesOne, gives_one, IsBeside, fits_on}
 
 pub logs_batch : (number view : ℕ) (text noted : List ℕ) (inside old new : OrdererData) (claims : ClaimsData) → inside ≡ old → view ≡ inside.log.view → noted ≡ text
-    → claims.prepared ≡ inside.claims.prepared → claims.logged ≡ with_logged (claim_of number view noted) inside.claims.logged → Each (IsAmong (noted ∷ inside.claims.texts)) claims.texts
+    → claims.prepared ≡ inside.claims.prepared → claims.logged ≡ with_logged (claim_of number view noted) inside.claims.logged → Each (IsAmongTexts (noted ∷ inside.claims.texts)) claims.texts
     → new ≡ record inside { log = with_batch inside.log number text; claims = claims } → LogsBatch number text old new
 logs_batch number view text noted inside old new claims same at read prepared logged texts is = subst (λ (o : OrdererData). LogsBatch number text o new) same (
   claims,
   record {
     prepared = prepared;
     logged = logged ∙ ap (λ (v : ℕ). with_logged (claim_of number v noted) inside.claims.logged) at ∙ ap (λ (t : List ℕ). with_logged (claim_of number inside.log.view t) inside.claims.logged) read;
-    texts = subst (λ (t : List ℕ). Each (IsAmong (t ∷ inside.claims.texts)) claims.texts) read texts;
+    texts = subst (λ (t : List ℕ). Each (IsAmongTexts (t ∷ inside.claims.texts)) claims.texts) read texts;
   },
   is,
 )
@@ -75,7 +75,7 @@ no_votes start o outs = record {
   voted = λ i is. go i is;
 }
   where
-    go : (i : ℕ) → ((start < i) × (i ≤ start)) ⊎ IsVoted o.log i → IsVoted o.log i
+    go : (i : ℕ) → ((start < i) × (i ≤ start)) ⊎ NoVoteIsDue o.log i → NoVoteIsDue o.log i
     go i (inl within) = let over = within.0 in let up = within.1 in absurd (omega (arith, over, up))
     go i (inr v) = v
 
@@ -88,12 +88,12 @@ one_voted start last a b d x y z p q = record {
   voted = λ i is. go i is (i == last + 1) refl;
 }
   where
-    before : (i : ℕ) → (i == last + 1) ≡ false → ((start < i) × (i ≤ last + 1)) ⊎ IsVoted a.log i → ((start < i) × (i ≤ last)) ⊎ IsVoted a.log i
+    before : (i : ℕ) → (i == last + 1) ≡ false → ((start < i) × (i ≤ last + 1)) ⊎ NoVoteIsDue a.log i → ((start < i) × (i ≤ last)) ⊎ NoVoteIsDue a.log i
     before i e (inl within) = let other = eqb-false i (last + 1) e in let up = within.1 in inl (within.0, omega (arith, other, up))
     before i e (inr v) = inr v
 
-    go : (i : ℕ) → ((start < i) × (i ≤ last + 1)) ⊎ IsVoted a.log i → (t : Bool) → (i == last + 1) ≡ t → IsVoted d.log i
-    go i is true e = subst (IsVoted d.log) (sym (eqb-true i (last + 1) e)) q.said
+    go : (i : ℕ) → ((start < i) × (i ≤ last + 1)) ⊎ NoVoteIsDue a.log i → (t : Bool) → (i == last + 1) ≡ t → NoVoteIsDue d.log i
+    go i is true e = subst (NoVoteIsDue d.log) (sym (eqb-true i (last + 1) e)) q.said
     go i is false e = q.says.others i (eqb-false i (last + 1) e) (p.voted i (before i e is))
 
 -- ---- batches that are logged
@@ -103,11 +103,11 @@ claims_same m rows v i [] = refl
 claims_same m rows v i (text ∷ texts) =
     ap (λ (cs : List Claim). cond (is_in_marks m i) (claim_of i v text ∷ cs) cs) (claims_same m rows v (suc i) texts)
 
-texts_same : (m : LogData) (rows : List Row) (i : ℕ) (texts : List (List ℕ)) → texts_from (record m { rows = rows }) i texts ≡ texts_from m i texts
+texts_same : (m : LogData) (rows : List Row) (i : ℕ) (texts : List (List ℕ)) → texts_in_marks (record m { rows = rows }) i texts ≡ texts_in_marks m i texts
 texts_same m rows i [] = refl
 texts_same m rows i (text ∷ texts) = ap (λ (ts : List (List ℕ)). cond (is_in_marks m i) (text ∷ ts) ts) (texts_same m rows (suc i) texts)
 
-all_among : (xs ys : List (List ℕ)) → ((t : List ℕ) → IsAmong ys t → IsAmong xs t) → Each (λ t. IsAmong xs t ⊎ IsAmong [] t) ys
+all_among : (xs ys : List (List ℕ)) → ((t : List ℕ) → IsAmongTexts ys t → IsAmongTexts xs t) → Each (λ t. IsAmongTexts xs t ⊎ IsAmongTexts [] t) ys
 all_among xs [] f = tt
 all_among xs (y ∷ ys) f = (inl (f y (inl refl)), all_among xs ys (λ t h. f t (inr h)))
 
@@ -126,19 +126,19 @@ module _ (k : ℕ) (text : List ℕ) (texts : List (List ℕ)) (a d : OrdererDat
           ∙ ap (λ (cs : List Claim). with_all with_logged (claims_from (with_batch a.log k text) a.log.view (suc k) texts) cs) one.logged
           ∙ ap (λ (cs : List Claim). with_all with_logged cs (with_logged (claim_of k a.log.view text) a.claims.logged)) (claims_same a.log (with_batch a.log k text).rows a.log.view (suc k) texts)
           ∙ ap (λ (t : Bool). with_all with_logged (cond t (claim_of k a.log.view text ∷ claims_from a.log a.log.view (suc k) texts) (claims_from a.log a.log.view (suc k) texts)) a.claims.logged) (sym w);
-      texts = each_weaker (λ t. IsAmong claims.texts t ⊎ IsAmong (texts_from (with_batch a.log k text) (suc k) texts) t) (λ t. IsAmong a.claims.texts t ⊎ IsAmong (texts_from a.log k (text ∷ texts)) t) among rest.0.texts rest.1.texts;
+      texts = each_weaker (λ t. IsAmongTexts claims.texts t ⊎ IsAmongTexts (texts_in_marks (with_batch a.log k text) (suc k) texts) t) (λ t. IsAmongTexts a.claims.texts t ⊎ IsAmongTexts (texts_in_marks a.log k (text ∷ texts)) t) among rest.0.texts rest.1.texts;
     },
     rest.2 ∙ ap (λ (t : Bool). record a { log = with_batches (cond t (with_batch a.log k text) a.log) (suc k) texts; claims = rest.0 }) (sym w),
   )
     where
-      here : (t : List ℕ) → IsAmong (text ∷ texts_from a.log (suc k) texts) t → IsAmong (texts_from a.log k (text ∷ texts)) t
-      here t h = subst (λ (b : Bool). IsAmong (cond b (text ∷ texts_from a.log (suc k) texts) (texts_from a.log (suc k) texts)) t) (sym w) h
+      here : (t : List ℕ) → IsAmongTexts (text ∷ texts_in_marks a.log (suc k) texts) t → IsAmongTexts (texts_in_marks a.log k (text ∷ texts)) t
+      here t h = subst (λ (b : Bool). IsAmongTexts (cond b (text ∷ texts_in_marks a.log (suc k) texts) (texts_in_marks a.log (suc k) texts)) t) (sym w) h
 
-      among : (t : List ℕ) → IsAmong claims.texts t ⊎ IsAmong (texts_from (with_batch a.log k text) (suc k) texts) t → IsAmong a.claims.texts t ⊎ IsAmong (texts_from a.log k (text ∷ texts)) t
-      among t (inr h) = inr (here t (inr (subst (λ (ts : List (List ℕ)). IsAmong ts t) (texts_same a.log (with_batch a.log k text).rows (suc k) texts) h)))
-      among t (inl h) = go (each_has (IsAmong (text ∷ a.claims.texts)) claims.texts t one.texts h)
+      among : (t : List ℕ) → IsAmongTexts claims.texts t ⊎ IsAmongTexts (texts_in_marks (with_batch a.log k text) (suc k) texts) t → IsAmongTexts a.claims.texts t ⊎ IsAmongTexts (texts_in_marks a.log k (text ∷ texts)) t
+      among t (inr h) = inr (here t (inr (subst (λ (ts : List (List ℕ)). IsAmongTexts ts t) (texts_same a.log (with_batch a.log k text).rows (suc k) texts) h)))
+      among t (inl h) = go (each_has (IsAmongTexts (text ∷ a.claims.texts)) claims.texts t one.texts h)
         where
-          go : IsAmong (text ∷ a.claims.texts) t → IsAmong a.claims.texts t ⊎ IsAmong (texts_from a.log k (text ∷ texts)) t
+          go : IsAmongTexts (text ∷ a.claims.texts) t → IsAmongTexts a.claims.texts t ⊎ IsAmongTexts (texts_in_marks a.log k (text ∷ texts)) t
           go (inl same) = inr (here t (inl same))
           go (inr old) = inl old
 
@@ -153,7 +153,7 @@ module _ (k : ℕ) (text : List ℕ) (texts : List (List ℕ)) (a d : OrdererDat
       prepared = rest.1.prepared;
       logged = rest.1.logged
           ∙ ap (λ (t : Bool). with_all with_logged (cond t (claim_of k a.log.view text ∷ claims_from a.log a.log.view (suc k) texts) (claims_from a.log a.log.view (suc k) texts)) a.claims.logged) (sym w);
-      texts = subst (λ (b : Bool). Each (λ t. IsAmong a.claims.texts t ⊎ IsAmong (cond b (text ∷ texts_from a.log (suc k) texts) (texts_from a.log (suc k) texts)) t) rest.0.texts) (sym w) rest.1.texts;
+      texts = subst (λ (b : Bool). Each (λ t. IsAmongTexts a.claims.texts t ⊎ IsAmongTexts (cond b (text ∷ texts_in_marks a.log (suc k) texts) (texts_in_marks a.log (suc k) texts)) t) rest.0.texts) (sym w) rest.1.texts;
     },
     rest.2 ∙ ap (λ (t : Bool). record a { log = with_batches (cond t (with_batch a.log k text) a.log) (suc k) texts; claims = rest.0 }) (sym w),
   )
@@ -225,7 +225,7 @@ view_again frame o before after there says = (
 -- ---- a selection
 
 abbrev SelectsSome : (N : Type 0) → Sizes → ℕ → List (ℕ × ViewChangeData) → List (List ℕ) → Option Selection → Type 0
-SelectsSome N sizes view set texts x = MatchOption x N (λ s. Selects (sized sizes) view set texts s.start.0 s.root (texts_of s.batches.items))
+SelectsSome N sizes view set texts x = MatchOption x N (λ s. SelectsNewView (sized sizes) view set texts s.start.0 s.root (texts_of s.batches.items))
 
 is_selection : {E : Type 0} (N : Type 0) (o : OrdererData) (r : Result (Option Selection) E) → o.log.active ≡ false → logs.primary o.log o.target ≡ o.log.me
     → IfOk r (SelectsSome N o.received.sizes o.target (pairs_for o.target o.received.held) o.claims.texts)
@@ -274,7 +274,7 @@ all_hashed old items first batches none is left =
 -- ---- a selection is signed
 
 pub signs_view : {E : Type 0} (o later : OrdererData) (start : ℕ) (root : List ℕ) (texts : List (List ℕ)) (message : Message) (made : NewViewData) (r : Result (Option (Vec ℕ Global)) E) → made ≡ new_view_of o start root texts → IsNewView made
-    → may_select (configuration_of o.received) made ≡ true → message ≡ NewView made → IfOk r (MaySign message o later)
+    → may_select (judging_configuration o.received) made ≡ true → message ≡ NewView made → IfOk r (MaySign message o later)
     → IfOk r (MaySignView (new_view_of o start root texts) o later)
 signs_view o later start root texts message made (Err e) is said right says h = h
 signs_view o later start root texts message made (Ok None) is said right says h = (h.0, go h.1)
@@ -286,7 +286,7 @@ signs_view o later start root texts message made (Ok (Some frame)) is said right
   record {
     signed = subst (λ (m : Message). IsOwnSigned o.endpoint m frame.items) (says ∙ ap NewView is) h.0;
     by_leaf = h.1;
-    right = subst (λ (n : NewViewData). may_select (configuration_of o.received) n ≡ true) is right;
+    right = subst (λ (n : NewViewData). may_select (judging_configuration o.received) n ≡ true) is right;
   },
   h.2,
 )

@@ -7,7 +7,7 @@ use Rattle.events.specs.Outputs.{entry_of, IsSentAsMeant, AreSentAsMeant}
 use Rattle.events.proofs.Meant.{one_more_meant}
 use Rattle.protocol.specs.System.Configuration.{Configuration}
 use Rattle.protocol.specs.System.Trace.{Entry, party_of}
-use Rattle.orderer.specs.Fitting.{given, FitsWaiting, WasSaid, FitsEvent, changes_of}
+use Rattle.orderer.specs.Fitting.{given, FitsWaiting, WasSaid, FitsEvent, changes_held}
 use Rattle.std.specs.Prelude.{option_and_then, ⊤}
 use Rattle.std.specs.Option.{option_map_or}
 use Rattle.std.specs.Bool.{then_some}
@@ -118,21 +118,21 @@ said_on me last past e h entry is = inr (h entry is)
 -- If the low mark moves, the claims up to it are dropped.
 pub changes_cut : (c : Configuration) (me : ℕ) (s : Start) (old new : OrdererData) (desk later : Desk) (due rest : List Message) (outputs : List Entry) (e : Entry)
     → events.Fits c me s desk old.log due outputs → events.Fits c me s later new.log rest (e ∷ outputs) → KeepsChanges c me (after_outputs s outputs) e → IsSameLog old.log new.log
-    → CutsClaims new.log.low old.claims new.claims → changes_of new ≡ record (changes_of old) { claims = new.claims }
-    → FitsChanges c me old.log (changes_of old) (after_outputs s outputs) → FitsChanges c me new.log (changes_of new) (e ∷ after_outputs s outputs)
+    → CutsClaims new.log.low old.claims new.claims → changes_held new ≡ record (changes_held old) { claims = new.claims }
+    → FitsChanges c me old.log (changes_held old) (after_outputs s outputs) → FitsChanges c me new.log (changes_held new) (e ∷ after_outputs s outputs)
 changes_cut c me s old new desk later due rest outputs e f on keeps same cuts held x =
     subst (λ (y : Changes). FitsChanges c me new.log y (e ∷ after_outputs s outputs)) (sym held)
-    (changes_stay c me (after_outputs s outputs) e old.log new.log (changes_of old) new.claims (outputs_pass c me s desk later old.log new.log due rest outputs e f on)
+    (changes_stay c me (after_outputs s outputs) e old.log new.log (changes_held old) new.claims (outputs_pass c me s desk later old.log new.log due rest outputs e f on)
     (record { view = same.view; active = same.active }) keeps cuts x)
 
 -- If it stays, nothing changes.
 pub changes_still : (c : Configuration) (me : ℕ) (s : Start) (old new : OrdererData) (desk later : Desk) (due rest : List Message) (outputs : List Entry) (e : Entry)
     → events.Fits c me s desk old.log due outputs → events.Fits c me s later new.log rest (e ∷ outputs) → KeepsChanges c me (after_outputs s outputs) e → IsSameLog old.log new.log
-    → new.log.low ≡ old.log.low → changes_of new ≡ changes_of old
-    → FitsChanges c me old.log (changes_of old) (after_outputs s outputs) → FitsChanges c me new.log (changes_of new) (e ∷ after_outputs s outputs)
+    → new.log.low ≡ old.log.low → changes_held new ≡ changes_held old
+    → FitsChanges c me old.log (changes_held old) (after_outputs s outputs) → FitsChanges c me new.log (changes_held new) (e ∷ after_outputs s outputs)
 changes_still c me s old new desk later due rest outputs e f on keeps same low held x =
     subst (λ (y : Changes). FitsChanges c me new.log y (e ∷ after_outputs s outputs)) (sym held)
-    (changes_stay c me (after_outputs s outputs) e old.log new.log (changes_of old) old.claims (outputs_pass c me s desk later old.log new.log due rest outputs e f on)
+    (changes_stay c me (after_outputs s outputs) e old.log new.log (changes_held old) old.claims (outputs_pass c me s desk later old.log new.log due rest outputs e f on)
     (record { view = same.view; active = same.active }) keeps
     (subst (λ (n : ℕ). CutsClaims n old.claims old.claims) (sym low) (claims_are_above c me old.log (after_outputs s outputs) old.claims f.of_log x.claims)) x)
 
@@ -142,14 +142,14 @@ changes_still c me s old new desk later due rest outputs e f on keeps same low h
 pub fits_behind : (c : Configuration) (me : ℕ) (s : Start) (old new : OrdererData) (desk later : Desk) (w more : WaitingData) (due rest : List Message) (before after : List Output) (e : Entry)
     → GivesOne c me before after e → new.last_checkpoint ≡ old.last_checkpoint → FitsEvent c me s old desk w due before
     → events.Fits c me s later new.log rest (e ∷ given me before) → FitsWaiting c me new more later (e ∷ after_outputs s (given me before))
-    → FitsChanges c me new.log (changes_of new) (e ∷ after_outputs s (given me before))
+    → FitsChanges c me new.log (changes_held new) (e ∷ after_outputs s (given me before))
     → FitsEvent c me s new later more rest after
 fits_behind c me s old new desk later w more due rest before after e gives last f on numbers changes = record {
   fits = subst (λ (es : List Entry). events.Fits c me s later new.log rest es) (sym gives.is) on;
   numbers = subst (λ (es : List Entry). FitsWaiting c me new more later (after_outputs s es)) (sym gives.is) numbers;
   said = subst (λ (es : List Entry). WasSaid me new.last_checkpoint (after_outputs s es)) (sym gives.is)
       (subst (λ (x : Option CheckpointEntry). WasSaid me x (e ∷ after_outputs s (given me before))) (sym last) (said_on me old.last_checkpoint (after_outputs s (given me before)) e f.said));
-  changes = subst (λ (es : List Entry). FitsChanges c me new.log (changes_of new) (after_outputs s es)) (sym gives.is) changes;
+  changes = subst (λ (es : List Entry). FitsChanges c me new.log (changes_held new) (after_outputs s es)) (sym gives.is) changes;
   meant = gives.meant f.meant;
 }
 
@@ -157,7 +157,7 @@ fits_behind c me s old new desk later w more due rest before after e gives last 
 pub fits_with : (c : Configuration) (me : ℕ) (s : Start) (old new : OrdererData) (desk : Desk) (w : WaitingData) (due rest : List Message) (before after : List Output) (e : Entry)
     → GivesOne c me before after e → IsBeside c me (after_outputs s (given me before)) e
     → IsSameLog old.log new.log → new.used ≡ old.used → new.last_checkpoint ≡ old.last_checkpoint
-    → FitsChanges c me new.log (changes_of new) (e ∷ after_outputs s (given me before))
+    → FitsChanges c me new.log (changes_held new) (e ∷ after_outputs s (given me before))
     → FitsEvent c me s old desk w due before → events.Fits c me s desk new.log rest (e ∷ given me before)
     → FitsEvent c me s new desk w rest after
 fits_with c me s old new desk w due rest before after e is beside same used last changes f on =
@@ -168,7 +168,7 @@ fits_with c me s old new desk w due rest before after e is beside same used last
 -- And if it changes no view-change data, and the low mark stays.
 pub fits_on : (c : Configuration) (me : ℕ) (s : Start) (old new : OrdererData) (desk : Desk) (w : WaitingData) (due rest : List Message) (before after : List Output) (e : Entry)
     → GivesOne c me before after e → IsBeside c me (after_outputs s (given me before)) e → KeepsChanges c me (after_outputs s (given me before)) e
-    → IsSameLog old.log new.log → new.log.low ≡ old.log.low → new.used ≡ old.used → new.last_checkpoint ≡ old.last_checkpoint → changes_of new ≡ changes_of old
+    → IsSameLog old.log new.log → new.log.low ≡ old.log.low → new.used ≡ old.used → new.last_checkpoint ≡ old.last_checkpoint → changes_held new ≡ changes_held old
     → FitsEvent c me s old desk w due before → events.Fits c me s desk new.log rest (e ∷ given me before)
     → FitsEvent c me s new desk w rest after
 fits_on c me s old new desk w due rest before after e is beside keeps same low used last held f on =

@@ -5,7 +5,7 @@ use Rattle.std.proofs.lemmas.List.{get_or-set_same, get_or-set_other}
 use Rattle.std.specs.Bool.{then_some}
 use Rattle.quorum.specs.Votes.{or_else}
 use Rattle.ordering.specs.declared.votes.Vote.{Vote}
-use Rattle.ordering.specs.Votes.{vote_of, with_vote}
+use Rattle.ordering.specs.Votes.{voted_digest, with_vote}
 use Rattle.ordering.specs.Log as logs
 use Rattle.ordering.specs.Log.{Row, no_row, LogData, primary, replicas, digest_of, is_in_marks, is_row_prepared, place, row_of, with_row, with_prepare, with_commit, due_prepare, due_commit, logged_digest, prepare_of, commit_of, is_prepared, logged_batch}
 use Rattle.ordering.specs.Keeping.{IsLog}
@@ -29,16 +29,16 @@ use Rattle.replica_histories.specs.Changes.{FitsChanges}
 use Rattle.replica_histories.proofs.ChangesPassing.{outputs_pass, commits_are_claimed}
 use Rattle.replica_histories.proofs.Giving.{prepares_fit, commits_fit}
 use Rattle.orderer.specs.State.{OrdererData, IsOrderer}
-use Rattle.orderer.specs.Fitting.{given, changes_of, FitsEvent}
-use Rattle.orderer.specs.Going.{GoesOn}
+use Rattle.orderer.specs.Fitting.{given, changes_held, FitsEvent}
+use Rattle.orderer.specs.Going.{KeepsFitting}
 use Rattle.orderer.specs.Claiming.{claiming, ClaimsLogged}
-use Rattle.orderer.specs.Saying.{Says, AddsPrepare, AddsCommit, SaysVote, SaysPrepare, SaysCommit, SaysVotes}
+use Rattle.orderer.specs.Saying.{SaysToOthers, AddsPrepare, AddsCommit, SaysVote, SaysPrepare, SaysCommit, SaysVotes}
 use Rattle.orderer.proofs.Staying.{GivesOne, gives_one, sent_beside, same_rows, fits_on, fits_with, changes_still, fits_behind, numbers_beside}
 use Rattle.orderer.proofs.Parties.{same_orderer, orderers_twice, same_log}
 use Rattle.replica_histories.proofs.ChangesKept.{sent_keep}
 use Rattle.state_transfer.specs.Transfer.{TransferData}
 use Rattle.replica_histories.specs.Desk.{Desk}
-use Rattle.replica_histories.specs.Transfers.{MayAsk, AsksNext}
+use Rattle.replica_histories.specs.Transfers.{TransferMayAsk, AsksNext}
 use Rattle.replica_histories.proofs.Fetching.{fetches_fit, due_fetches_fit}
 use Rattle.desk.specs.Waiting.{WaitingData}
 use Rattle.desk.specs.Fetching.{fetch_of}
@@ -76,10 +76,10 @@ elsewhere f out m i j row hj ne = go (is_in_marks m i) refl
 
 -- the prepare, or the commit, that is due by a row
 abbrev prepare_by : LogData → Bool → Row → Option (List ℕ)
-prepare_by m b r = cond (m.active && not (m.me == primary m m.view) && is_none (cond b (vote_of r.prepares m.me) None)) (cond b (digest_of r) None) None
+prepare_by m b r = cond (m.active && not (m.me == primary m m.view) && is_none (cond b (voted_digest r.prepares m.me) None)) (cond b (digest_of r) None) None
 
 abbrev commit_by : LogData → Bool → Row → Option (List ℕ)
-commit_by m b r = cond (m.active && (b && is_row_prepared m.faults (replicas m) r) && is_none (cond b (vote_of r.commits m.me) None)) (cond b (digest_of r) None) None
+commit_by m b r = cond (m.active && (b && is_row_prepared m.faults (replicas m) r) && is_none (cond b (voted_digest r.commits m.me) None)) (cond b (digest_of r) None) None
 
 prepare_out : (m : LogData) (r s : Row) → prepare_by m false r ≡ prepare_by m false s
 prepare_out m r s = refl
@@ -136,7 +136,7 @@ pub record SaidIn (c : Configuration) (o : OrdererData) (message : Message) (bef
   pub posted : IsPosted c o.endpoint.me message (others c o.endpoint.me) bytes
   pub is : GivesOne c o.endpoint.me before after (Sent o.endpoint.me bytes)
 
-pub said_in : (c : Configuration) (o : OrdererData) (message : Message) (before after : List Output) → members c ≡ o.endpoint.membership → Says o message before after
+pub said_in : (c : Configuration) (o : OrdererData) (message : Message) (before after : List Output) → members c ≡ o.endpoint.membership → SaysToOthers o message before after
     → SaidIn c o message before after
 said_in c o message before after known s = record {
   bytes = s.posts.bytes;
@@ -160,8 +160,8 @@ no_commit number o outs h = record { says = silent number o outs; said = h; prep
 -- ---- a prepare
 
 prepare_goes : (number : ℕ) (digest : List ℕ) (vote : Vote) (o : OrdererData) (before after : List Output) → o.log.me ≡ o.endpoint.me → due_prepare o.log number ≡ Some digest
-    → vote.sender.0 ≡ o.log.me → vote.digest ≡ digest → Says o (Prepare o.log.view number digest) before after
-    → GoesOn o before (record o { log = with_prepare o.log number vote }) after
+    → vote.sender.0 ≡ o.log.me → vote.digest ≡ digest → SaysToOthers o (Prepare o.log.view number digest) before after
+    → KeepsFitting o before (record o { log = with_prepare o.log number vote }) after
 prepare_goes number digest vote o before after own due sender same says c s desk w d known f =
     let k = said_in c o (Prepare o.log.view number digest) before after known says in
     fits_on c o.endpoint.me s o (record o { log = with_prepare o.log number vote }) desk w d d before after (Sent o.endpoint.me k.bytes) k.is
@@ -171,7 +171,7 @@ prepare_goes number digest vote o before after own due sender same says c s desk
     (prepares_fit c o.endpoint.me s desk o.log d (given o.endpoint.me before) number digest k.bytes vote due (sender ∙ own) same k.posted f.fits)
 
 pub says_prepare : (number : ℕ) (digest : List ℕ) (old new : OrdererData) (before after : List Output) → IsLog old.log → IsOrderer old → due_prepare old.log number ≡ Some digest
-    → Says old (Prepare old.log.view number digest) before after → AddsPrepare number digest old new → SaysPrepare number old before new after
+    → SaysToOthers old (Prepare old.log.view number digest) before after → AddsPrepare number digest old new → SaysPrepare number old before new after
 says_prepare number digest old new before after is own due says adds =
     subst (λ (x : OrdererData). SaysPrepare number old before x after) (sym adds.new_is) (record {
       says = record {
@@ -223,16 +223,16 @@ claims_due number digest old new due claims = go (logged_batch old.log number) h
     go (Some text) e is = record { text = text; digest_is = some_injective (sha256 text) digest e; new_is = is }
 
 commit_goes : (number : ℕ) (digest text : List ℕ) (vote : Vote) (o : OrdererData) (before after : List Output) → o.log.me ≡ o.endpoint.me → due_commit o.log number ≡ Some digest
-    → sha256 text ≡ digest → vote.sender.0 ≡ o.log.me → vote.digest ≡ digest → Says (claiming number text o) (Commit o.log.view number digest) before after
-    → GoesOn o before (record (claiming number text o) { log = with_commit o.log number vote }) after
+    → sha256 text ≡ digest → vote.sender.0 ≡ o.log.me → vote.digest ≡ digest → SaysToOthers (claiming number text o) (Commit o.log.view number digest) before after
+    → KeepsFitting o before (record (claiming number text o) { log = with_commit o.log number vote }) after
 commit_goes number digest text vote o before after own due hashed sender same says c s desk w d known f =
     fits_with c me s o (record (claiming number text o) { log = log }) desk w d d before after e k.is
     (sent_beside c me (Commit o.log.view number digest) (others c me) k.bytes past tt k.posted)
     (same_rows o.log log.rows) refl refl
-    (subst (λ (x : List ℕ). FitsChanges c me log (record (changes_of o) {
+    (subst (λ (x : List ℕ). FitsChanges c me log (record (changes_held o) {
       claims = record o.claims { prepared = with_prepared (record { number = number; digest = x; view = o.log.view }) o.claims.prepared };
     }) (e ∷ past)) (sym hashed)
-    (commits_are_claimed c me past o.log log (changes_of o) number digest k.bytes (outputs_pass c me s desk desk o.log log d d (given me before) e f.fits on)
+    (commits_are_claimed c me past o.log log (changes_held o) number digest k.bytes (outputs_pass c me s desk desk o.log log d d (given me before) e f.fits on)
     (record { view = refl; active = refl }) refl due k.posted.says f.changes)) f on
   where
     me : ℕ
@@ -254,7 +254,7 @@ commit_goes number digest text vote o before after own due hashed sender same sa
     on = commits_fit c me s desk o.log d (given me before) number digest k.bytes vote due (sender ∙ own) same k.posted f.fits
 
 claimed_commit : (number : ℕ) (digest text : List ℕ) (old new : OrdererData) (before after : List Output) → IsLog old.log → IsOrderer old → due_commit old.log number ≡ Some digest → sha256 text ≡ digest
-    → Says (claiming number text old) (Commit old.log.view number digest) before after → AddsCommit number digest (claiming number text old) new → SaysCommit number old before new after
+    → SaysToOthers (claiming number text old) (Commit old.log.view number digest) before after → AddsCommit number digest (claiming number text old) new → SaysCommit number old before new after
 claimed_commit number digest text old new before after is own due hashed says adds =
     subst (λ (x : OrdererData). SaysCommit number old before x after) (sym adds.new_is) (record {
       says = record {
@@ -277,17 +277,17 @@ claimed_commit number digest text old new before after is own due hashed says ad
     inside = due_commit_within old.log number digest due
 
 pub says_commit : (number : ℕ) (digest : List ℕ) (old mid new : OrdererData) (before after : List Output) → IsLog old.log → IsOrderer old → due_commit old.log number ≡ Some digest
-    → ClaimsLogged number old mid → Says mid (Commit mid.log.view number digest) before after → AddsCommit number digest mid new → SaysCommit number old before new after
+    → ClaimsLogged number old mid → SaysToOthers mid (Commit mid.log.view number digest) before after → AddsCommit number digest mid new → SaysCommit number old before new after
 says_commit number digest old mid new before after is own due claims says adds =
     let k = claims_due number digest old mid due claims in
     claimed_commit number digest k.text old new before after is own due k.digest_is
-    (subst (λ (x : OrdererData). Says x (Commit x.log.view number digest) before after) k.new_is says)
+    (subst (λ (x : OrdererData). SaysToOthers x (Commit x.log.view number digest) before after) k.new_is says)
     (subst (λ (x : OrdererData). AddsCommit number digest x new) k.new_is adds)
 
 -- ---- both
 
 -- if both go on, the whole does
-pub goes_twice : (a b d : OrdererData) (x y z : List Output) → b.endpoint ≡ a.endpoint → GoesOn a x b y → GoesOn b y d z → GoesOn a x d z
+pub goes_twice : (a b d : OrdererData) (x y z : List Output) → b.endpoint ≡ a.endpoint → KeepsFitting a x b y → KeepsFitting b y d z → KeepsFitting a x d z
 goes_twice a b d x y z same first second c s desk w due known f =
     subst (λ e. FitsEvent c e.me s d desk w due z) same
     (second c s desk w due (known ∙ ap (λ e. e.membership) (sym same)) (subst (λ e. FitsEvent c e.me s b desk w due y) (sym same) (first c s desk w due known f)))
@@ -305,7 +305,7 @@ says_votes number a b d x y z p q = record {
 }
 
 module _ (c : Configuration) (s : Start) (o : OrdererData) (desk : Desk) (w : WaitingData) (before after : List Output) (t : TransferData) (known : members c ≡ o.endpoint.membership)
-    (says : Says o (fetch_of t) before after) where
+    (says : SaysToOthers o (fetch_of t) before after) where
   abbrev pub me : ℕ
   me = o.endpoint.me
 
@@ -326,15 +326,15 @@ module _ (c : Configuration) (s : Start) (o : OrdererData) (desk : Desk) (w : Wa
       (numbers_beside c me w o desk past (Sent me said.bytes) f.fits.of_log.faults f.fits.of_log.own (sent_beside c me (fetch_of t) (others c me) said.bytes past tt said.posted) f.numbers)
       (changes_still c me s o o desk with_it due rest (given me before) (Sent me said.bytes) f.fits on (sent_keep c me past (fetch_of t) said.bytes said.posted.says tt (λ signed. absurd cc)) (same_log o.log) refl refl f.changes)
 
-  pub asks : (due : List Message) → MayAsk c me t desk.state.number past → AsksNext c me t desk.state past → FitsEvent c me s o desk w due before → FitsEvent c me s o with_it w due after
+  pub asks : (due : List Message) → TransferMayAsk c me t desk.state.number past → AsksNext c me t desk.state past → FitsEvent c me s o desk w due before → FitsEvent c me s o with_it w due after
   asks due may next f = behind_it due due f (fetches_fit c me s desk o.log due (given me before) t said.bytes may next said.posted f.fits)
 
   -- the fetch was due
-  pub asks_due : (rest : List Message) → MayAsk c me t desk.state.number past → AsksNext c me t desk.state past → FitsEvent c me s o desk w (fetch_of t ∷ rest) before → FitsEvent c me s o with_it w rest after
+  pub asks_due : (rest : List Message) → TransferMayAsk c me t desk.state.number past → AsksNext c me t desk.state past → FitsEvent c me s o desk w (fetch_of t ∷ rest) before → FitsEvent c me s o with_it w rest after
   asks_due rest may next f = behind_it (fetch_of t ∷ rest) rest f (due_fetches_fit c me s desk o.log rest (given me before) t said.bytes may next said.posted f.fits)
 
   -- the open transfer may ask again, if a fetch is due
-  pub asks_again : (rest : List Message) → desk.transfer ≡ Some t → MayAsk c me t desk.state.number past → AsksNext c me t desk.state past → FitsEvent c me s o desk w (fetch_of t ∷ rest) before → FitsEvent c me s o desk w rest after
+  pub asks_again : (rest : List Message) → desk.transfer ≡ Some t → TransferMayAsk c me t desk.state.number past → AsksNext c me t desk.state past → FitsEvent c me s o desk w (fetch_of t ∷ rest) before → FitsEvent c me s o desk w rest after
   asks_again rest there may next f =
       subst (λ x. FitsEvent c me s o (record desk { transfer = x }) w rest after) (sym there)
       (asks_due rest may next f)

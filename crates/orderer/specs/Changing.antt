@@ -7,8 +7,8 @@ use Rattle.posting.specs.Endpoint.{IsOwnSigned}
 use Rattle.protocol.specs.System.Configuration.{is_number}
 use Rattle.protocol.specs.System.Frames.{leaf_of}
 use Rattle.protocol.specs.Replica.Certificates.{view, target}
-use Rattle.view_change.specs.ReceivedData.{HeldData, held_of, refusal_of, with_held, AreHeldFrom, later_views, IsJoined}
-use Rattle.view_change.specs.ReceivedView.{configuration_of}
+use Rattle.view_change.specs.ReceivedData.{HeldData, held_of, view_change_refusal, with_held, AreHeldFrom, later_views, IsJoined}
+use Rattle.view_change.specs.ReceivedView.{judging_configuration}
 use Rattle.orderer.specs.State.{OrdererData}
 
 -- the greater of the current view and the last view that the replica sent a view change for
@@ -22,12 +22,12 @@ IsNextView o view = (aimed_view o < view) × (is_number view ≡ true)
 -- The view changes of more than f others are for later views, of which this is the least. Each is of the sender at its
 -- place.
 abbrev pub IsJoinedBy : OrdererData → ℕ → Type 0
-IsJoinedBy o v = AreHeldFrom (configuration_of o.received) 0 o.received.held
+IsJoinedBy o v = AreHeldFrom (judging_configuration o.received) 0 o.received.held
     × IsJoined o.endpoint.membership.faults (later_views o.endpoint.me (aimed_view o) o.received.held) v
 
 -- There are not so many.
 abbrev pub IsJoinedByNone : OrdererData → Type 0
-IsJoinedByNone o = AreHeldFrom (configuration_of o.received) 0 o.received.held
+IsJoinedByNone o = AreHeldFrom (judging_configuration o.received) 0 o.received.held
     × (length (later_views o.endpoint.me (aimed_view o) o.received.held) ≤ o.endpoint.membership.faults)
 
 -- the stored frames spell the stored view changes
@@ -51,7 +51,7 @@ abbrev pub IsUnsayable : OrdererData → ViewChangeData → Type 0
 IsUnsayable o vc =
     (o.spent ≡ 64)
     ⊎ (((bytes : List ℕ) → said bytes ≡ Some (record { sender = o.endpoint.me; message = ViewChange vc }) → ⊥)
-    ⊎ (refusal_of (configuration_of o.received) o.log.view o.received.held (o.log.me, vc) ≢ None))
+    ⊎ (view_change_refusal (judging_configuration o.received) o.log.view o.received.held (o.log.me, vc) ≢ None))
 
 -- the replica signs the view change in this frame by the next leaf, and stores it
 pub record SignsChange (view : ℕ) (checkpoints : List CheckpointEntry) (old new : OrdererData)

@@ -8,7 +8,7 @@ use Rattle.ordering.specs.Log as logs
 use Rattle.ordering.specs.Checkpoints.{says_checkpoint}
 use Rattle.ordering.specs.Messages.{checkpoint_fault_of}
 use Rattle.orderer.specs.State.{OrdererData}
-use Rattle.orderer.specs.Saying.{Says}
+use Rattle.orderer.specs.Saying.{SaysToOthers}
 
 -- the number and root in a checkpoint message
 abbrev pub said_entry : CheckpointMessage → CheckpointEntry
@@ -32,5 +32,5 @@ TakesCheckpoint old sender m new false =
 -- The replica multicasts, counts and notes its own checkpoint.
 pub record SaysCheckpoint (entry : CheckpointEntry) (old : OrdererData) (before : List Output) (new : OrdererData)
     (after : List Output) : Type 0 where
-  pub says : Says old (Checkpoint entry.number entry.digest) before after
+  pub says : SaysToOthers old (Checkpoint entry.number entry.digest) before after
   pub new_is : new ≡ record (counting old old.log.me entry) { last_checkpoint = Some entry }

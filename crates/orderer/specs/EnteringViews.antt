@@ -7,7 +7,7 @@ use Rattle.posting.specs.Endpoint.{IsOwnSigned}
 use Rattle.ordering.specs.Log as logs
 use Rattle.claims.specs.ClaimsView.{ClaimsData}
 use Rattle.view_change.specs.ReceivedData.{pairs_for, frames_for}
-use Rattle.view_change.specs.ReceivedView.{configuration_of}
+use Rattle.view_change.specs.ReceivedView.{judging_configuration}
 use Rattle.view_change.specs.Selecting.{meets, AreFrom}
 use Rattle.view_change.specs.Sets.{sized}
 use Rattle.protocol.specs.System.Frames.{leaf_of}
@@ -16,7 +16,7 @@ use Rattle.replica_histories.specs.Changes.{AddsBatches}
 use Rattle.replica_histories.specs.Primaries.{SelectsNothing}
 use Rattle.replica_histories.specs.Views.{with_batches}
 use Rattle.orderer.specs.State.{OrdererData}
-use Rattle.orderer.specs.Going.{GoesOn, IsVoted, IsSameOrderer}
+use Rattle.orderer.specs.Going.{KeepsFitting, NoVoteIsDue, IsSameOrderer}
 
 -- The orderer is in the view, in which the numbers up to the last have their batches.
 abbrev pub entering : ℕ → ℕ → Option (List ℕ) → OrdererData → OrdererData
@@ -37,11 +37,11 @@ LogsBatches first texts old new = (claims : ClaimsData)
 -- before for others.
 pub record SaysVotesOf (start last : ℕ) (old : OrdererData) (before : List Output) (new : OrdererData)
     (after : List Output) : Type 0 where
-  pub goes : GoesOn old before new after
+  pub goes : KeepsFitting old before new after
   pub same : IsSameOrderer old new
   pub low : new.log.low ≡ old.log.low
   pub used : new.used ≡ old.used
-  pub voted : (i : ℕ) → ((start < i) × (i ≤ last)) ⊎ IsVoted old.log i → IsVoted new.log i
+  pub voted : (i : ℕ) → ((start < i) × (i ≤ last)) ⊎ NoVoteIsDue old.log i → NoVoteIsDue new.log i
 
 -- ---- own new views
 
@@ -72,7 +72,7 @@ new_view_of o start root texts = record {
 pub record SignsView (o : OrdererData) (new : NewViewData) (frame : List ℕ) : Type 0 where
   pub signed : IsOwnSigned o.endpoint (NewView new) frame
   pub by_leaf : leaf_of frame ≡ Some o.spent
-  pub right : may_select (configuration_of o.received) new ≡ true
+  pub right : may_select (judging_configuration o.received) new ≡ true
 
 -- The replica does so, and spends the leaf; or all are spent, and nothing changes.
 abbrev pub MaySignView : NewViewData → OrdererData → OrdererData → Option (Vec ℕ Global) → Type 0

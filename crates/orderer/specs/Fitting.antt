@@ -26,8 +26,8 @@ FitsWaiting c me o w desk history = logs.primary o.log o.log.view ≡ o.log.me
     → FitsFlags c me o.log.view o.used w desk.state desk.waiting history
 
 -- what the orderer holds for view changes
-abbrev pub changes_of : OrdererData → Changes
-changes_of o = record {
+abbrev pub changes_held : OrdererData → Changes
+changes_held o = record {
   target = o.target;
   begun = o.begun;
   new_view = o.new_view;
@@ -49,5 +49,5 @@ pub record FitsEvent (c : Configuration) (me : ℕ) (s : Start) (o : OrdererData
   pub fits : events.Fits c me s desk o.log due (given me outs)
   pub numbers : FitsWaiting c me o w desk (after_outputs s (given me outs))
   pub said : WasSaid me o.last_checkpoint (after_outputs s (given me outs))
-  pub changes : FitsChanges c me o.log (changes_of o) (after_outputs s (given me outs))
+  pub changes : FitsChanges c me o.log (changes_held o) (after_outputs s (given me outs))
   pub meant : AreSentAsMeant c me outs

@@ -13,22 +13,22 @@ use Rattle.desk.specs.Waiting.{WaitingData}
 use Rattle.orderer.specs.Fitting.{FitsEvent}
 
 -- If a history fits the earlier outputs, with the earlier orderer, it fits the later outputs with the later orderer.
-abbrev pub GoesOn : OrdererData → List Output → OrdererData → List Output → Type 0
-GoesOn old before new after =
+abbrev pub KeepsFitting : OrdererData → List Output → OrdererData → List Output → Type 0
+KeepsFitting old before new after =
     (c : Configuration) (s : Start) (desk : Desk) (w : WaitingData) (due : List Message)
     → members c ≡ old.endpoint.membership
     → FitsEvent c old.endpoint.me s old desk w due before → FitsEvent c old.endpoint.me s new desk w due after
 
 -- the log asks for no vote for the number
-abbrev pub IsVoted : LogData → ℕ → Type 0
-IsVoted log i = (logs.due_prepare log i ≡ None) × (logs.due_commit log i ≡ None)
+abbrev pub NoVoteIsDue : LogData → ℕ → Type 0
+NoVoteIsDue log i = (logs.due_prepare log i ≡ None) × (logs.due_commit log i ≡ None)
 
 -- nor for any number but this one
 abbrev pub IsVotedBut : ℕ → LogData → Type 0
-IsVotedBut number log = (i : ℕ) → i ≢ number → IsVoted log i
+IsVotedBut number log = (i : ℕ) → i ≢ number → NoVoteIsDue log i
 
 abbrev pub IsVotedAll : LogData → Type 0
-IsVotedAll log = (i : ℕ) → IsVoted log i
+IsVotedAll log = (i : ℕ) → NoVoteIsDue log i
 
 -- both logs are of the same replica and view; the low mark doesn't fall
 pub record IsSameLog (old new : LogData) : Type 0 where

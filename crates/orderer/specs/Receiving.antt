@@ -2,20 +2,20 @@
 use Rattle.std.specs.Prelude.{◌≡◌, ◌≢◌, Bool, true, false, None}
 use Rattle.protocol.specs.System.Configuration.{Configuration, members}
 use Rattle.view_change.specs.Laws.{HaveOneRule}
-use Rattle.view_change.specs.ReceivedData.{HeldData, refusal_of, with_held}
-use Rattle.view_change.specs.ReceivedView.{configuration_of}
+use Rattle.view_change.specs.ReceivedData.{HeldData, view_change_refusal, with_held}
+use Rattle.view_change.specs.ReceivedView.{judging_configuration}
 use Rattle.orderer.specs.State.{OrdererData}
 
 -- The orderer stores it if nothing refuses it; else nothing changes.
-abbrev pub Receives : HeldData → OrdererData → OrdererData → Bool → Type 0
-Receives h old new true =
-    (refusal_of (configuration_of old.received) old.log.view old.received.held (h.sender, h.change) ≡ None)
+abbrev pub ReceivesViewChange : HeldData → OrdererData → OrdererData → Bool → Type 0
+ReceivesViewChange h old new true =
+    (view_change_refusal (judging_configuration old.received) old.log.view old.received.held (h.sender, h.change) ≡ None)
     × (new ≡ record old { received = record old.received { held = with_held h old.received.held } })
-Receives h old new false =
-    (refusal_of (configuration_of old.received) old.log.view old.received.held (h.sender, h.change) ≢ None)
+ReceivesViewChange h old new false =
+    (view_change_refusal (judging_configuration old.received) old.log.view old.received.held (h.sender, h.change) ≢ None)
     × (new ≡ old)
 
 -- The orderer judges view changes as in each configuration of the members, with the same period of checkpoints.
 abbrev pub JudgesAlike : OrdererData → Type 0
 JudgesAlike o = (c : Configuration) → members c ≡ o.endpoint.membership → c.period ≡ o.received.sizes.period
-    → HaveOneRule (configuration_of o.received) c
+    → HaveOneRule (judging_configuration o.received) c

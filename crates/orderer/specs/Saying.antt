@@ -21,10 +21,10 @@ use Rattle.desk.specs.DeskOf.{SpellCalls}
 use Rattle.orderer.specs.State.{OrdererData}
 use Rattle.desk.specs.Waiting.{WaitingData, texts, unnumbered, with_numbered}
 use Rattle.orderer.specs.Fitting.{given, FitsEvent}
-use Rattle.orderer.specs.Going.{GoesOn, IsVoted, IsSameOrderer}
+use Rattle.orderer.specs.Going.{KeepsFitting, NoVoteIsDue, IsSameOrderer}
 
 -- the orderer sends the message to the other replicas, after the earlier outputs
-pub record Says (o : OrdererData) (message : Message) (before after : List Output) : Type 0 where
+pub record SaysToOthers (o : OrdererData) (message : Message) (before after : List Output) : Type 0 where
   pub output : Output
   pub posts : PostsToOthers o.endpoint message output
   pub given_is : after ≡ before ++ output ∷ []
@@ -45,11 +45,11 @@ pub record AddsCommit (number : ℕ) (digest : List ℕ) (old new : OrdererData)
 -- The orderer goes on, and the log asks for no more votes for numbers but this one.
 pub record SaysVote (number : ℕ) (old : OrdererData) (before : List Output) (new : OrdererData)
     (after : List Output) : Type 0 where
-  pub goes : GoesOn old before new after
+  pub goes : KeepsFitting old before new after
   pub same : IsSameOrderer old new
   pub low : new.log.low ≡ old.log.low
   pub used : new.used ≡ old.used
-  pub others : (i : ℕ) → i ≢ number → IsVoted old.log i → IsVoted new.log i
+  pub others : (i : ℕ) → i ≢ number → NoVoteIsDue old.log i → NoVoteIsDue new.log i
 
 -- The same, and the log asks for the prepare of the number no more; or for the commit.
 pub record SaysPrepare (number : ℕ) (old : OrdererData) (before : List Output) (new : OrdererData)
@@ -67,7 +67,7 @@ pub record SaysCommit (number : ℕ) (old : OrdererData) (before : List Output) 
 pub record SaysVotes (number : ℕ) (old : OrdererData) (before : List Output) (new : OrdererData)
     (after : List Output) : Type 0 where
   pub says : SaysVote number old before new after
-  pub said : IsVoted new.log number
+  pub said : NoVoteIsDue new.log number
 
 -- ---- what is sent again
 
@@ -176,7 +176,7 @@ pub record PostsAll (executed : ℕ) (o : OrdererData) (outs : List Output) : Ty
 
 -- The primary multicasts its own batch of this text. If it may assign the number, and the batch is of the oldest
 -- requests without one, these have it then.
-pub record SaysBatch (number : ℕ) (text : List ℕ) (old : OrdererData) (before : List Output) (new : OrdererData)
+pub record SaysOwnBatch (number : ℕ) (text : List ℕ) (old : OrdererData) (before : List Output) (new : OrdererData)
     (after : List Output) : Type 0 where
   pub endpoint : new.endpoint ≡ old.endpoint
   pub log : new.log ≡ with_batch old.log number text

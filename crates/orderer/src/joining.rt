@@ -3,10 +3,10 @@
 ghost use Rattle.std.specs.Prelude.{◌≡◌, Some, IfNone, IfOk, IfSome};
 ghost use Rattle.protocol.specs.Replica.Selection.{signed_change};
 ghost use Rattle.view_change.specs.Laws.{ChangesAreJudged};
-ghost use Rattle.view_change.specs.ReceivedView.{configuration_of, held_as};
+ghost use Rattle.view_change.specs.ReceivedView.{judging_configuration, held_as};
 ghost use Rattle.view_change.specs.Sets.{change_pair};
 ghost use Rattle.orderer.specs.Changing.{IsJoinedBy, IsJoinedByNone, IsNextView};
-ghost use Rattle.orderer.specs.Receiving.{JudgesAlike, Receives};
+ghost use Rattle.orderer.specs.Receiving.{JudgesAlike, ReceivesViewChange};
 
 use crate::orderer::Orderer;
 use events::Stop;
@@ -27,8 +27,8 @@ impl Orderer {
 
     /// Takes a view change that was received or signed in this frame, if it has no fault. Returns whether.
     pub fn receive(&mut self, alloc: Global, change: Change, frame: &[u8]) -> Result<bool, Stop>
-        requires { signed_change (configuration_of self.old.received) frame.now ≡ Some (change_pair change) }
-        ensures ok { IfOk result (Receives (held_as change frame.now) self.old self.new) }
+        requires { signed_change (judging_configuration self.old.received) frame.now ≡ Some (change_pair change) }
+        ensures ok { IfOk result (ReceivesViewChange (held_as change frame.now) self.old self.new) }
         ensures endpoint { self.new.endpoint ≡ self.old.endpoint }
         ensures sizes { self.new.received.sizes ≡ self.old.received.sizes }
     {

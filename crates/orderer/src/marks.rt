@@ -6,7 +6,7 @@ ghost use Rattle.wire_format.specs.Views.{checkpoint_entry_data};
 ghost use Rattle.ordering.specs.Log.{count_checkpoints};
 ghost use Rattle.orderer.specs.Claiming.{CutsLog};
 ghost use Rattle.orderer.specs.Checkpoints.{SaysCheckpoint, TakesCheckpoint, said_entry};
-ghost use Rattle.orderer.specs.Saying.{PostsCheckpoint, Says, SaysLastAlso};
+ghost use Rattle.orderer.specs.Saying.{PostsCheckpoint, SaysToOthers, SaysLastAlso};
 
 use crate::orderer::Orderer;
 use events::{Outputs, Stop};
@@ -71,7 +71,7 @@ impl Orderer {
         entry: CheckpointEntry,
         outputs: &mut Outputs,
     ) -> Result<(), Stop>
-        ensures said { OnOk result (Says self.old (checkpoint entry.number.0 entry.digest)
+        ensures said { OnOk result (SaysToOthers self.old (checkpoint entry.number.0 entry.digest)
             outputs.old.items outputs.new.items) }
         ensures same { self.new ≡ self.old }
     {

@@ -4,8 +4,8 @@ ghost use Rattle.std.specs.Prelude.{◌≡◌, ◌↔◌, None, IfNone, IfOk, If
 ghost use Rattle.wire_format.specs.Lists.{Each};
 ghost use Rattle.wire_format.specs.Spelling.{IsBatch};
 ghost use Rattle.wire_format.specs.Views.{new_view_data};
-ghost use Rattle.view_change.specs.Checking.{refusal};
-ghost use Rattle.view_change.specs.ReceivedView.{configuration_of};
+ghost use Rattle.view_change.specs.Checking.{new_view_refusal};
+ghost use Rattle.view_change.specs.ReceivedView.{judging_configuration};
 ghost use Rattle.view_change.specs.Sets.{texts_of};
 ghost use Rattle.orderer.specs.EnteringViews.{HasNoSelection, IsSelection, MaySignView, new_view_of};
 ghost use Rattle.orderer.specs.Saying.{PostsNewView, SaysAlso};
@@ -54,7 +54,7 @@ impl Orderer {
 
     /// Whether the rules let the replica enter the view by this new view.
     pub fn may_enter(&self, alloc: Global, sender: ReplicaId, new: &NewView) -> Result<bool, Stop>
-        ensures { IfOk result (λ may. IsTrue may ↔ (refusal (configuration_of self.now.received)
+        ensures { IfOk result (λ may. IsTrue may ↔ (new_view_refusal (judging_configuration self.now.received)
             self.now.log.view self.now.target sender.0 (new_view_data new.now) ≡ None)) }
     {
         let view = self.log.view();

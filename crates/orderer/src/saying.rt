@@ -8,7 +8,7 @@ ghost use Rattle.ordering.specs.Log.{is_in_marks};
 ghost use Rattle.wire_format.specs.Views.{message_data, texts_of};
 ghost use Rattle.posting.specs.Endpoint.{FitsFrame};
 ghost use Rattle.state_transfer.specs.Places.{IsPlace};
-ghost use Rattle.orderer.specs.Saying.{PostsAll, PostsBatch, PostsCommit, PostsPrepare, PostsRow, Says, SaysAlso, SaysBatch, SaysLastAlso, row_place};
+ghost use Rattle.orderer.specs.Saying.{PostsAll, PostsBatch, PostsCommit, PostsPrepare, PostsRow, SaysToOthers, SaysAlso, SaysOwnBatch, SaysLastAlso, row_place};
 
 use crate::orderer::Orderer;
 use authenticator::SealFault;
@@ -34,7 +34,7 @@ impl Orderer {
         requires few { length frames.now ≤ 16 }
         requires each { Each (IsCarried is_ordered_request) (texts_of frames.now) }
         requires within { is_in_marks self.old.log number.0 ≡ true }
-        ensures ok { OnOk result (SaysBatch number.0 (pieces_spelling (texts_of frames.now))
+        ensures ok { OnOk result (SaysOwnBatch number.0 (pieces_spelling (texts_of frames.now))
             self.old outputs.old.items self.new outputs.new.items) }
         ensures endpoint { self.new.endpoint ≡ self.old.endpoint }
         ensures sizes { self.new.received.sizes ≡ self.old.received.sizes }
@@ -150,7 +150,7 @@ impl Orderer {
         outputs: &mut Outputs,
     ) -> Result<(), Stop>
         requires { IsBatch 1 text.now }
-        ensures said { OnOk result (Says self.old (pre_prepare self.old.log.view number.0 text.now)
+        ensures said { OnOk result (SaysToOthers self.old (pre_prepare self.old.log.view number.0 text.now)
             outputs.old.items outputs.new.items) }
         ensures same { self.new ≡ self.old }
     {
@@ -168,7 +168,7 @@ impl Orderer {
         outputs: &mut Outputs,
     ) -> Result<(), Stop>
         requires { IsPlace place }
-        ensures said { OnOk result (Says self.old (fetch number.0 place.level place.index)
+        ensures said { OnOk result (SaysToOthers self.old (fetch number.0 place.level place.index)
             outputs.old.items outputs.new.items) }
         ensures same { self.new ≡ self.old }
     {
@@ -187,7 +187,7 @@ impl Orderer {
         requires unsigned { is_signed (message_data message) ≡ false }
         requires fits { FitsFrame (message_data message) }
         ensures said { OnOk result
-            (Says self.old (message_data message) outputs.old.items outputs.new.items) }
+            (SaysToOthers self.old (message_data message) outputs.old.items outputs.new.items) }
         ensures same { self.new ≡ self.old }
     {
         match self.endpoint.post_to_others(alloc, message) {

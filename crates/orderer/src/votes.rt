@@ -4,7 +4,7 @@ ghost use Rattle.std.specs.Prelude.{◌≡◌, ◌==◌, true, false, OnOk};
 ghost use Rattle.wire_format.specs.Messages.{commit, prepare};
 ghost use Rattle.ordering.specs.Keeping.{IsLog};
 ghost use Rattle.ordering.specs.Log.{is_in_marks, primary};
-ghost use Rattle.orderer.specs.Saying.{AddsCommit, AddsPrepare, Says, SaysCommit, SaysPrepare, SaysVotes};
+ghost use Rattle.orderer.specs.Saying.{AddsCommit, AddsPrepare, SaysToOthers, SaysCommit, SaysPrepare, SaysVotes};
 ghost use Rattle.orderer.specs.State.{IsOrderer};
 
 use crate::orderer::Orderer;
@@ -116,7 +116,7 @@ impl Orderer {
         digest: Digest,
         outputs: &mut Outputs,
     ) -> Result<(), Stop>
-        ensures said { OnOk result (Says self.old (prepare self.old.log.view number.0 digest)
+        ensures said { OnOk result (SaysToOthers self.old (prepare self.old.log.view number.0 digest)
             outputs.old.items outputs.new.items) }
         ensures same { self.new ≡ self.old }
     {
@@ -132,7 +132,7 @@ impl Orderer {
         digest: Digest,
         outputs: &mut Outputs,
     ) -> Result<(), Stop>
-        ensures said { OnOk result (Says self.old (commit self.old.log.view number.0 digest)
+        ensures said { OnOk result (SaysToOthers self.old (commit self.old.log.view number.0 digest)
             outputs.old.items outputs.new.items) }
         ensures same { self.new ≡ self.old }
     {

@@ -8,7 +8,7 @@ use Rattle.quorum.specs.Quorum.{count_below}
 use Rattle.quorum.specs.Votes.{has_digest}
 use Rattle.quorum.proofs.Counting.{count_same}
 use Rattle.ordering.specs.declared.votes.Vote.{Vote}
-use Rattle.ordering.specs.Votes.{vote_of, AreVotes, voters}
+use Rattle.ordering.specs.Votes.{voted_digest, AreVotes, voters}
 
 at_most : (f : ℕ → Bool) (n : ℕ) → count_below f n ≤ n
 at_most f zero = omega arith
@@ -39,25 +39,25 @@ abbrev passes : (List ℕ → Bool) → Option (List ℕ) → Bool
 passes test None = false
 passes test (Some digest) = test digest
 
-tally : (test : List ℕ → Bool) (n : ℕ) (votes : List Vote) → AreVotes n votes → count_below (λ s. passes test (vote_of votes s)) n ≡ count_by (λ vote. test vote.digest) votes
+tally : (test : List ℕ → Bool) (n : ℕ) (votes : List Vote) → AreVotes n votes → count_below (λ s. passes test (voted_digest votes s)) n ≡ count_by (λ vote. test vote.digest) votes
 tally test n [] h = none n
   where
     none : (n : ℕ) → count_below (λ s. false) n ≡ 0
     none zero = refl
     none (suc n) = none n
 tally test n (x ∷ xs) h =
-    let out : passes test (vote_of xs x.sender.0) ≡ false = rw (h.1) refl in
-    let one = (one_more (λ s. passes test (vote_of xs s)) x.sender.0 (test x.digest) n out).0 h.0 in
+    let out : passes test (voted_digest xs x.sender.0) ≡ false = rw (h.1) refl in
+    let one = (one_more (λ s. passes test (voted_digest xs s)) x.sender.0 (test x.digest) n out).0 h.0 in
     let same = count_same (λ s. passes test (option_map (λ (vote : Vote). vote.digest) (cond (x.sender.0 == s) (Some x) (find (λ (vote : Vote). vote.sender.0 == s) xs))))
-    (λ s. cond (x.sender.0 == s) (test x.digest) (passes test (vote_of xs s))) (λ s. into (x.sender.0 == s) s) n in
+    (λ s. cond (x.sender.0 == s) (test x.digest) (passes test (voted_digest xs s))) (λ s. into (x.sender.0 == s) s) n in
     same ∙ one ∙ ap (λ m. cond (test x.digest) 1 0 + m) (tally test n xs h.2) ∙ sym (sum_by-cons (λ (vote : Vote). cond (test vote.digest) 1 0) x xs)
   where
-    into : (b : Bool) (s : ℕ) → passes test (option_map (λ (vote : Vote). vote.digest) (cond b (Some x) (find (λ (vote : Vote). vote.sender.0 == s) xs))) ≡ cond b (test x.digest) (passes test (vote_of xs s))
+    into : (b : Bool) (s : ℕ) → passes test (option_map (λ (vote : Vote). vote.digest) (cond b (Some x) (find (λ (vote : Vote). vote.sender.0 == s) xs))) ≡ cond b (test x.digest) (passes test (voted_digest xs s))
     into true s = refl
     into false s = refl
 
 pub voters_count : (n : ℕ) (digest : List ℕ) (votes : List Vote) → AreVotes n votes → voters n digest votes ≡ count_by (λ vote. bytes_eq digest vote.digest) votes
-voters_count n digest votes h = count_same (λ s. has_digest digest (vote_of votes s)) (λ s. passes (bytes_eq digest) (vote_of votes s)) (λ s. same (vote_of votes s)) n ∙ tally (bytes_eq digest) n votes h
+voters_count n digest votes h = count_same (λ s. has_digest digest (voted_digest votes s)) (λ s. passes (bytes_eq digest) (voted_digest votes s)) (λ s. same (voted_digest votes s)) n ∙ tally (bytes_eq digest) n votes h
   where
     same : (vote : Option (List ℕ)) → has_digest digest vote ≡ passes (bytes_eq digest) vote
     same None = refl
@@ -75,7 +75,7 @@ too_few n least digest votes h l = lt-leb least (voters n digest votes) below
 
 -- there are no more votes than replicas
 pub no_more : (n : ℕ) (votes : List Vote) → AreVotes n votes → length votes ≤ n
-no_more n votes h = let c = tally (λ d. true) n votes h in let m = at_most (λ s. passes (λ d. true) (vote_of votes s)) n in let a = all votes in omega arith
+no_more n votes h = let c = tally (λ d. true) n votes h in let m = at_most (λ s. passes (λ d. true) (voted_digest votes s)) n in let a = all votes in omega arith
   where
     all : (votes : List Vote) → count_by (λ (vote : Vote). true) votes ≡ length votes
     all [] = refl

@@ -2,7 +2,7 @@
 use Rattle.std.proofs.Common.{◌≡◌, ℕ, zero, suc, ◌+◌, ◌-◌, ◌<◌, ◌≤◌, ◌^◌, Bool, true, false, cond, length, drop, replicate, Option, None, refl, ap, ◌∙◌, arith, ◌&&◌, nat_lt, nat_le, slice_index_or, min}
 use Rattle.std.proofs.lemmas.Bool.{and_parts, lt-ltb, leb-true, leb-false}
 use Rattle.std.proofs.lemmas.List.{length-drop, get_or-drop, get_or_append_left, get_or-append_right}
-use Rattle.ordering.specs.Votes.{vote_of}
+use Rattle.ordering.specs.Votes.{voted_digest}
 use Rattle.ordering.specs.Log.{Row, no_row, LogData, is_in_marks, row_of, cut_rows, cut_to}
 use Rattle.ordering.specs.Keeping.{IsLog}
 use Rattle.ordering.specs.Laws.{CutsKeep}
@@ -68,4 +68,4 @@ decided_left m h i is k = let e = cut_reads (λ r. r.decided) refl m h i is in r
 
 pub cuts_keep : CutsKeep
 cuts_keep m h i s is =
-    (cut_reads (λ r. r.batch) refl m h i is, cut_reads (λ r. vote_of r.prepares s) refl m h i is, cut_reads (λ r. vote_of r.commits s) refl m h i is, decided_left m h i is)
+    (cut_reads (λ r. r.batch) refl m h i is, cut_reads (λ r. voted_digest r.prepares s) refl m h i is, cut_reads (λ r. voted_digest r.commits s) refl m h i is, decided_left m h i is)

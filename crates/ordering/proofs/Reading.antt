@@ -5,7 +5,7 @@ use Rattle.std.proofs.lemmas.List.{get_or-set_same, get_or-set_other}
 use Rattle.std.specs.Bool.{then_some}
 use Rattle.quorum.specs.Votes.{or_else}
 use Rattle.ordering.specs.declared.votes.Vote.{Vote}
-use Rattle.ordering.specs.Votes.{vote_of, with_vote}
+use Rattle.ordering.specs.Votes.{voted_digest, with_vote}
 use Rattle.ordering.specs.Log.{Row, no_row, LogData, is_in_marks, place, row_of, with_row}
 use Rattle.ordering.specs.Keeping.{IsLog}
 use Rattle.ordering.specs.Laws.{BatchesAreLogged, PreparesCount, CommitsCount}
@@ -61,17 +61,17 @@ unread f m i j row is hj same = reads f m i j row is hj ∙ go (i == j) refl
 
 -- a vote is read at its number
 voted : (f : Row → List Vote) (m : LogData) (i j s : ℕ) (vote : Vote) (row : Row) → IsLog m → is_in_marks m j ≡ true → f row ≡ with_vote vote (f (row_of m j))
-    → cond (is_in_marks m i) (vote_of (f (row_of (with_row m j row) i)) s) None
-    ≡ cond (i == j) (or_else (cond (is_in_marks m i) (vote_of (f (row_of m i)) s) None) (then_some (vote.sender.0 == s) vote.digest)) (cond (is_in_marks m i) (vote_of (f (row_of m i)) s) None)
-voted f m i j s vote row is hj same = reads (λ r. vote_of (f r) s) m i j row is hj ∙ go (i == j) refl
+    → cond (is_in_marks m i) (voted_digest (f (row_of (with_row m j row) i)) s) None
+    ≡ cond (i == j) (or_else (cond (is_in_marks m i) (voted_digest (f (row_of m i)) s) None) (then_some (vote.sender.0 == s) vote.digest)) (cond (is_in_marks m i) (voted_digest (f (row_of m i)) s) None)
+voted f m i j s vote row is hj same = reads (λ r. voted_digest (f r) s) m i j row is hj ∙ go (i == j) refl
   where
     go : (b : Bool) → (i == j) ≡ b
-        → cond b (vote_of (f row) s) (cond (is_in_marks m i) (vote_of (f (row_of m i)) s) None)
-        ≡ cond b (or_else (cond (is_in_marks m i) (vote_of (f (row_of m i)) s) None) (then_some (vote.sender.0 == s) vote.digest)) (cond (is_in_marks m i) (vote_of (f (row_of m i)) s) None)
+        → cond b (voted_digest (f row) s) (cond (is_in_marks m i) (voted_digest (f (row_of m i)) s) None)
+        ≡ cond b (or_else (cond (is_in_marks m i) (voted_digest (f (row_of m i)) s) None) (then_some (vote.sender.0 == s) vote.digest)) (cond (is_in_marks m i) (voted_digest (f (row_of m i)) s) None)
     go true e =
         let is_same : i ≡ j = eqb-true i j e in let in_marks : is_in_marks m i ≡ true = subst (λ (n : ℕ). is_in_marks m n ≡ true) (sym is_same) hj in
         rw in_marks
-        (ap (λ (votes : List Vote). vote_of votes s) (same ∙ ap (λ (n : ℕ). with_vote vote (f (row_of m n))) (sym is_same)) ∙ with_vote_of vote (f (row_of m i)) s)
+        (ap (λ (votes : List Vote). voted_digest votes s) (same ∙ ap (λ (n : ℕ). with_vote vote (f (row_of m n))) (sym is_same)) ∙ with_vote_of vote (f (row_of m i)) s)
     go false e = refl
 
 -- a batch that was committed in an earlier view stays if the row has the same
@@ -85,14 +85,14 @@ decided_stays m i j row is hj same hi = ap (λ (r : Row). r.decided) (row_behind
 pub batches_are_logged : BatchesAreLogged
 batches_are_logged m i j s text is hj =
     let row : Row = record (row_of m j) { batch = Some text } in
-    (reads (λ r. r.batch) m i j row is hj, unread (λ r. vote_of r.prepares s) m i j row is hj refl, unread (λ r. vote_of r.commits s) m i j row is hj refl, decided_stays m i j row is hj refl)
+    (reads (λ r. r.batch) m i j row is hj, unread (λ r. voted_digest r.prepares s) m i j row is hj refl, unread (λ r. voted_digest r.commits s) m i j row is hj refl, decided_stays m i j row is hj refl)
 
 pub prepares_count : PreparesCount
 prepares_count m i j s vote is hj =
     let row : Row = record (row_of m j) { prepares = with_vote vote (row_of m j).prepares } in
-    (unread (λ r. r.batch) m i j row is hj refl, voted (λ r. r.prepares) m i j s vote row is hj refl, unread (λ r. vote_of r.commits s) m i j row is hj refl, decided_stays m i j row is hj refl)
+    (unread (λ r. r.batch) m i j row is hj refl, voted (λ r. r.prepares) m i j s vote row is hj refl, unread (λ r. voted_digest r.commits s) m i j row is hj refl, decided_stays m i j row is hj refl)
 
 pub commits_count : CommitsCount
 commits_count m i j s vote is hj =
     let row : Row = record (row_of m j) { commits = with_vote vote (row_of m j).commits } in
-    (unread (λ r. r.batch) m i j row is hj refl, unread (λ r. vote_of r.prepares s) m i j row is hj refl, voted (λ r. r.commits) m i j s vote row is hj refl, decided_stays m i j row is hj refl)
+    (unread (λ r. r.batch) m i j row is hj refl, unread (λ r. voted_digest r.prepares s) m i j row is hj refl, voted (λ r. r.commits) m i j s vote row is hj refl, decided_stays m i j row is hj refl)

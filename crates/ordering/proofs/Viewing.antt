@@ -1,7 +1,7 @@
 -- What a log answers in a later view.
 use Rattle.std.proofs.Common.{◌≡◌, ℕ, ◌<◌, Bool, true, false, cond, length, Option, None, refl, ap, ◌∙◌, arith}
 use Rattle.std.proofs.lemmas.List.{get_or-map}
-use Rattle.ordering.specs.Votes.{vote_of}
+use Rattle.ordering.specs.Votes.{voted_digest}
 use Rattle.ordering.specs.Log.{Row, no_row, LogData, replicas, is_in_marks, place, row_of, entered_row, row_decided, entered, committed_batch}
 use Rattle.ordering.specs.Keeping.{IsLog}
 use Rattle.ordering.specs.Laws.{CommittedStay}
@@ -28,8 +28,8 @@ none false = refl
 pub committed_stay : CommittedStay
 committed_stay m view i s is = (
   reads (λ r. r.batch) m view i is ∙ none (is_in_marks m i),
-  reads (λ r. vote_of r.prepares s) m view i is ∙ none (is_in_marks m i),
-  reads (λ r. vote_of r.commits s) m view i is ∙ none (is_in_marks m i),
+  reads (λ r. voted_digest r.prepares s) m view i is ∙ none (is_in_marks m i),
+  reads (λ r. voted_digest r.commits s) m view i is ∙ none (is_in_marks m i),
   reads (row_decided m.faults (replicas m) m.me) m view i is,
   decided,
 )

@@ -4,7 +4,7 @@ use Rattle.std.specs.Prelude.{◌≡◌, ℕ, true, List, ◌==◌, if◌then◌
 use Rattle.std.specs.Bool.{then_some}
 use Rattle.quorum.specs.Votes.{or_else}
 use Rattle.ordering.specs.declared.votes.Vote.{Vote}
-use Rattle.ordering.specs.Votes.{vote_of, with_vote}
+use Rattle.ordering.specs.Votes.{voted_digest, with_vote}
 use Rattle.ordering.specs.Log.{LogData, is_in_marks, with_batch, with_prepare, with_commit, cut_to, entered, row_of, logged_batch, prepare_of, commit_of, committed_batch}
 use Rattle.ordering.specs.Keeping.{IsLog}
 
@@ -12,8 +12,8 @@ use Rattle.ordering.specs.Keeping.{IsLog}
 abbrev pub FirstVotesCount : Type 0
 FirstVotesCount =
     (vote : Vote) (votes : List Vote) (s : ℕ)
-    → vote_of (with_vote vote votes) s
-    ≡ or_else (vote_of votes s) (then_some (vote.sender.0 == s) vote.digest)
+    → voted_digest (with_vote vote votes) s
+    ≡ or_else (voted_digest votes s) (then_some (vote.sender.0 == s) vote.digest)
 
 -- A batch is logged for its number, and no vote changes.
 abbrev pub BatchesAreLogged : Type 0

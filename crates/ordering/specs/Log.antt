@@ -8,7 +8,7 @@ use Rattle.quorum.specs.Quorum.{count_below}
 use Rattle.quorum.specs.Votes.{has_digest}
 use Rattle.wire_format.specs.Messages.{CheckpointEntryData}
 use Rattle.ordering.specs.declared.votes.Vote.{Vote}
-use Rattle.ordering.specs.Votes.{vote_of, voters, with_vote}
+use Rattle.ordering.specs.Votes.{voted_digest, voters, with_vote}
 use Rattle.ordering.specs.Checkpoints.{with_checkpoint, says_checkpoint}
 
 -- One number's row: the text of the batch that is logged in the view, the prepares and commits of the view, and the
@@ -117,10 +117,10 @@ logged_digest m i = if is_in_marks m i then digest_of (row_of m i) else None
 
 -- the digest that the replica s prepared, or committed
 abbrev pub prepare_of : LogData → ℕ → ℕ → Option (List ℕ)
-prepare_of m i s = if is_in_marks m i then vote_of (row_of m i).prepares s else None
+prepare_of m i s = if is_in_marks m i then voted_digest (row_of m i).prepares s else None
 
 abbrev pub commit_of : LogData → ℕ → ℕ → Option (List ℕ)
-commit_of m i s = if is_in_marks m i then vote_of (row_of m i).commits s else None
+commit_of m i s = if is_in_marks m i then voted_digest (row_of m i).commits s else None
 
 -- ---- certificates
 
@@ -136,7 +136,7 @@ is_prepared m i = is_in_marks m i && is_row_prepared m.faults (replicas m) (row_
 -- 2f + 1 different replicas committed the digest, the replica itself among them
 abbrev pub is_digest_committed : ℕ → ℕ → ℕ → List Vote → List ℕ → Bool
 is_digest_committed faults n me commits digest =
-    nat_le (2 * faults + 1) (voters n digest commits) && has_digest digest (vote_of commits me)
+    nat_le (2 * faults + 1) (voters n digest commits) && has_digest digest (voted_digest commits me)
 
 -- Committed: prepared, and its digest is committed.
 abbrev pub is_row_committed : ℕ → ℕ → ℕ → Row → Bool

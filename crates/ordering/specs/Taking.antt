@@ -49,6 +49,6 @@ checkpoint_fault m s i root =
 
 -- If there is no fault, the log takes the message and changes so. Else it drops the message for that fault, and stays
 -- as it was.
-abbrev pub Takes : Result Unit Dropped → Option Dropped → LogData → LogData → LogData → Type 0
-Takes (Ok done) fault old new after = (fault ≡ None) × (new ≡ after)
-Takes (Err dropped) fault old new after = (fault ≡ Some dropped) × (new ≡ old)
+abbrev pub TakesOrDrops : Result Unit Dropped → Option Dropped → LogData → LogData → LogData → Type 0
+TakesOrDrops (Ok done) fault old new after = (fault ≡ None) × (new ≡ after)
+TakesOrDrops (Err dropped) fault old new after = (fault ≡ Some dropped) × (new ≡ old)

@@ -6,19 +6,19 @@ use Rattle.quorum.specs.Votes.{has_digest}
 use Rattle.ordering.specs.declared.votes.Vote.{Vote}
 
 -- the digest of the sender's first vote
-abbrev pub vote_of : List Vote → ℕ → Option (List ℕ)
-vote_of votes s = option_map (λ vote. vote.digest) (find (λ vote. vote.sender.0 == s) votes)
+abbrev pub voted_digest : List Vote → ℕ → Option (List ℕ)
+voted_digest votes s = option_map (λ vote. vote.digest) (find (λ vote. vote.sender.0 == s) votes)
 
 -- Each replica below n votes at most once, and nobody else does.
 abbrev pub AreVotes : ℕ → List Vote → Type 0
 AreVotes n [] = ⊤
 AreVotes n (vote ∷ votes) =
-    (vote.sender.0 < n) × (vote_of votes vote.sender.0 ≡ None) × AreVotes n votes
+    (vote.sender.0 < n) × (voted_digest votes vote.sender.0 ≡ None) × AreVotes n votes
 
 -- how many of the n replicas vote for the digest
 abbrev pub voters : ℕ → List ℕ → List Vote → ℕ
-voters n digest votes = count_below (λ s. has_digest digest (vote_of votes s)) n
+voters n digest votes = count_below (λ s. has_digest digest (voted_digest votes s)) n
 
 -- the votes with one more at the end, unless its sender has voted
 abbrev pub with_vote : Vote → List Vote → List Vote
-with_vote vote votes = if is_some (vote_of votes vote.sender.0) then votes else votes ++ vote ∷ []
+with_vote vote votes = if is_some (voted_digest votes vote.sender.0) then votes else votes ++ vote ∷ []

@@ -1,7 +1,7 @@
 //! Why a log drops a message.
 
 ghost use Rattle.std.specs.Prelude.{◌≡◌};
-ghost use Rattle.ordering.specs.Faults.{refusal};
+ghost use Rattle.ordering.specs.Faults.{refusal_number};
 
 use thiserror::Error;
 
@@ -29,7 +29,7 @@ pub enum Dropped {
 impl Dropped {
     /// The number of the refusal, from 10 to 14.
     pub fn number(self) -> u8
-        ensures { result ≡ refusal self }
+        ensures { result ≡ refusal_number self }
     {
         match self {
             Dropped::WrongView => 10,

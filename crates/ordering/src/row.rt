@@ -3,7 +3,7 @@
 ghost use Rattle.std.specs.Prelude.{◌≡◌, ℕ, ◌<◌, ◌≤◌, Some};
 ghost use Rattle.std.specs.Arc.{arc_value};
 ghost use Rattle.quorum.specs.Votes.{has_digest};
-ghost use Rattle.ordering.specs.Votes.{with_vote, vote_of};
+ghost use Rattle.ordering.specs.Votes.{with_vote, voted_digest};
 ghost use Rattle.ordering.specs.Log.{no_row, digest_of, is_row_prepared, is_row_committed, entered_row};
 ghost use Rattle.ordering.specs.Keeping.{IsRow};
 ghost use Rattle.ordering.specs.RowView.{batch_lent};
@@ -88,13 +88,13 @@ impl Slot {
     }
 
     pub fn prepare_of(&self, sender: ReplicaId) -> Option<Digest>
-        ensures { result ≡ vote_of self.now.prepares sender.0 }
+        ensures { result ≡ voted_digest self.now.prepares sender.0 }
     {
         self.prepares.vote_of(sender)
     }
 
     pub fn commit_of(&self, sender: ReplicaId) -> Option<Digest>
-        ensures { result ≡ vote_of self.now.commits sender.0 }
+        ensures { result ≡ voted_digest self.now.commits sender.0 }
     {
         self.commits.vote_of(sender)
     }

@@ -3,7 +3,7 @@
 ghost use Rattle.std.specs.Prelude.{◌≡◌};
 ghost use Rattle.std.specs.Arc.{arc_value};
 ghost use Rattle.ordering.specs.Taking.{fault_beside, ordering_fault, proposal_fault, preprepare_fault};
-ghost use Rattle.ordering.specs.Messages.{preprepare_fault_of, prepare_fault_of, commit_fault_of, checkpoint_fault_of, TakesBatch, TakesPrepare, TakesCommit, TakesCheckpoint};
+ghost use Rattle.ordering.specs.Messages.{preprepare_fault_of, prepare_fault_of, commit_fault_of, checkpoint_fault_of, LogTakesBatch, LogTakesPrepare, LogTakesCommit, LogTakesCheckpoint};
 
 use crate::batch::HashedBatch;
 use crate::dropped::Dropped;
@@ -74,7 +74,7 @@ impl Log {
         number: Number,
         batch: Arc<HashedBatch>,
     ) -> Result<(), Dropped>
-        ensures { TakesBatch self.old self.new sender view number (arc_value batch) result }
+        ensures { LogTakesBatch self.old self.new sender view number (arc_value batch) result }
     {
         if let Some(fault) = self.batch_fault(sender, view, number, &batch) {
             return Err(fault);
@@ -96,7 +96,7 @@ impl Log {
     /// Takes a backup's prepare.
     #[tactic(auto, using(crate::proofs::Faults::prepare_in_marks, crate::proofs::Faults::prepare_known))]
     pub fn on_prepare(&mut self, sender: ReplicaId, prepare: &Prepare) -> Result<(), Dropped>
-        ensures { TakesPrepare self.old self.new sender prepare.now result }
+        ensures { LogTakesPrepare self.old self.new sender prepare.now result }
     {
         if let Some(fault) = self.prepare_fault(sender, prepare) {
             return Err(fault);
@@ -122,7 +122,7 @@ impl Log {
     /// Takes a replica's commit.
     #[tactic(auto, using(crate::proofs::Faults::commit_in_marks, crate::proofs::Faults::commit_known))]
     pub fn on_commit(&mut self, sender: ReplicaId, commit: &Commit) -> Result<(), Dropped>
-        ensures { TakesCommit self.old self.new sender commit.now result }
+        ensures { LogTakesCommit self.old self.new sender commit.now result }
     {
         if let Some(fault) = self.commit_fault(sender, commit) {
             return Err(fault);
@@ -153,7 +153,7 @@ impl Log {
         sender: ReplicaId,
         checkpoint: &Checkpoint,
     ) -> Result<(), Dropped>
-        ensures { TakesCheckpoint self.old self.new sender checkpoint.now result }
+        ensures { LogTakesCheckpoint self.old self.new sender checkpoint.now result }
     {
         if let Some(fault) = self.checkpoint_fault(sender, checkpoint) {
             return Err(fault);

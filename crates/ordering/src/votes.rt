@@ -1,7 +1,7 @@
 //! The votes for one number.
 
 ghost use Rattle.std.specs.Prelude.{◌≡◌, ℕ, ◌<◌, [], count_by, bytes_eq, nat_le};
-ghost use Rattle.ordering.specs.Votes.{AreVotes, voters, vote_of, with_vote};
+ghost use Rattle.ordering.specs.Votes.{AreVotes, voters, voted_digest, with_vote};
 
 use smallvec::SmallVec;
 use std::alloc::Global;
@@ -68,7 +68,7 @@ impl Votes {
 
     /// The digest that the sender votes for.
     pub fn vote_of(&self, sender: ReplicaId) -> Option<Digest>
-        ensures { result ≡ vote_of self.now sender.0 }
+        ensures { result ≡ voted_digest self.now sender.0 }
     {
         find_vote(self.cast.as_slice(), sender)
     }
@@ -85,7 +85,7 @@ impl Votes {
 }
 
 fn find_vote(votes: &[Vote], sender: ReplicaId) -> Option<Digest>
-    ensures { result ≡ vote_of votes.now sender.0 }
+    ensures { result ≡ voted_digest votes.now sender.0 }
 {
     for vote in votes {
         if vote.sender == sender {

@@ -9,8 +9,8 @@ pages_with [] pages = pages
 pages_with (page ∷ more) pages = pages_with more (slice_set pages page.index page.text.items)
 
 -- Each part without a mark of change is the same.
-abbrev pub IsKept : List Bool → List (List (List ℕ)) → List (List (List ℕ)) → Type 0
-IsKept changed old new =
+abbrev pub UnmarkedPartsStay : List Bool → List (List (List ℕ)) → List (List (List ℕ)) → Type 0
+UnmarkedPartsStay changed old new =
     (j : ℕ) → j < 32 → slice_index_or changed j false ≡ false
     → slice_index_or new j [] ≡ slice_index_or old j []
 

@@ -20,9 +20,9 @@ abbrev pub part_digest : List (List ℕ) → List ℕ
 part_digest texts = digest_of_children (map sha256 texts)
 
 -- The parts that these owners hold.
-abbrev pub parts_of : List (Arc (List (List ℕ)) Global) → List (List (List ℕ))
-parts_of owners = map arc_value owners
+abbrev pub parts_held : List (Arc (List (List ℕ)) Global) → List (List (List ℕ))
+parts_held owners = map arc_value owners
 
 -- The pages of the parts that these owners hold.
-abbrev pub pages_of : List (Arc (List (List ℕ)) Global) → List (List ℕ)
-pages_of owners = pages_in (parts_of owners)
+abbrev pub pages_held : List (Arc (List (List ℕ)) Global) → List (List ℕ)
+pages_held owners = pages_in (parts_held owners)

@@ -3,7 +3,7 @@
 ghost use Rattle.std.specs.Prelude.{◌≡◌, ◌<◌, false, IfOk, OnOk, OnErr, map, length};
 ghost use Rattle.partition_tree.specs.Changes.{AreKnown};
 ghost use Rattle.partition_tree.specs.Owners.{SetsText, KeepsPart, SetsPages, KeepsOthers};
-ghost use Rattle.partition_tree.specs.Parts.{AreFull, parts_of, part_digest};
+ghost use Rattle.partition_tree.specs.Parts.{AreFull, parts_held, part_digest};
 
 use crate::children::Children;
 use crate::digests::CHILDREN;
@@ -40,10 +40,10 @@ pub fn change_all(
     parts: &mut Vec<Arc<Part>>,
     pages: Vec<Page>,
 ) -> Result<[bool; CHILDREN], NoMemory>
-    requires full { AreFull (parts_of parts.old.items) }
+    requires full { AreFull (parts_held parts.old.items) }
     requires count { length parts.old.items ≡ CHILDREN }
     ensures pages { OnOk result (SetsPages pages.items parts.old.items parts.new.items) }
-    ensures full { OnOk result (AreFull (parts_of parts.new.items)) }
+    ensures full { OnOk result (AreFull (parts_held parts.new.items)) }
     ensures count { OnOk result (length parts.new.items ≡ CHILDREN) }
     ensures kept { IfOk result (λ changed. KeepsOthers changed parts.old.items parts.new.items) }
 {
@@ -62,8 +62,8 @@ pub fn change_all(
 pub fn renew(digests: &mut Children, parts: &[Arc<Part>], changed: &[bool; CHILDREN])
     requires whole { length digests.old ≡ CHILDREN }
     requires count { length parts.now ≡ CHILDREN }
-    requires known { AreKnown changed.now digests.old (parts_of parts.now) }
-    ensures { digests.new ≡ map part_digest (parts_of parts.now) }
+    requires known { AreKnown changed.now digests.old (parts_held parts.now) }
+    ensures { digests.new ≡ map part_digest (parts_held parts.now) }
 {
     for part in 0..CHILDREN {
         if changed[part] {

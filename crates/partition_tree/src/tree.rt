@@ -32,10 +32,10 @@ impl Model for Tree {
 
     ghost Value = { List (List ℕ) };
 
-    ghost use Rattle.partition_tree.specs.Parts.{pages_of};
+    ghost use Rattle.partition_tree.specs.Parts.{pages_held};
     ghost use Rattle.partition_tree.specs.Owners.{IsTree};
 
-    ghost view = { λ t. pages_of t.parts.items };
+    ghost view = { λ t. pages_held t.parts.items };
 
     ghost invariant = { λ t. IsTree t.parts.items t.inner t.root };
 }

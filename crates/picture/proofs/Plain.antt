@@ -4,7 +4,7 @@ use Rattle.std.specs.Prelude.{◌==◌, ◌||◌, ◌&&◌, not, if◌then◌els
 use Rattle.std.specs.List.{list_all}
 use Rattle.std.proofs.lemmas.Bool.{false≢true}
 use Rattle.std.proofs.lemmas.List.Folds.{list_all-append}
-use Rattle.picture.specs.Escaping.{is_allowed, allowed, escaped, escaped_text, is_plain, BeginsEntity, EntitiesBegin}
+use Rattle.picture.specs.Escaping.{is_allowed, allowed, escaped_character, escaped_text, is_plain_character, BeginsEntity, EntitiesBegin}
 
 -- the texts of characters that are none of the first four, none of the first three, and so on
 abbrev but_quote : ℕ → List ℕ
@@ -24,21 +24,21 @@ but_amp c = if c == 60 then codes "&lt;" else but_less c
 plain_bits : (a x y z w : Bool) → a ≡ true → x ≡ false → y ≡ false → z ≡ false → w ≡ false → (a && not (x || y || z || w)) ≡ true
 plain_bits a x y z w ea ex ey ez ew = rw (ea, ex, ey, ez, ew) refl
 
-plain_allowed : (c : ℕ) → (c == 60) ≡ false → (c == 62) ≡ false → (c == 34) ≡ false → (c == 39) ≡ false → is_plain (allowed c) ≡ true
+plain_allowed : (c : ℕ) → (c == 60) ≡ false → (c == 62) ≡ false → (c == 34) ≡ false → (c == 39) ≡ false → is_plain_character (allowed c) ≡ true
 plain_allowed c less greater quote apostrophe = by (is_allowed c) refl
   where
-    by : (b : Bool) → is_allowed c ≡ b → is_plain (if b then c else 0xfffd) ≡ true
+    by : (b : Bool) → is_allowed c ≡ b → is_plain_character (if b then c else 0xfffd) ≡ true
     by true e = plain_bits (is_allowed c) (c == 60) (c == 62) (c == 34) (c == 39) e less greater quote apostrophe
     by false e = refl
 
-plain_one : (c : ℕ) → is_plain c ≡ true → list_all is_plain (c ∷ []) ≡ true
+plain_one : (c : ℕ) → is_plain_character c ≡ true → list_all is_plain_character (c ∷ []) ≡ true
 plain_one c e = ap (λ b. b && true) e
 
-plain_if : (b : Bool) (xs ys : List ℕ) → list_all is_plain xs ≡ true → (b ≡ false → list_all is_plain ys ≡ true) → list_all is_plain (if b then xs else ys) ≡ true
+plain_if : (b : Bool) (xs ys : List ℕ) → list_all is_plain_character xs ≡ true → (b ≡ false → list_all is_plain_character ys ≡ true) → list_all is_plain_character (if b then xs else ys) ≡ true
 plain_if true xs ys h k = h
 plain_if false xs ys h k = k refl
 
-plain_character : (c : ℕ) → list_all is_plain (escaped c) ≡ true
+plain_character : (c : ℕ) → list_all is_plain_character (escaped_character c) ≡ true
 plain_character c =
     plain_if (c == 38) (codes "&amp;") (but_amp c) refl (λ amp.
     plain_if (c == 60) (codes "&lt;") (but_less c) refl (λ less.
@@ -47,10 +47,10 @@ plain_character c =
     plain_if (c == 39) (codes "&apos;") (allowed c ∷ []) refl (λ apostrophe.
     plain_one (allowed c) (plain_allowed c less greater quote apostrophe))))))
 
-pub plain_text : (cs : List ℕ) → list_all is_plain (escaped_text cs) ≡ true
+pub plain_text : (cs : List ℕ) → list_all is_plain_character (escaped_text cs) ≡ true
 plain_text [] = refl
 plain_text (c ∷ cs) =
-    list_all-append is_plain (escaped c) (escaped_text cs) ∙ ap (λ b. b && list_all is_plain (escaped_text cs)) (plain_character c)
+    list_all-append is_plain_character (escaped_character c) (escaped_text cs) ∙ ap (λ b. b && list_all is_plain_character (escaped_text cs)) (plain_character c)
     ∙ plain_text cs
 
 -- ---- its entities
@@ -89,7 +89,7 @@ entity_if : (b : Bool) (xs ys rest : List ℕ) → EntitiesBegin (xs ++ rest) �
 entity_if true xs ys rest h k = h
 entity_if false xs ys rest h k = k refl
 
-entity_character : (c : ℕ) (rest : List ℕ) → EntitiesBegin rest → EntitiesBegin (escaped c ++ rest)
+entity_character : (c : ℕ) (rest : List ℕ) → EntitiesBegin rest → EntitiesBegin (escaped_character c ++ rest)
 entity_character c rest h =
     entity_if (c == 38) (codes "&amp;") (but_amp c) rest (amp_begins rest h) (λ amp.
     entity_if (c == 60) (codes "&lt;") (but_less c) rest (less_begins rest h) (λ less.

@@ -15,8 +15,8 @@ abbrev pub allowed : ℕ → ℕ
 allowed c = if is_allowed c then c else 0xfffd
 
 -- the text of a character
-abbrev pub escaped : ℕ → List ℕ
-escaped c =
+abbrev pub escaped_character : ℕ → List ℕ
+escaped_character c =
     if c == 38 then codes "&amp;"
     else (if c == 60 then codes "&lt;"
     else (if c == 62 then codes "&gt;"
@@ -24,13 +24,13 @@ escaped c =
     else (if c == 39 then codes "&apos;" else allowed c ∷ []))))
 
 abbrev pub escaped_text : List ℕ → List ℕ
-escaped_text cs = flat_map escaped cs
+escaped_text cs = flat_map escaped_character cs
 
 -- ---- properties of escaped texts
 
 -- a character of XML that begins no tag, ends none, and ends no attribute
-abbrev pub is_plain : ℕ → Bool
-is_plain c = is_allowed c && not (c == 60 || c == 62 || c == 34 || c == 39)
+abbrev pub is_plain_character : ℕ → Bool
+is_plain_character c = is_allowed c && not (c == 60 || c == 62 || c == 34 || c == 39)
 
 abbrev pub entities : List (List ℕ)
 entities = codes "&amp;" ∷ codes "&lt;" ∷ codes "&gt;" ∷ codes "&quot;" ∷ codes "&apos;" ∷ []

@@ -1,15 +1,15 @@
 //! Text within XML.
 
 ghost use Rattle.std.specs.Prelude.{◌≡◌, ◌++◌, OnOk, codes, chars, string_bytes, encode_utf8_all, flat_map, encode_utf8};
-ghost use Rattle.tuple_text.specs.Written.{Appends};
-ghost use Rattle.picture.specs.Escaping.{allowed, escaped, escaped_text};
+ghost use Rattle.tuple_text.specs.Written.{WritesText};
+ghost use Rattle.picture.specs.Escaping.{allowed, escaped_character, escaped_text};
 
 use terms::NoMemory;
 
 /// Appends the text, for a place between tags or between the quotes of an attribute. An `Err` may leave a part of it
 /// after the old text.
 pub fn escape(text: &str, out: &mut String) -> Result<(), NoMemory>
-    ensures { Appends result (string_bytes out.old) (encode_utf8_all (escaped_text (chars text.now)))
+    ensures { WritesText result (string_bytes out.old) (encode_utf8_all (escaped_text (chars text.now)))
         (string_bytes out.new) }
 {
     for character in text.chars() {
@@ -19,7 +19,7 @@ pub fn escape(text: &str, out: &mut String) -> Result<(), NoMemory>
 }
 
 fn put_character(character: char, out: &mut String) -> Result<(), NoMemory>
-    ensures { Appends result (string_bytes out.old) (encode_utf8_all (escaped character)) (string_bytes out.new) }
+    ensures { WritesText result (string_bytes out.old) (encode_utf8_all (escaped_character character)) (string_bytes out.new) }
 {
     match character {
         '&' => put_entity("&amp;", out),
@@ -32,7 +32,7 @@ fn put_character(character: char, out: &mut String) -> Result<(), NoMemory>
 }
 
 fn put_other(character: char, out: &mut String) -> Result<(), NoMemory>
-    ensures { Appends result (string_bytes out.old) (encode_utf8 (allowed character)) (string_bytes out.new) }
+    ensures { WritesText result (string_bytes out.old) (encode_utf8 (allowed character)) (string_bytes out.new) }
 {
     Ok(out.push(allowed(character))?)
 }
@@ -47,7 +47,7 @@ fn allowed(character: char) -> char
 }
 
 fn put_entity(entity: &str, out: &mut String) -> Result<(), NoMemory>
-    ensures { Appends result (string_bytes out.old) entity.now (string_bytes out.new) }
+    ensures { WritesText result (string_bytes out.old) entity.now (string_bytes out.new) }
 {
     Ok(out.push_str(entity)?)
 }

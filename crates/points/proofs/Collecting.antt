@@ -16,7 +16,7 @@ use Rattle.protocol.specs.System.Trace.Entry.{Executed}
 use Rattle.protocol.specs.Replica.Selection.{null_batch}
 use Rattle.protocol.specs.Space.Linear.{batch_at, batch_of, last_executed}
 use Rattle.points.specs.Numbering.{Numbered, AscendsFrom}
-use Rattle.points.specs.Batching.{numbered, numbered_of, first_batch, Collects, Notes}
+use Rattle.points.specs.Batching.{numbered, numbered_of, first_batch, CollectsBatches, NotesBatch}
 use Rattle.points.proofs.Listing.{all_listed, Lists}
 
 abbrev Entries : Type 0
@@ -104,7 +104,7 @@ each_more e past (x ∷ xs) h = let l = h.0.1 in ((ap (λ o. or_else o (batch_at
 
 -- the entry brings no batch for a number that has none
 pub goes_on : (e : Entry) (past : List Entry) (xs : List Numbered) → ((j : ℕ) → 1 ≤ j → Has (λ (x : Numbered). x.number ≡ j) xs ⊎ (batch_at j e ≡ None))
-    → Collects past xs → Collects (e ∷ past) xs
+    → CollectsBatches past xs → CollectsBatches (e ∷ past) xs
 goes_on e past xs none h = record {
   ascends = h.ascends;
   each = each_more e past xs h.each;
@@ -121,7 +121,7 @@ no_other : (r n j : ℕ) (batch : List ℕ) → (n ≡ j → ⊥) → batch_at j
 no_other r n j batch ne = ap (λ b. then_some b batch) (ne_eqb n j ne)
 
 -- an execution of the number 0, or of one that is there
-pub notes_known : (r n : ℕ) (batch : List ℕ) (es : Entries) → (n ≡ 0) ⊎ (is_some (lookup (is_at (nat_cmp n)) es) ≡ true) → Notes (Executed r n batch) es es
+pub notes_known : (r n : ℕ) (batch : List ℕ) (es : Entries) → (n ≡ 0) ⊎ (is_some (lookup (is_at (nat_cmp n)) es) ≡ true) → NotesBatch (Executed r n batch) es es
 notes_known r n batch es h past = goes_on (Executed r n batch) past (numbered_of es) (λ j l. go j l h (cases_order n j))
   where
     go : (j : ℕ) → 1 ≤ j → (n ≡ 0) ⊎ (is_some (lookup (is_at (nat_cmp n)) es) ≡ true) → (n ≡ j) ⊎ ((n < j) ⊎ (j < n))
@@ -135,8 +135,8 @@ notes_known r n batch es h past = goes_on (Executed r n batch) past (numbered_of
         apart same (inr m) = omega arith
 
 -- of a new one
-pub notes_new : (r n : ℕ) (v : Bor (List ℕ)) (es fs : Entries) → 1 ≤ n → IsAbsent n es → fs ≡ insert_entry nat_cmp es n v → Notes (Executed r n v.now) es fs
-notes_new r n v es fs l a is past h = subst (λ ys. Collects (Executed r n v.now ∷ past) (numbered_of ys)) (sym is) (record {
+pub notes_new : (r n : ℕ) (v : Bor (List ℕ)) (es fs : Entries) → 1 ≤ n → IsAbsent n es → fs ≡ insert_entry nat_cmp es n v → NotesBatch (Executed r n v.now) es fs
+notes_new r n v es fs l a is past h = subst (λ ys. CollectsBatches (Executed r n v.now ∷ past) (numbered_of ys)) (sym is) (record {
   ascends = put_ascends 1 n v es l a h.ascends;
   each = put_each (λ x. (first_batch now x.number ≡ Some x.batch) × (x.number ≤ last_executed now)) n v es a (first, omega arith) (each_more (Executed r n v.now) past (numbered_of es) h.each);
   other = λ j m. others j (h.other j m) (cases_order n j);
@@ -168,20 +168,20 @@ notes_new r n v es fs l a is past h = subst (λ ys. Collects (Executed r n v.now
         apart same (inr k) = omega arith
 
 -- an entry that is such an execution
-pub noted_known : (r n : ℕ) (batch : List ℕ) (e : Entry) (es : Entries) → Executed r n batch ≡ e → (n ≡ 0) ⊎ (is_some (lookup (is_at (nat_cmp n)) es) ≡ true) → Notes e es es
-noted_known r n batch e es is h = subst (λ (x : Entry). Notes x es es) is (notes_known r n batch es h)
+pub noted_known : (r n : ℕ) (batch : List ℕ) (e : Entry) (es : Entries) → Executed r n batch ≡ e → (n ≡ 0) ⊎ (is_some (lookup (is_at (nat_cmp n)) es) ≡ true) → NotesBatch e es es
+noted_known r n batch e es is h = subst (λ (x : Entry). NotesBatch x es es) is (notes_known r n batch es h)
 
 pub noted_new : (r n : ℕ) (batch : List ℕ) (e : Entry) (v : Bor (List ℕ)) (es fs : Entries) → Executed r n batch ≡ e → v.now ≡ batch → 1 ≤ n → IsAbsent n es
-    → fs ≡ insert_entry nat_cmp es n v → Notes e es fs
+    → fs ≡ insert_entry nat_cmp es n v → NotesBatch e es fs
 noted_new r n batch e v es fs is text l a put =
-    subst (λ (x : Entry). Notes x es fs) (ap (Executed r n) text ∙ is) (notes_new r n v es fs l a put)
+    subst (λ (x : Entry). NotesBatch x es fs) (ap (Executed r n) text ∙ is) (notes_new r n v es fs l a put)
 
 -- ---- all numbers
 
-pub begins : Collects [] []
+pub begins : CollectsBatches [] []
 begins = record { ascends = tt; each = tt; other = λ j l. inr refl }
 
-pub lists : (past : List Entry) (xs : List Numbered) → Collects past xs → Lists (batch_of past) 1 (last_executed past) xs
+pub lists : (past : List Entry) (xs : List Numbered) → CollectsBatches past xs → Lists (batch_of past) 1 (last_executed past) xs
 lists past xs h = all_listed (batch_of past) 1 (last_executed past) xs (record {
   ascends = h.ascends;
   each = within xs h.each;

@@ -10,7 +10,7 @@ use Rattle.protocol.specs.System.Trace.Entry.{Accepted}
 use Rattle.protocol.specs.Client.RightClient.{OpenCall}
 use Rattle.protocol.specs.Space.Linear.{Placing}
 use Rattle.points.specs.Places.{position_in}
-use Rattle.points.specs.Seating.{SeatData, IsRead, entry_read, read_at, read_number, seat_at, seat_data, seat_read}
+use Rattle.points.specs.Seating.{SeatData, EntryEndsRead, entry_read, read_at, read_number, seat_at, seat_data, seat_read}
 use Rattle.points.specs.declared.levels.Rise.{Rise}
 use Rattle.points.specs.declared.seats.OpenCall.{OpenCall as Called}
 use Rattle.points.specs.declared.seats.Seat.{Seat}
@@ -57,6 +57,6 @@ same_placing p t n o o' a a' i j e f g =
 
 -- an entry that is this acceptance
 pub ended : (m : Membership) (found : List Rise) (seats : List (ℕ × Seat)) (e : Entry) (client t : ℕ) (a : Outcome) (s : SeatData) (read : Option Placing)
-    → Accepted client t a ≡ e → s ≡ seat_at seats client → read ≡ seat_read m (position_in found) (256 + client) t a s → IsRead m found seats e read
+    → Accepted client t a ≡ e → s ≡ seat_at seats client → read ≡ seat_read m (position_in found) (256 + client) t a s → EntryEndsRead m found seats e read
 ended m found seats e client t a s read is own h past seats_are =
     h ∙ ap (seat_read m (position_in found) (256 + client) t a) (own ∙ seats_are client) ∙ ap (entry_read m (position_in found) past) is

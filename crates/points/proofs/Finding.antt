@@ -14,7 +14,7 @@ use Rattle.protocol.specs.System.Configuration.{Configuration, IsConfiguration}
 use Rattle.protocol.specs.System.Trace.{Entry}
 use Rattle.protocol.specs.Space.Linear.{first_position}
 use Rattle.points.specs.declared.levels.Rise.{Rise}
-use Rattle.points.specs.Leveling.{place_in, rises}
+use Rattle.points.specs.Leveling.{level_position, rises}
 use Rattle.points.specs.Places.{position_in}
 use Rattle.points.proofs.Rising.{places_are, zero_is_first}
 
@@ -23,7 +23,7 @@ abbrev pub found_in : List Rise → ℕ → Option ℕ
 found_in [] k = None
 found_in (x ∷ xs) k = cond (nat_le k x.level) (Some x.position) (found_in xs k)
 
-place_last : (ys : List Rise) (x : Rise) (k : ℕ) → place_in (ys ++ x ∷ []) k ≡ or_else (then_some (nat_le k x.level) x.position) (place_in ys k)
+place_last : (ys : List Rise) (x : Rise) (k : ℕ) → level_position (ys ++ x ∷ []) k ≡ or_else (then_some (nat_le k x.level) x.position) (level_position ys k)
 place_last [] x k = go (nat_le k x.level)
   where
     go : (b : Bool) → or_else None (then_some b x.position) ≡ or_else (then_some b x.position) None
@@ -31,18 +31,18 @@ place_last [] x k = go (nat_le k x.level)
     go false = refl
 place_last (y ∷ ys) x k =
     ap (λ o. or_else o (then_some (nat_le k y.level) y.position)) (place_last ys x k)
-    ∙ joined (then_some (nat_le k x.level) x.position) (place_in ys k) (then_some (nat_le k y.level) y.position)
+    ∙ joined (then_some (nat_le k x.level) x.position) (level_position ys k) (then_some (nat_le k y.level) y.position)
   where
     joined : (a b d : Option ℕ) → or_else (or_else a b) d ≡ or_else a (or_else b d)
     joined None b d = refl
     joined (Some n) b d = refl
 
-pub place_reverse : (xs : List Rise) (k : ℕ) → place_in (reverse xs) k ≡ found_in xs k
+pub place_reverse : (xs : List Rise) (k : ℕ) → level_position (reverse xs) k ≡ found_in xs k
 place_reverse [] k = refl
 place_reverse (x ∷ xs) k =
-    ap (λ ys. place_in ys k) (reverse-append (x ∷ []) xs) ∙ place_last (reverse xs) x k ∙ go (nat_le k x.level) (place_reverse xs k)
+    ap (λ ys. level_position ys k) (reverse-append (x ∷ []) xs) ∙ place_last (reverse xs) x k ∙ go (nat_le k x.level) (place_reverse xs k)
   where
-    go : (b : Bool) → place_in (reverse xs) k ≡ found_in xs k → or_else (then_some b x.position) (place_in (reverse xs) k) ≡ cond b (Some x.position) (found_in xs k)
+    go : (b : Bool) → level_position (reverse xs) k ≡ found_in xs k → or_else (then_some b x.position) (level_position (reverse xs) k) ≡ cond b (Some x.position) (found_in xs k)
     go true below = refl
     go false below = below
 
@@ -73,7 +73,7 @@ pub positions_are : (c : Configuration) → IsConfiguration c → (trace : List 
 positions_are c setting trace zero = zero_is_first c setting trace
 positions_are c setting trace (suc k) =
     ap (λ o. option_map_or (λ x. x) o 0) (places_are c setting trace (suc k) (omega arith))
-    ∙ sym (ap (λ b. cond b 0 (option_map_or (λ x. x) (place_in (rises c trace) (suc k)) 0)) (ne_eqb (suc k) 0 (λ e. omega arith)))
+    ∙ sym (ap (λ b. cond b 0 (option_map_or (λ x. x) (level_position (rises c trace) (suc k)) 0)) (ne_eqb (suc k) 0 (λ e. omega arith)))
 
 -- ---- by a lent element
 
@@ -87,5 +87,5 @@ lent xs i (Some r) at =
     ∙ sym (ap (option_map (λ (x : Rise). x.position)) (slice_get-get_or xs i r.now at.3.0))
 
 pub first_is : (xs : List Rise) (k i : ℕ) (r : Option (Bor Rise)) → i ≤ length xs → IsPartitionPoint (λ (x : Rise). nat_lt x.level k ≡ true) (λ (x : Rise). nat_lt x.level k ≡ false) xs i
-    → IsItemAt xs i r → position_lent r ≡ place_in (reverse xs) k
+    → IsItemAt xs i r → position_lent r ≡ level_position (reverse xs) k
 first_is xs k i r l h at = lent xs i r at ∙ sym (found_at xs k i l h) ∙ sym (place_reverse xs k)

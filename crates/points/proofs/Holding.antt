@@ -14,13 +14,13 @@ use Rattle.protocol.specs.Space.Linear.{Placing, insert_point, is_double, sorted
 use Rattle.points.specs.declared.levels.Rise.{Rise}
 use Rattle.points.specs.declared.seats.Seat.{Seat}
 use Rattle.points.specs.Places.{position_in}
-use Rattle.points.specs.Seating.{AreSeats, EndsNone, IsRead, entry_read, seat_reads, with_read}
+use Rattle.points.specs.Seating.{AreSeats, EndsNone, EntryEndsRead, entry_read, seat_reads, with_read}
 use Rattle.points.specs.declared.sorting.CallKey.{CallKey}
 use Rattle.points.specs.declared.point.Placed.{Placed}
 use Rattle.points.specs.declared.sorting.Key.{Key}
 use Rattle.points.specs.declared.sorting.Reads.{Reads}
 use Rattle.points.specs.PointView.{placing_of, placings_of}
-use Rattle.points.specs.Sorting.{call_cmp, sorted_of, AddsEnded, AddsRead, AreCallsOf, AreRankedAbove, HoldsReads, MergesInto}
+use Rattle.points.specs.Sorting.{call_cmp, sorted_of, AddsEnded, AddsRead, AreCallsOfReads, AreRankedAbove, HoldsReads, MergesInto}
 use Rattle.points.proofs.Ordering.{equal}
 
 one : (a b : ℕ) (o : Ordering) → is_eq (ordering_then (nat_cmp a b) o) ≡ ((a == b) && is_eq o)
@@ -42,13 +42,13 @@ same_number a b = go (cases_order a b)
 same_call : (a b : CallKey) → is_at (call_cmp a) b ≡ ((a.client == b.client) && (a.timestamp == b.timestamp))
 same_call a b = one a.client b.client (nat_cmp a.timestamp b.timestamp) ∙ ap (λ t. (a.client == b.client) && t) (same_number a.timestamp b.timestamp)
 
-pub no_calls : AreCallsOf [] []
+pub no_calls : AreCallsOfReads [] []
 no_calls x key e f = refl
 
 -- a read's call is added
 pub calls_on : (reads : List Placing) (read : Placing) (old new : List CallKey) (own : CallKey) → own.client ≡ read.item.client → own.timestamp ≡ read.item.timestamp
     → ((q : CallKey) → list_any (is_at (call_cmp q)) new ≡ cond (is_at (call_cmp own) q) true (list_any (is_at (call_cmp q)) old))
-    → AreCallsOf reads old → AreCallsOf (read ∷ reads) new
+    → AreCallsOfReads reads old → AreCallsOfReads (read ∷ reads) new
 calls_on reads read old new own c t puts h x key e f =
     puts key ∙ ap₂ (λ a b. cond a true b) (same_call own key ∙ ap₂ (λ a b. a && b) (ap₂ (λ a b. a == b) c e) (ap₂ (λ a b. a == b) t f)) (h x key e f)
     ∙ either ((read.item.client == x.item.client) && (read.item.timestamp == x.item.timestamp)) (is_double reads x)
@@ -77,7 +77,7 @@ pub holds_none : (bound : ℕ) (held : Reads) → held.sorted.entries ≡ [] →
 holds_none bound held s k = record {
   sorted = ap sorted_of s;
   ranked = λ r l. subst (AreRankedAbove r) (sym s) tt;
-  calls = subst (AreCallsOf []) (sym k) no_calls;
+  calls = subst (AreCallsOfReads []) (sym k) no_calls;
 }
 
 -- ---- ordered points that are added to them
@@ -152,5 +152,5 @@ pub adds_not : (m : Membership) (found : List Rise) (seats : List (ℕ × Seat))
 adds_not m found seats e rank held none past at = subst (λ r. AddsRead rank r held held) (none m (position_in found) past) (adds_none rank held)
 
 pub adds_ended : (m : Membership) (found : List Rise) (seats : List (ℕ × Seat)) (e : Entry) (rank : ℕ) (read : Option Placing) (old new : Reads)
-    → IsRead m found seats e read → AddsRead rank read old new → AddsEnded m found seats e rank old new
+    → EntryEndsRead m found seats e read → AddsRead rank read old new → AddsEnded m found seats e rank old new
 adds_ended m found seats e rank read old new is adds past at = subst (λ r. AddsRead rank r old new) (is past at) adds

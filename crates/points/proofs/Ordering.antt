@@ -14,7 +14,7 @@ use Rattle.protocol.specs.Space.Linear.{Placing, comes_before, insert_point}
 use Rattle.points.specs.declared.point.Placed.{Placed}
 use Rattle.points.specs.declared.sorting.Key.{Key}
 use Rattle.points.specs.PointView.{placing_of}
-use Rattle.points.specs.Sorting.{key_of, key_by, AreRankedAbove, IsRankedAbove, sorted_of}
+use Rattle.points.specs.Sorting.{sorting_key, key_by, AreRankedAbove, IsRankedAbove, sorted_of}
 
 -- keys by the fields in their order
 abbrev pub key_cmp : Key → Key → Ordering
@@ -84,29 +84,29 @@ number_of_key modes.Ordered r x = refl
 number_of_key modes.ReadOnly r x = refl
 
 -- the keys of two points, of which the first has the lower rank
-pub keys_order : (x y : Placing) (r s : ℕ) → r < s → key_cmp (key_of r x) (key_of s y) ≡ order_by (comes_before x y)
+pub keys_order : (x y : Placing) (r s : ℕ) → r < s → key_cmp (sorting_key r x) (sorting_key s y) ≡ order_by (comes_before x y)
 keys_order x y r s l =
-    ap₂ (λ (a b : ℕ). ordering_then (nat_cmp a b) (ordering_then (nat_cmp (key_of r x).number (key_of s y).number) (turn_cmp (key_of r x) (key_of s y)))) (position_of_key x.mode r x) (position_of_key y.mode s y)
-    ∙ ap₂ (λ (a b : ℕ). ordering_then (nat_cmp x.item.position y.item.position) (ordering_then (nat_cmp a b) (turn_cmp (key_of r x) (key_of s y)))) (number_of_key x.mode r x) (number_of_key y.mode s y)
-    ∙ step x.item.position y.item.position (nat_lt x.number y.number || ((x.number == y.number) && turn_before x y)) (ordering_then (nat_cmp x.number y.number) (turn_cmp (key_of r x) (key_of s y)))
-    (step x.number y.number (turn_before x y) (turn_cmp (key_of r x) (key_of s y)) (turns x y r s l x.mode y.mode refl refl))
+    ap₂ (λ (a b : ℕ). ordering_then (nat_cmp a b) (ordering_then (nat_cmp (sorting_key r x).number (sorting_key s y).number) (turn_cmp (sorting_key r x) (sorting_key s y)))) (position_of_key x.mode r x) (position_of_key y.mode s y)
+    ∙ ap₂ (λ (a b : ℕ). ordering_then (nat_cmp x.item.position y.item.position) (ordering_then (nat_cmp a b) (turn_cmp (sorting_key r x) (sorting_key s y)))) (number_of_key x.mode r x) (number_of_key y.mode s y)
+    ∙ step x.item.position y.item.position (nat_lt x.number y.number || ((x.number == y.number) && turn_before x y)) (ordering_then (nat_cmp x.number y.number) (turn_cmp (sorting_key r x) (sorting_key s y)))
+    (step x.number y.number (turn_before x y) (turn_cmp (sorting_key r x) (sorting_key s y)) (turns x y r s l x.mode y.mode refl refl))
 
 -- ---- entries
 
 pub inserts : (rank : ℕ) (p : Placed) (es : List (Key × Placed)) → AreRankedAbove rank es
-    → sorted_of (insert_entry key_cmp es (key_of rank (placing_of p)) p) ≡ insert_point (placing_of p) (sorted_of es)
+    → sorted_of (insert_entry key_cmp es (sorting_key rank (placing_of p)) p) ≡ insert_point (placing_of p) (sorted_of es)
 inserts rank p [] a = refl
 inserts rank p (e ∷ es) a = go (comes_before (placing_of p) (placing_of e.1)) refl (inserts rank p es a.1)
   where
-    cmp_is : key_cmp (key_of rank (placing_of p)) e.0 ≡ order_by (comes_before (placing_of p) (placing_of e.1))
-    cmp_is = ap (key_cmp (key_of rank (placing_of p))) a.0.2 ∙ keys_order (placing_of p) (placing_of e.1) rank a.0.0 a.0.1
+    cmp_is : key_cmp (sorting_key rank (placing_of p)) e.0 ≡ order_by (comes_before (placing_of p) (placing_of e.1))
+    cmp_is = ap (key_cmp (sorting_key rank (placing_of p))) a.0.2 ∙ keys_order (placing_of p) (placing_of e.1) rank a.0.0 a.0.1
 
     placed_by : Ordering → List (Key × Placed)
-    placed_by o = match_ordering o ((key_of rank (placing_of p), p) ∷ e ∷ es) ((e.0, p) ∷ es) (e ∷ insert_entry key_cmp es (key_of rank (placing_of p)) p)
+    placed_by o = match_ordering o ((sorting_key rank (placing_of p), p) ∷ e ∷ es) ((e.0, p) ∷ es) (e ∷ insert_entry key_cmp es (sorting_key rank (placing_of p)) p)
 
     go : (b : Bool) → comes_before (placing_of p) (placing_of e.1) ≡ b
-        → sorted_of (insert_entry key_cmp es (key_of rank (placing_of p)) p) ≡ insert_point (placing_of p) (sorted_of es)
-        → sorted_of (insert_entry key_cmp (e ∷ es) (key_of rank (placing_of p)) p) ≡ insert_point (placing_of p) (placing_of e.1 ∷ sorted_of es)
+        → sorted_of (insert_entry key_cmp es (sorting_key rank (placing_of p)) p) ≡ insert_point (placing_of p) (sorted_of es)
+        → sorted_of (insert_entry key_cmp (e ∷ es) (sorting_key rank (placing_of p)) p) ≡ insert_point (placing_of p) (placing_of e.1 ∷ sorted_of es)
     go true f below = ap (λ o. sorted_of (placed_by o)) (cmp_is ∙ ap order_by f) ∙ sym (ap (λ b. cond b (placing_of p ∷ placing_of e.1 ∷ sorted_of es) (placing_of e.1 ∷ insert_point (placing_of p) (sorted_of es))) f)
     go false f below =
         ap (λ o. sorted_of (placed_by o)) (cmp_is ∙ ap order_by f) ∙ ap (λ ys. placing_of e.1 ∷ ys) below
@@ -120,17 +120,17 @@ lower r rank [] l a = tt
 lower r rank (e ∷ es) l a = (lower_one r rank e l a.0, lower r rank es l a.1)
 
 pub ranked_on : (r rank : ℕ) (p : Placed) (es : List (Key × Placed)) → r < rank → AreRankedAbove rank es
-    → AreRankedAbove r (insert_entry key_cmp es (key_of rank (placing_of p)) p)
+    → AreRankedAbove r (insert_entry key_cmp es (sorting_key rank (placing_of p)) p)
 ranked_on r rank p [] l a = ((rank, l, refl), tt)
 ranked_on r rank p (e ∷ es) l a = go (comes_before (placing_of p) (placing_of e.1)) refl (ranked_on r rank p es l a.1)
   where
-    cmp_is : key_cmp (key_of rank (placing_of p)) e.0 ≡ order_by (comes_before (placing_of p) (placing_of e.1))
-    cmp_is = ap (key_cmp (key_of rank (placing_of p))) a.0.2 ∙ keys_order (placing_of p) (placing_of e.1) rank a.0.0 a.0.1
+    cmp_is : key_cmp (sorting_key rank (placing_of p)) e.0 ≡ order_by (comes_before (placing_of p) (placing_of e.1))
+    cmp_is = ap (key_cmp (sorting_key rank (placing_of p))) a.0.2 ∙ keys_order (placing_of p) (placing_of e.1) rank a.0.0 a.0.1
 
     placed_by : Ordering → List (Key × Placed)
-    placed_by o = match_ordering o ((key_of rank (placing_of p), p) ∷ e ∷ es) ((e.0, p) ∷ es) (e ∷ insert_entry key_cmp es (key_of rank (placing_of p)) p)
+    placed_by o = match_ordering o ((sorting_key rank (placing_of p), p) ∷ e ∷ es) ((e.0, p) ∷ es) (e ∷ insert_entry key_cmp es (sorting_key rank (placing_of p)) p)
 
-    go : (b : Bool) → comes_before (placing_of p) (placing_of e.1) ≡ b → AreRankedAbove r (insert_entry key_cmp es (key_of rank (placing_of p)) p)
-        → AreRankedAbove r (placed_by (key_cmp (key_of rank (placing_of p)) e.0))
+    go : (b : Bool) → comes_before (placing_of p) (placing_of e.1) ≡ b → AreRankedAbove r (insert_entry key_cmp es (sorting_key rank (placing_of p)) p)
+        → AreRankedAbove r (placed_by (key_cmp (sorting_key rank (placing_of p)) e.0))
     go true f below = subst (λ o. AreRankedAbove r (placed_by o)) (sym (cmp_is ∙ ap order_by f)) ((rank, l, refl), (lower_one r rank e l a.0, lower r rank es l a.1))
     go false f below = subst (λ o. AreRankedAbove r (placed_by o)) (sym (cmp_is ∙ ap order_by f)) (lower_one r rank e l a.0, below)

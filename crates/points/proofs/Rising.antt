@@ -14,7 +14,7 @@ use Rattle.protocol.specs.System.Configuration.{Configuration, IsConfiguration, 
 use Rattle.protocol.specs.System.Trace.{Entry}
 use Rattle.protocol.specs.Space.Linear.{reached_at, reached, has_reached, is_level, first_position, count_correct}
 use Rattle.protocol.proofs.Points.Levels.{many_correct, level_stays, level_below}
-use Rattle.points.specs.Leveling.{greatest_below, level_at, level, rises, place_in, passes, value_at, level_in, Raises}
+use Rattle.points.specs.Leveling.{greatest_below, level_reached, level, rises, level_position, reached_number, number_reached, level_in, RaisesNumbers}
 
 -- ---- the greatest below n
 
@@ -96,9 +96,9 @@ module _ (c : Configuration) (setting : IsConfiguration c) where
 
   -- the greatest level is one
   pub level_is : (past : List Entry) → is_level c past (level c past) ≡ true
-  level_is past = of_greatest (λ k. is_level c past k ≡ true) (level_at c past) (replicas c) (zero_level past) each
+  level_is past = of_greatest (λ k. is_level c past k ≡ true) (level_reached c past) (replicas c) (zero_level past) each
     where
-      each : (r : ℕ) → is_level c past (level_at c past r) ≡ true
+      each : (r : ℕ) → is_level c past (level_reached c past r) ≡ true
       each r = go (is_level c past (reached past r)) refl
         where
           go : (b : Bool) → is_level c past (reached past r) ≡ b → is_level c past (cond b (reached past r) 0) ≡ true
@@ -115,8 +115,8 @@ module _ (c : Configuration) (setting : IsConfiguration c) where
       let more = count_mono (has_reached c past k) (has_reached c past (reached past r.0)) (replicas c) (keeps r.0 r.3) in
       let le : count_correct c ≤ count_below (has_reached c past (reached past r.0)) (replicas c) + c.faults = omega arith in
       let is : is_level c past (reached past r.0) ≡ true = le-leb (count_correct c) (count_below (has_reached c past (reached past r.0)) (replicas c) + c.faults) le in
-      let at : reached past r.0 ≡ level_at c past r.0 = rw is refl in
-      let most = at_most_greatest (level_at c past) (replicas c) r.0 r.1 in
+      let at : reached past r.0 ≡ level_reached c past r.0 = rw is refl in
+      let most = at_most_greatest (level_reached c past) (replicas c) r.0 r.1 in
       let p = and_parts (is_correct_replica c r.0) (nat_le k (reached past r.0)) r.2 in
       let above : k ≤ reached past r.0 = leb-true k (reached past r.0) p.1 in
       omega arith
@@ -145,9 +145,9 @@ module _ (c : Configuration) (setting : IsConfiguration c) where
   no_level k l = go (nat_le k (level c [])) refl
     where
       low : level c [] ≤ 0
-      low = of_greatest (λ m. m ≤ 0) (level_at c []) (replicas c) (omega arith) each
+      low = of_greatest (λ m. m ≤ 0) (level_reached c []) (replicas c) (omega arith) each
         where
-          each : (r : ℕ) → level_at c [] r ≤ 0
+          each : (r : ℕ) → level_reached c [] r ≤ 0
           each r = go (is_level c [] 0)
             where
               go : (b : Bool) → cond b 0 0 ≤ 0
@@ -168,12 +168,12 @@ module _ (c : Configuration) (setting : IsConfiguration c) where
       go None true t = (length past, refl)
       go None false t = absurd cc
 
-  pub places : (trace : List Entry) (k : ℕ) → 1 ≤ k → first_position c trace k ≡ place_in (rises c trace) k
+  pub places : (trace : List Entry) (k : ℕ) → 1 ≤ k → first_position c trace k ≡ level_position (rises c trace) k
   places [] k l = refl
   places (e ∷ past) k l = go (nat_lt (level c past) (level c (e ∷ past))) refl (places past k l)
     where
-      stays : (b : Bool) → nat_le k (level c (e ∷ past)) ≡ b → level c (e ∷ past) ≡ level c past → first_position c past k ≡ place_in (rises c past) k
-          → or_else (first_position c past k) (then_some b (length past)) ≡ place_in (rises c past) k
+      stays : (b : Bool) → nat_le k (level c (e ∷ past)) ≡ b → level c (e ∷ past) ≡ level c past → first_position c past k ≡ level_position (rises c past) k
+          → or_else (first_position c past k) (then_some b (length past)) ≡ level_position (rises c past) k
       stays false t same below = nothing (first_position c past k) ∙ below
         where
           nothing : (o : Option ℕ) → or_else o (then_some false (length past)) ≡ o
@@ -183,16 +183,16 @@ module _ (c : Configuration) (setting : IsConfiguration c) where
           let g = given past k l (ap (nat_le k) (sym same) ∙ t) in
           ap (λ o. or_else o (then_some true (length past))) g.1 ∙ sym g.1 ∙ below
 
-      go : (b : Bool) → nat_lt (level c past) (level c (e ∷ past)) ≡ b → first_position c past k ≡ place_in (rises c past) k
-          → or_else (first_position c past k) (then_some (is_level c (e ∷ past) k) (length past)) ≡ place_in (cond b (record { level = level c (e ∷ past); position = length past } ∷ rises c past) (rises c past)) k
-      go true t below = ap (λ o. or_else o (then_some (is_level c (e ∷ past) k) (length past))) below ∙ ap (λ b. or_else (place_in (rises c past) k) (then_some b (length past))) (level_test (e ∷ past) k)
+      go : (b : Bool) → nat_lt (level c past) (level c (e ∷ past)) ≡ b → first_position c past k ≡ level_position (rises c past) k
+          → or_else (first_position c past k) (then_some (is_level c (e ∷ past) k) (length past)) ≡ level_position (cond b (record { level = level c (e ∷ past); position = length past } ∷ rises c past) (rises c past)) k
+      go true t below = ap (λ o. or_else o (then_some (is_level c (e ∷ past) k) (length past))) below ∙ ap (λ b. or_else (level_position (rises c past) k) (then_some b (length past))) (level_test (e ∷ past) k)
       go false t below =
           let most : level c (e ∷ past) ≤ level c past = ltb-false (level c past) (level c (e ∷ past)) t in
           let grows = level_grows e past in
           let same : level c (e ∷ past) ≡ level c past = omega arith in
           ap (λ b. or_else (first_position c past k) (then_some b (length past))) (level_test (e ∷ past) k) ∙ stays (nat_le k (level c (e ∷ past))) refl same below
 
-pub places_are : (c : Configuration) → IsConfiguration c → (trace : List Entry) (k : ℕ) → 1 ≤ k → first_position c trace k ≡ place_in (rises c trace) k
+pub places_are : (c : Configuration) → IsConfiguration c → (trace : List Entry) (k : ℕ) → 1 ≤ k → first_position c trace k ≡ level_position (rises c trace) k
 places_are c setting trace k l = places c setting trace k l
 
 -- ---- by the numbers that the replicas reached
@@ -214,17 +214,17 @@ abbrev pub AreReached : List Entry → List ℕ → Type 0
 AreReached past values = (r : ℕ) → r < 10 → slice_index values r ≡ reached past r
 
 pub level_known : (c : Configuration) → c.faults ≤ 3 → (past : List Entry) (values : List ℕ) → AreReached past values → level_in c values ≡ level c past
-level_known c few past values known = greatest_same (value_at c values) (level_at c past) (replicas c) each
+level_known c few past values known = greatest_same (number_reached c values) (level_reached c past) (replicas c) each
   where
-    each : (r : ℕ) → r < replicas c → value_at c values r ≡ level_at c past r
+    each : (r : ℕ) → r < replicas c → number_reached c values r ≡ level_reached c past r
     each r l =
         let m : r < 10 = omega arith in
         let v : slice_index values r ≡ reached past r = known r m in
-        let n : count_below (passes c values (slice_index values r)) (replicas c) ≡ count_below (has_reached c past (reached past r)) (replicas c) =
-        count_same (passes c values (slice_index values r)) (has_reached c past (reached past r)) (replicas c) (λ s k. let t : s < 10 = omega arith in ap (λ x. is_correct_replica c s && x) (ap₂ nat_le v (known s t))) in
+        let n : count_below (reached_number c values (slice_index values r)) (replicas c) ≡ count_below (has_reached c past (reached past r)) (replicas c) =
+        count_same (reached_number c values (slice_index values r)) (has_reached c past (reached past r)) (replicas c) (λ s k. let t : s < 10 = omega arith in ap (λ x. is_correct_replica c s && x) (ap₂ nat_le v (known s t))) in
         ap₂ (λ k x. cond (nat_le (count_correct c) (k + c.faults)) x 0) n v
 
-pub still_reached : (e : Entry) (past : List Entry) (old new : List ℕ) → AreReached past old → Raises e old new → AreReached (e ∷ past) new
+pub still_reached : (e : Entry) (past : List Entry) (old new : List ℕ) → AreReached past old → RaisesNumbers e old new → AreReached (e ∷ past) new
 still_reached e past old new known raised r l = raised r l ∙ ap (max (reached_at r e)) (known r l)
 
 -- ---- the scan
@@ -233,9 +233,9 @@ pub first_level : (c : Configuration) → 0 ≡ level c []
 first_level c = let l = low in omega arith
   where
     low : level c [] ≤ 0
-    low = of_greatest (λ m. m ≤ 0) (level_at c []) (replicas c) (omega arith) each
+    low = of_greatest (λ m. m ≤ 0) (level_reached c []) (replicas c) (omega arith) each
       where
-        each : (r : ℕ) → level_at c [] r ≤ 0
+        each : (r : ℕ) → level_reached c [] r ≤ 0
         each r = go (is_level c [] 0)
           where
             go : (b : Bool) → cond b 0 0 ≤ 0

@@ -14,14 +14,14 @@ use Rattle.protocol.specs.System.Trace.Entry.{Invoke, Got, Tick, Executed, Insta
 use Rattle.protocol.specs.Client.RightClient.{Vote, OpenCall, vote_of, open_call, newest_vote}
 use Rattle.protocol.specs.Space.Linear.{Placing, invoked_at, invoke_past, read_point, read_points}
 use Rattle.points.proofs.Finding.{position_of}
-use Rattle.points.specs.Seating.{seat_after, seat_of, number_in, read_number, read_at, seat_read, with_read, seat_reads}
+use Rattle.points.specs.Seating.{seat_after_entry, seat_of, number_in, read_number, read_at, seat_read, with_read, seat_reads}
 
 pub call_is : (p : ℕ) (past : List Entry) → open_call (history_of p past) ≡ (seat_of p past).call
 call_is p [] = refl
 call_is p (e ∷ past) = own e (party_of e == p) (call_is p past)
   where
     own : (e : Entry) (b : Bool) → open_call (history_of p past) ≡ (seat_of p past).call
-        → open_call (cond b (e ∷ history_of p past) (history_of p past)) ≡ (cond b (seat_after (length past) e (seat_of p past)) (seat_of p past)).call
+        → open_call (cond b (e ∷ history_of p past) (history_of p past)) ≡ (cond b (seat_after_entry (length past) e (seat_of p past)) (seat_of p past)).call
     own e false below = below
     own (Invoke k t op) true below = refl
     own (Accepted k t answer) true below = refl
@@ -32,8 +32,8 @@ call_is p (e ∷ past) = own e (party_of e == p) (call_is p past)
     own (Sent q bytes) true below = below
 
 -- an entry that is no invocation leaves the last one
-keeps : (p : ℕ) (e : Entry) (past : List Entry) (b : Bool) → (seat_after (length past) e (seat_of p past)).invoked ≡ (seat_of p past).invoked
-    → invoked_at p past ≡ (seat_of p past).invoked → invoked_at p past ≡ (cond b (seat_after (length past) e (seat_of p past)) (seat_of p past)).invoked
+keeps : (p : ℕ) (e : Entry) (past : List Entry) (b : Bool) → (seat_after_entry (length past) e (seat_of p past)).invoked ≡ (seat_of p past).invoked
+    → invoked_at p past ≡ (seat_of p past).invoked → invoked_at p past ≡ (cond b (seat_after_entry (length past) e (seat_of p past)) (seat_of p past)).invoked
 keeps p e past true same below = below ∙ sym same
 keeps p e past false same below = below
 
@@ -42,7 +42,7 @@ invoked_is p [] = refl
 invoked_is p (Invoke k t op ∷ past) = own (256 + k == p) (invoked_is p past)
   where
     own : (b : Bool) → invoked_at p past ≡ (seat_of p past).invoked
-        → length (cond b past (invoke_past p past)) ≡ (cond b (seat_after (length past) (Invoke k t op) (seat_of p past)) (seat_of p past)).invoked
+        → length (cond b past (invoke_past p past)) ≡ (cond b (seat_after_entry (length past) (Invoke k t op) (seat_of p past)) (seat_of p past)).invoked
     own true below = refl
     own false below = below
 invoked_is p (Accepted k t answer ∷ past) = keeps p (Accepted k t answer) past (256 + k == p) refl (invoked_is p past)
@@ -62,7 +62,7 @@ vote_is c p timestamp (e ∷ past) = own e (party_of e == p) (vote_is c p timest
   where
     own : (e : Entry) (b : Bool) → newest_vote c p (history_of p past) timestamp ≡ option_and_then (vote_in c p timestamp) (seat_of p past).got
         → newest_vote c p (cond b (e ∷ history_of p past) (history_of p past)) timestamp
-        ≡ option_and_then (vote_in c p timestamp) (cond b (seat_after (length past) e (seat_of p past)) (seat_of p past)).got
+        ≡ option_and_then (vote_in c p timestamp) (cond b (seat_after_entry (length past) e (seat_of p past)) (seat_of p past)).got
     own e false below = below
     own (Invoke k t op) true below = refl
     own (Accepted k t answer) true below = refl

@@ -5,10 +5,10 @@ use Rattle.protocol.specs.System.Configuration.{Configuration, IsConfiguration, 
 use Rattle.protocol.specs.System.Trace.{Entry}
 use Rattle.protocol.specs.Replica.State.{State, opening, execute, ran_in}
 use Rattle.protocol.specs.Space.Linear.{Placing, sorted, is_double, points, ordered_points, read_points, first_position, last_executed}
-use Rattle.points.specs.Leveling.{place_in, rises}
+use Rattle.points.specs.Leveling.{level_position, rises}
 use Rattle.points.specs.Places.{position_in}
 use Rattle.points.specs.Numbering.{Numbered, AscendsFrom, numbered_points, points_at, ready_for}
-use Rattle.points.specs.Batching.{Collects}
+use Rattle.points.specs.Batching.{CollectsBatches}
 use Rattle.points.specs.declared.levels.Rise.{Rise}
 use Rattle.points.specs.declared.sorting.Reads.{Reads}
 use Rattle.points.specs.Seating.{seat_reads}
@@ -28,8 +28,8 @@ numbered_same c f g same st m (x ∷ xs) l a =
     (numbered_same c f g same (execute c (ready_for x.number st) x.batch) (suc x.number) xs (omega arith) a.1)
 
 -- those of a trace, by the batches and the reads that the scans found
-pub points_are : (c : Configuration) → IsConfiguration c → (trace : List Entry) (xs : List Numbered) → Collects trace xs
-    → (ordered : List Placing) → ordered ≡ numbered_points c (place_in (rises c trace)) opening xs
+pub points_are : (c : Configuration) → IsConfiguration c → (trace : List Entry) (xs : List Numbered) → CollectsBatches trace xs
+    → (ordered : List Placing) → ordered ≡ numbered_points c (level_position (rises c trace)) opening xs
     → (found : List Placing) → found ≡ sorted (filter (λ x. not (is_double (seat_reads (members c) (position_in (rises c trace)) trace) x)) ordered ++ seat_reads (members c) (position_in (rises c trace)) trace)
     → map (λ x. x.item) found ≡ points c trace
 unfolding points
@@ -42,16 +42,16 @@ points_are c setting trace xs h ordered is found all =
     whole : ordered_points c trace opening 1 (last_executed trace) ≡ ordered
     whole =
         ordered_are c trace opening 0 (last_executed trace) xs refl (lists trace xs h)
-        ∙ numbered_same c (first_position c trace) (place_in (rises c trace)) (places_are c setting trace) opening 1 xs (omega arith) h.ascends
+        ∙ numbered_same c (first_position c trace) (level_position (rises c trace)) (places_are c setting trace) opening 1 xs (omega arith) h.ascends
         ∙ sym is
 
 -- the same of what the parts gave
 pub points_of_trace : (c : Configuration) → IsConfiguration c → (trace : List Entry) (risen : List Rise) → risen ≡ rises c trace
-    → (xs : List Numbered) → Collects trace xs → (ordered found : List Placing)
+    → (xs : List Numbered) → CollectsBatches trace xs → (ordered found : List Placing)
     → (held : Reads) → HoldsReads (2 ^ 63) (seat_reads (members c) (position_in risen) trace) held
-    → ordered ≡ numbered_points c (place_in risen) opening xs → MergesInto held ordered found
+    → ordered ≡ numbered_points c (level_position risen) opening xs → MergesInto held ordered found
     → map (λ x. x.item) found ≡ points c trace
 points_of_trace c setting trace risen is xs h ordered found held reads ran merged =
-    points_are c setting trace xs h ordered (ran ∙ ap (λ rs. numbered_points c (place_in rs) opening xs) is) found
+    points_are c setting trace xs h ordered (ran ∙ ap (λ rs. numbered_points c (level_position rs) opening xs) is) found
     (merged (seat_reads (members c) (position_in risen) trace) reads
     ∙ ap (λ rs. sorted (filter (λ x. not (is_double (seat_reads (members c) (position_in rs) trace) x)) ordered ++ seat_reads (members c) (position_in rs) trace)) is)

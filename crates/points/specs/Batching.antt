@@ -19,11 +19,11 @@ abbrev pub first_batch : List Entry → ℕ → Option (List ℕ)
 first_batch past k = first_given (λ past e. batch_at k e) past
 
 -- The numbers from 1 on that were executed, ascending, each with the batch of its first execution.
-pub record Collects (past : List Entry) (xs : List Numbered) : Type 0 where
+pub record CollectsBatches (past : List Entry) (xs : List Numbered) : Type 0 where
   pub ascends : AscendsFrom 1 xs
   pub each : Each (λ x. (first_batch past x.number ≡ Some x.batch) × (x.number ≤ last_executed past)) xs
   pub other : (j : ℕ) → 1 ≤ j → Has (λ x. x.number ≡ j) xs ⊎ (first_batch past j ≡ None)
 
 -- an entry leads from the earlier numbers to the later ones
-abbrev pub Notes : Entry → List (ℕ × Bor (List ℕ)) → List (ℕ × Bor (List ℕ)) → Type 0
-Notes e old new = (past : List Entry) → Collects past (numbered_of old) → Collects (e ∷ past) (numbered_of new)
+abbrev pub NotesBatch : Entry → List (ℕ × Bor (List ℕ)) → List (ℕ × Bor (List ℕ)) → Type 0
+NotesBatch e old new = (past : List Entry) → CollectsBatches past (numbered_of old) → CollectsBatches (e ∷ past) (numbered_of new)

@@ -14,12 +14,12 @@ greatest_below f zero = 0
 greatest_below f (suc n) = max (f n) (greatest_below f n)
 
 -- the number that the replica reached, if it is a level
-abbrev pub level_at : Configuration → List Entry → ℕ → ℕ
-level_at c past r = if is_level c past (reached past r) then reached past r else 0
+abbrev pub level_reached : Configuration → List Entry → ℕ → ℕ
+level_reached c past r = if is_level c past (reached past r) then reached past r else 0
 
 -- the greatest level that some replica reached
 abbrev pub level : Configuration → List Entry → ℕ
-level c past = greatest_below (level_at c past) (replicas c)
+level c past = greatest_below (level_reached c past) (replicas c)
 
 -- the positions at which the level rises, the newest first
 abbrev pub rises : Configuration → List Entry → List Rise
@@ -30,27 +30,27 @@ rises c (e ∷ past) =
     else rises c past
 
 -- the position of the first level that is at least the number
-abbrev pub place_in : List Rise → ℕ → Option ℕ
-place_in [] k = None
-place_in (x ∷ xs) k = or_else (place_in xs k) (then_some (nat_le k x.level) x.position)
+abbrev pub level_position : List Rise → ℕ → Option ℕ
+level_position [] k = None
+level_position (x ∷ xs) k = or_else (level_position xs k) (then_some (nat_le k x.level) x.position)
 
 -- ---- by the numbers that the replicas reached
 
 -- a correct replica reached the number
-abbrev pub passes : Configuration → List ℕ → ℕ → ℕ → Bool
-passes c values k r = is_correct_replica c r && nat_le k (slice_index values r)
+abbrev pub reached_number : Configuration → List ℕ → ℕ → ℕ → Bool
+reached_number c values k r = is_correct_replica c r && nat_le k (slice_index values r)
 
 -- the number that the replica reached, if all but f of the correct ones did
-abbrev pub value_at : Configuration → List ℕ → ℕ → ℕ
-value_at c values r =
-    if nat_le (count_correct c) (count_below (passes c values (slice_index values r)) (replicas c) + c.faults)
+abbrev pub number_reached : Configuration → List ℕ → ℕ → ℕ
+number_reached c values r =
+    if nat_le (count_correct c) (count_below (reached_number c values (slice_index values r)) (replicas c) + c.faults)
     then slice_index values r
     else 0
 
 -- the greatest such number
 abbrev pub level_in : Configuration → List ℕ → ℕ
-level_in c values = greatest_below (value_at c values) (replicas c)
+level_in c values = greatest_below (number_reached c values) (replicas c)
 
 -- the numbers reached before the entry lead to those after it
-abbrev pub Raises : Entry → List ℕ → List ℕ → Type 0
-Raises e old new = (r : ℕ) → r < 10 → slice_index new r ≡ max (reached_at r e) (slice_index old r)
+abbrev pub RaisesNumbers : Entry → List ℕ → List ℕ → Type 0
+RaisesNumbers e old new = (r : ℕ) → r < 10 → slice_index new r ≡ max (reached_at r e) (slice_index old r)

@@ -34,18 +34,18 @@ abbrev pub empty_seat : SeatData
 empty_seat = record { call = None; invoked = 0; got = None }
 
 -- after an entry of the client's own at this position
-abbrev pub seat_after : ℕ → Entry → SeatData → SeatData
-seat_after position (Invoke client timestamp op) seat =
+abbrev pub seat_after_entry : ℕ → Entry → SeatData → SeatData
+seat_after_entry position (Invoke client timestamp op) seat =
     record { call = Some (record { timestamp = timestamp; op = op }); invoked = position; got = None }
-seat_after position (Accepted client timestamp answer) seat =
+seat_after_entry position (Accepted client timestamp answer) seat =
     record { call = None; invoked = seat.invoked; got = None }
-seat_after position (Got p bytes) seat = record { call = seat.call; invoked = seat.invoked; got = Some bytes }
-seat_after position _ seat = record { call = seat.call; invoked = seat.invoked; got = None }
+seat_after_entry position (Got p bytes) seat = record { call = seat.call; invoked = seat.invoked; got = Some bytes }
+seat_after_entry position _ seat = record { call = seat.call; invoked = seat.invoked; got = None }
 
 -- the notes on a party
 abbrev pub seat_of : ℕ → List Entry → SeatData
 seat_of p [] = empty_seat
-seat_of p (e ∷ past) = if party_of e == p then seat_after (length past) e (seat_of p past) else seat_of p past
+seat_of p (e ∷ past) = if party_of e == p then seat_after_entry (length past) e (seat_of p past) else seat_of p past
 
 -- the number of a message, if it is the read-only reply to the party's call
 abbrev pub number_in : ℕ → ℕ → BodyData → Option ℕ
@@ -126,8 +126,8 @@ abbrev pub IsClientOf : Entry → Option ℕ → Type 0
 IsClientOf e client = IsClientIn (party_of e) client
 
 -- the read, or none, that an entry ends after each past of these seats
-abbrev pub IsRead : Membership → List Rise → List (ℕ × Seat) → Entry → Option Placing → Type 0
-IsRead m found seats e read =
+abbrev pub EntryEndsRead : Membership → List Rise → List (ℕ × Seat) → Entry → Option Placing → Type 0
+EntryEndsRead m found seats e read =
     (past : List Entry) → AreSeats past seats → read ≡ entry_read m (position_in found) past e
 
 -- the entry ends no read, whatever came before
@@ -135,6 +135,6 @@ abbrev pub EndsNone : Entry → Type 0
 EndsNone e = (m : Membership) (at : ℕ → ℕ) (past : List Entry) → None ≡ entry_read m at past e
 
 -- an entry leads from seats to seats
-abbrev pub Notes : ℕ → Entry → List (ℕ × Seat) → List (ℕ × Seat) → Type 0
-Notes position e old new =
+abbrev pub NotesSeat : ℕ → Entry → List (ℕ × Seat) → List (ℕ × Seat) → Type 0
+NotesSeat position e old new =
     (past : List Entry) → position ≡ length past → AreSeats past old → AreSeats (e ∷ past) new

@@ -41,12 +41,12 @@ key_by modes.Ordered rank x = ordered_key rank x
 key_by modes.ReadOnly rank x = read_key rank x
 
 -- the key of a point of this rank
-abbrev pub key_of : ℕ → Placing → Key
-key_of rank x = key_by x.mode rank x
+abbrev pub sorting_key : ℕ → Placing → Key
+sorting_key rank x = key_by x.mode rank x
 
 -- the entry has the key of its point, of a rank above this
 abbrev pub IsRankedAbove : ℕ → Key × Placed → Type 0
-IsRankedAbove rank e = (r : ℕ) × (rank < r) × (e.0 ≡ key_of r (placing_of e.1))
+IsRankedAbove rank e = (r : ℕ) × (rank < r) × (e.0 ≡ sorting_key r (placing_of e.1))
 
 -- so has each
 abbrev pub AreRankedAbove : ℕ → List (Key × Placed) → Type 0
@@ -62,8 +62,8 @@ abbrev pub call_cmp : CallKey → CallKey → Ordering
 call_cmp a b = ordering_then (nat_cmp a.client b.client) (nat_cmp a.timestamp b.timestamp)
 
 -- the calls are those of these reads
-abbrev pub AreCallsOf : List Placing → List CallKey → Type 0
-AreCallsOf reads calls =
+abbrev pub AreCallsOfReads : List Placing → List CallKey → Type 0
+AreCallsOfReads reads calls =
     (x : Placing) (key : CallKey) → key.client ≡ x.item.client → key.timestamp ≡ x.item.timestamp
     → list_any (is_at (call_cmp key)) calls ≡ is_double reads x
 
@@ -73,7 +73,7 @@ AreCallsOf reads calls =
 pub record HoldsReads (bound : ℕ) (reads : List Placing) (held : Reads) : Type 0 where
   pub sorted : sorted_of held.sorted.entries ≡ sorted reads
   pub ranked : (r : ℕ) → r < bound → AreRankedAbove r held.sorted.entries
-  pub calls : AreCallsOf reads held.calls.keys
+  pub calls : AreCallsOfReads reads held.calls.keys
 
 -- a read, if there is one, leads from the earlier reads to the later ones
 abbrev pub AddsRead : ℕ → Option Placing → Reads → Reads → Type 0

@@ -1,7 +1,7 @@
 //! The executed batches.
 
 ghost use Rattle.std.specs.Prelude.{reverse, IfOk, OnOk};
-ghost use Rattle.points.specs.Batching.{Collects, Notes, numbered_of};
+ghost use Rattle.points.specs.Batching.{CollectsBatches, NotesBatch, numbered_of};
 
 use events::{Entry, EntryKind};
 use std::alloc::Global;
@@ -13,7 +13,7 @@ pub(crate) fn find_batches<'a>(
     alloc: Global,
     trace: &'a [Entry],
 ) -> Result<BTreeMap<u64, &'a [u8]>, NoMemory>
-    ensures { IfOk result (λ found. Collects (reverse trace.now) (numbered_of found.entries)) }
+    ensures { IfOk result (λ found. CollectsBatches (reverse trace.now) (numbered_of found.entries)) }
 {
     let mut found = BTreeMap::new(alloc);
     for entry in trace {
@@ -23,7 +23,7 @@ pub(crate) fn find_batches<'a>(
 }
 
 fn note<'a>(found: &mut BTreeMap<u64, &'a [u8]>, entry: &'a Entry) -> Result<(), NoMemory>
-    ensures { OnOk result (Notes entry.now found.old.entries found.new.entries) }
+    ensures { OnOk result (NotesBatch entry.now found.old.entries found.new.entries) }
 {
     let EntryKind::Executed(_, number, batch) = entry.kind() else {
         return Ok(());

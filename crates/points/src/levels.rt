@@ -6,7 +6,7 @@ ghost use Rattle.quorum.specs.Quorum.{count_below};
 ghost use Rattle.protocol.specs.System.Configuration.{IsConfiguration, replicas};
 ghost use Rattle.protocol.specs.Space.Linear.{count_correct};
 ghost use Rattle.points.specs.declared.levels.Rise.{Rise as RiseData};
-ghost use Rattle.points.specs.Leveling.{Raises, level_in, passes, rises, value_at};
+ghost use Rattle.points.specs.Leveling.{RaisesNumbers, level_in, reached_number, rises, number_reached};
 
 use events::{Config, Entry, EntryKind};
 use std::alloc::Global;
@@ -63,7 +63,7 @@ fn level_behind(
 ) -> u64
     requires correct { correct ≡ count_correct config.now }
     requires level { level ≡ level_in config.now reached.old }
-    ensures raises { Raises entry.now reached.old reached.new }
+    ensures raises { RaisesNumbers entry.now reached.old reached.new }
     ensures level { result ≡ level_in config.now reached.new }
 {
     if raise(reached, entry) {
@@ -75,7 +75,7 @@ fn level_behind(
 
 // Whether the entry raised the number that a replica reached.
 fn raise(reached: &mut Numbers, entry: &Entry) -> bool
-    ensures raises { Raises entry.now reached.old reached.new }
+    ensures raises { RaisesNumbers entry.now reached.old reached.new }
     ensures same { IsFalse result → reached.new ≡ reached.old }
 {
     match entry.kind() {
@@ -116,7 +116,7 @@ fn count_correct(config: &Config) -> u16
 // How many correct replicas reached the number.
 fn count_passing(config: &Config, reached: &Numbers, number: u64) -> u16
     ensures value { result
-        ≡ count_below (passes config.now reached.now number) (replicas config.now) }
+        ≡ count_below (reached_number config.now reached.now number) (replicas config.now) }
     ensures few { result ≤ 10 }
 {
     let mut count = 0;
@@ -130,7 +130,7 @@ fn count_passing(config: &Config, reached: &Numbers, number: u64) -> u16
 
 fn passes(config: &Config, reached: &Numbers, number: u64, replica: u16) -> bool
     requires { replica < 10 }
-    ensures { result ≡ passes config.now reached.now number replica }
+    ensures { result ≡ reached_number config.now reached.now number replica }
 {
     config.is_correct_replica(replica) && number <= reached[usize::from(replica)]
 }
@@ -139,7 +139,7 @@ fn passes(config: &Config, reached: &Numbers, number: u64, replica: u16) -> bool
 fn value_at(config: &Config, correct: u16, reached: &Numbers, replica: usize) -> u64
     requires correct { correct ≡ count_correct config.now }
     requires few { replica < 10 }
-    ensures { result ≡ value_at config.now reached.now replica }
+    ensures { result ≡ number_reached config.now reached.now replica }
 {
     let number = reached[replica];
     if correct <= count_passing(config, reached, number) + u16::from(config.faults()) {

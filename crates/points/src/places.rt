@@ -2,7 +2,7 @@
 
 ghost use Rattle.std.specs.Prelude.{◌≡◌, reverse, IfOk};
 ghost use Rattle.std.specs.List.Sorted.{IsNonDecreasingBy};
-ghost use Rattle.points.specs.Leveling.{rises, place_in};
+ghost use Rattle.points.specs.Leveling.{rises, level_position};
 ghost use Rattle.points.specs.Places.{position_in};
 ghost use Rattle.points.specs.declared.levels.Rise.{Rise as RiseData};
 
@@ -29,7 +29,7 @@ impl Places {
 
     /// The first position at which the level is at least the number, which is not 0.
     pub(crate) fn first(&self, number: Number) -> Option<usize>
-        ensures { result ≡ place_in (reverse self.now.rises.items) number.0 }
+        ensures { result ≡ level_position (reverse self.now.rises.items) number.0 }
     {
         let passed = self
             .rises

@@ -9,7 +9,7 @@ ghost use Rattle.protocol.specs.System.Configuration.{members};
 ghost use Rattle.points.specs.Places.{position_in};
 ghost use Rattle.points.specs.PointView.{placing_of};
 ghost use Rattle.protocol.specs.System.Frames.{same_mode};
-ghost use Rattle.points.specs.Seating.{EndsNone, IsRead, answers, number_in, read_number, seat_data, seat_read, seat_reads};
+ghost use Rattle.points.specs.Seating.{EndsNone, EntryEndsRead, answers, number_in, read_number, seat_data, seat_read, seat_reads};
 ghost use Rattle.points.specs.Sorting.{AddsEnded, AreRankedAbove, HoldsReads};
 
 use crate::places::Places;
@@ -101,7 +101,7 @@ fn read_ended(
     entry: &Entry,
 ) -> Result<Option<Placed>, NoMemory>
     requires keys { publics.now ≡ ring.old.seed }
-    ensures read { IfOk result (λ read. IsRead ring.old (reverse places.now.rises.items)
+    ensures read { IfOk result (λ read. EntryEndsRead ring.old (reverse places.now.rises.items)
         seats.now.entries entry.now (option_map placing_of read)) }
     ensures same { ring.new ≡ ring.old }
 {

@@ -9,7 +9,7 @@ ghost use Rattle.protocol.specs.Replica.State.{opening};
 ghost use Rattle.points.specs.Batching.{numbered_of};
 ghost use Rattle.points.specs.Numbering.{AscendsFrom};
 ghost use Rattle.points.specs.PointView.{placings_of};
-ghost use Rattle.points.specs.Running.{Runs, RunsAll, RunsEach, so_far};
+ghost use Rattle.points.specs.Running.{PlacesOneFrame, PlacesAllFrames, RunsEach, placed_so_far};
 
 use crate::places::Places;
 use crate::point::{Placed, Point};
@@ -67,9 +67,9 @@ fn run_batch(
     batch: &[u8],
 ) -> Result<(), NoMemory>
     requires few { turn.clients ≤ MAX_CLIENTS }
-    ensures { OnOk result (RunsAll turn (requests_of batch.now)
-        (so_far space.old replies.old found.old.items)
-        (so_far space.new replies.new found.new.items)) }
+    ensures { OnOk result (PlacesAllFrames turn (requests_of batch.now)
+        (placed_so_far space.old replies.old found.old.items)
+        (placed_so_far space.new replies.new found.new.items)) }
 {
     let frames = requests(batch);
     run_frames(alloc, space, replies, found, turn, frames.as_slice())
@@ -85,9 +85,9 @@ fn run_frames(
 ) -> Result<(), NoMemory>
     requires frames { Each IsFrame (map (λ frame. frame.now) frames.now) }
     requires few { turn.clients ≤ MAX_CLIENTS }
-    ensures { OnOk result (RunsAll turn (map (λ frame. frame.now) frames.now)
-        (so_far space.old replies.old found.old.items)
-        (so_far space.new replies.new found.new.items)) }
+    ensures { OnOk result (PlacesAllFrames turn (map (λ frame. frame.now) frames.now)
+        (placed_so_far space.old replies.old found.old.items)
+        (placed_so_far space.new replies.new found.new.items)) }
 {
     for frame in frames {
         run_frame(alloc, space, replies, found, turn, frame)?;
@@ -106,9 +106,9 @@ fn run_frame(
 ) -> Result<(), NoMemory>
     requires frame { IsFrame frame.now }
     requires few { turn.clients ≤ MAX_CLIENTS }
-    ensures { OnOk result (Runs turn frame.now
-        (so_far space.old replies.old found.old.items)
-        (so_far space.new replies.new found.new.items)) }
+    ensures { OnOk result (PlacesOneFrame turn frame.now
+        (placed_so_far space.old replies.old found.old.items)
+        (placed_so_far space.new replies.new found.new.items)) }
 {
     let Some(call) = read_call(alloc, frame, turn.clients)? else {
         return Ok(());

@@ -1,7 +1,7 @@
 //! The notes of a scan on each client.
 
 ghost use Rattle.std.specs.Prelude.{◌≡◌, option_map, OnOk};
-ghost use Rattle.points.specs.Seating.{IsClientIn, IsClientOf, Notes, seat_after, seat_at, seat_data};
+ghost use Rattle.points.specs.Seating.{IsClientIn, IsClientOf, NotesSeat, seat_after_entry, seat_at, seat_data};
 ghost use Rattle.terms.specs.Parties.{party_number};
 
 use events::{Entry, EntryKind};
@@ -49,7 +49,7 @@ pub(crate) fn note<'a>(
     position: usize,
     entry: &'a Entry,
 ) -> Result<(), NoMemory>
-    ensures { OnOk result (Notes position entry.now seats.old.entries seats.new.entries) }
+    ensures { OnOk result (NotesSeat position entry.now seats.old.entries seats.new.entries) }
 {
     let Some(client) = client_of(entry) else {
         return Ok(());
@@ -87,7 +87,7 @@ fn client_in(party: Party) -> Option<ClientId>
 
 // The seat after an entry of its client.
 fn seat_after<'a>(seat: Seat<'a>, position: usize, entry: &'a Entry) -> Seat<'a>
-    ensures { seat_data result ≡ seat_after position entry.now (seat_data seat.entry) }
+    ensures { seat_data result ≡ seat_after_entry position entry.now (seat_data seat.entry) }
 {
     match entry.kind() {
         EntryKind::Invoke(_, timestamp, op) => Seat {

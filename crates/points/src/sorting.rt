@@ -3,7 +3,7 @@
 ghost use Rattle.std.specs.Prelude.{◌≡◌, ℕ, ◌<◌, ◌+◌, ◌^◌, [], map, option_map, IfOk, OnOk};
 ghost use Rattle.protocol.specs.Space.Linear.{insert_point};
 ghost use Rattle.points.specs.PointView.{items_of, placing_of, placings_of};
-ghost use Rattle.points.specs.Sorting.{AddsRead, AreRankedAbove, MergesInto, key_of, sorted_of};
+ghost use Rattle.points.specs.Sorting.{AddsRead, AreRankedAbove, MergesInto, sorting_key, sorted_of};
 
 use crate::point::{Placed, Point};
 use std::alloc::Global;
@@ -110,7 +110,7 @@ fn put(sorted: &mut Sorted, rank: usize, placed: Placed) -> Result<(), NoMemory>
 }
 
 fn key_of(rank: usize, placed: &Placed) -> Key
-    ensures { result ≡ key_of rank (placing_of placed.now) }
+    ensures { result ≡ sorting_key rank (placing_of placed.now) }
 {
     let point = &placed.point;
     let (turn, client, timestamp) = match placed.mode {

@@ -4,23 +4,23 @@ use Rattle.std.specs.Prelude.{is_some}
 use Rattle.authenticator.specs.Membership.{Membership}
 use Rattle.signing.specs.Heard.{heard}
 use Rattle.posting.specs.Endpoint.{are_heard}
-use Rattle.posting.specs.Frames.{texts}
+use Rattle.posting.specs.Frames.{slice_texts}
 
 -- the rest of the frames decides
 abbrev pub Left : Membership → ℕ → List (Bor (List ℕ)) → ℕ → Type 0
-Left m me xs i = are_heard m me (texts xs) ≡ are_heard m me (texts (drop i xs))
+Left m me xs i = are_heard m me (slice_texts xs) ≡ are_heard m me (slice_texts (drop i xs))
 
 step : (m : Membership) (me : ℕ) (xs : List (Bor (List ℕ))) (i : ℕ) (z : Bor (List ℕ)) → i < length xs
-    → are_heard m me (texts (drop i xs)) ≡ (is_some (heard m me (get_or xs i z).now) && are_heard m me (texts (drop (suc i) xs)))
+    → are_heard m me (slice_texts (drop i xs)) ≡ (is_some (heard m me (get_or xs i z).now) && are_heard m me (slice_texts (drop (suc i) xs)))
 step m me xs i z l = rw (drop-cons xs i z l) refl
 
 -- the program's test of the next, by members that stay
 pub fails : (m n : Membership) → n ≡ m → (me : ℕ) (xs : List (Bor (List ℕ))) (i : ℕ) (z : Bor (List ℕ)) (b : Bool) → i < length xs → b ≡ is_some (heard n me (get_or xs i z).now)
-    → b ≡ false → Left m me xs i → false ≡ are_heard m me (texts xs)
+    → b ≡ false → Left m me xs i → false ≡ are_heard m me (slice_texts xs)
 fails m n same me xs i z b l is fails_here left =
     let here : b ≡ is_some (heard m me (get_or xs i z).now) = is ∙ ap (λ (x : Membership). is_some (heard x me (get_or xs i z).now)) same in
     let gone : is_some (heard m me (get_or xs i z).now) ≡ false = sym here ∙ fails_here in
-    let rest : Bool = are_heard m me (texts (drop (suc i) xs)) in
+    let rest : Bool = are_heard m me (slice_texts (drop (suc i) xs)) in
     sym (left ∙ step m me xs i z l ∙ ap (λ (x : Bool). x && rest) gone)
 
 pub goes_on : (m n : Membership) → n ≡ m → (me : ℕ) (xs : List (Bor (List ℕ))) (i : ℕ) (z : Bor (List ℕ)) (b : Bool) → i < length xs → b ≡ is_some (heard n me (get_or xs i z).now)
@@ -28,8 +28,8 @@ pub goes_on : (m n : Membership) → n ≡ m → (me : ℕ) (xs : List (Bor (Lis
 goes_on m n same me xs i z b l is holds_here left =
     let here : b ≡ is_some (heard m me (get_or xs i z).now) = is ∙ ap (λ (x : Membership). is_some (heard x me (get_or xs i z).now)) same in
     let there : is_some (heard m me (get_or xs i z).now) ≡ true = sym here ∙ holds_here in
-    let rest : Bool = are_heard m me (texts (drop (suc i) xs)) in
-    left ∙ step m me xs i z l ∙ ap (λ (x : Bool). x && rest) there ∙ ap (λ (k : ℕ). are_heard m me (texts (drop k xs))) (sym (add-one i))
+    let rest : Bool = are_heard m me (slice_texts (drop (suc i) xs)) in
+    left ∙ step m me xs i z l ∙ ap (λ (x : Bool). x && rest) there ∙ ap (λ (k : ℕ). are_heard m me (slice_texts (drop k xs))) (sym (add-one i))
 
-pub ends : (m : Membership) (me : ℕ) (xs : List (Bor (List ℕ))) (i : ℕ) → drop i xs ≡ [] → Left m me xs i → true ≡ are_heard m me (texts xs)
-ends m me xs i e left = sym (left ∙ ap (λ (ys : List (Bor (List ℕ))). are_heard m me (texts ys)) e)
+pub ends : (m : Membership) (me : ℕ) (xs : List (Bor (List ℕ))) (i : ℕ) → drop i xs ≡ [] → Left m me xs i → true ≡ are_heard m me (slice_texts xs)
+ends m me xs i e left = sym (left ∙ ap (λ (ys : List (Bor (List ℕ))). are_heard m me (slice_texts ys)) e)

@@ -17,7 +17,7 @@ use Rattle.protocol.specs.Replica.RightReplica.{others}
 use Rattle.protocol.proofs.Words.Posting.{sealed_is_posted, signed_is_posted}
 use Rattle.events.specs.Outputs.{receivers_in}
 use Rattle.events.proofs.Meant.{signed_is_for}
-use Rattle.posting.specs.Endpoint.{Posts, other_replicas, others_below, says}
+use Rattle.posting.specs.Endpoint.{PostsMessage, other_replicas, others_below, says}
 use Rattle.posting.specs.Frames.{SignedFits, SpellsSealed, SpellsSigned, signed_frame}
 use Rattle.posting.proofs.Others.{others_ascend, others_few, others_some}
 
@@ -59,12 +59,12 @@ may_say me faults message known few said = let low : me < 2 ^ 16 = omega arith i
 
 -- ---- sealed frames
 
-pub sealed_posts : (m : Membership) (me : ℕ) (message : Message) (parties bytes : List ℕ) → SpellsSealed m.seed (says me message) parties bytes → Posts m me message parties bytes
+pub sealed_posts : (m : Membership) (me : ℕ) (message : Message) (parties bytes : List ℕ) → SpellsSealed m.seed (says me message) parties bytes → PostsMessage m me message parties bytes
 sealed_posts m me message parties bytes spells c known =
     sealed_is_posted c (says me message) parties bytes (subst (λ (x : Membership). SpellsSealed x.seed (says me message) parties bytes) (sym known) spells)
 
 -- as the laws over histories ask for it
-pub posted_for_others : (m : Membership) (me : ℕ) (message : Message) (bytes : List ℕ) → Posts m me message (other_replicas m me) bytes → (c : Configuration) → members c ≡ m
+pub posted_for_others : (m : Membership) (me : ℕ) (message : Message) (bytes : List ℕ) → PostsMessage m me message (other_replicas m me) bytes → (c : Configuration) → members c ≡ m
     → IsPosted c me message (others c me) bytes
 posted_for_others m me message bytes posts c known =
     subst (λ (x : Membership). IsPosted c me message (other_replicas x me) bytes) (sym known) (posts c known)
@@ -93,7 +93,7 @@ spells_signed seed leaf body text s whole is kind short same verified spelled ar
       by_leaf = by;
     }
 
-pub signed_posts : (m : Membership) (me leaf : ℕ) (message : Message) (seed bytes : List ℕ) → seed ≡ signing_seed m.seed me → SpellsSigned seed leaf (says me message) bytes → Posts m me message [] bytes
+pub signed_posts : (m : Membership) (me leaf : ℕ) (message : Message) (seed bytes : List ℕ) → seed ≡ signing_seed m.seed me → SpellsSigned seed leaf (says me message) bytes → PostsMessage m me message [] bytes
 signed_posts m me leaf message seed bytes own k c known =
     let key : seed ≡ signing_seed c.seed me = own ∙ ap (λ (x : Membership). signing_seed x.seed me) (sym known) in
     let v : Verifies (public_key (signing_seed c.seed me)) (body_spelling (says me message)) k.signed =
@@ -102,7 +102,7 @@ signed_posts m me leaf message seed bytes own k c known =
 
 -- of the endpoint's own seed
 pub signs_own : {E : Type 0} (r : Result (Vec ℕ Global) E) (m : Membership) (seed : List ℕ) (me leaf : ℕ) (message : Message) → IfOk r (λ bytes. SpellsSigned seed leaf (says me message) bytes.items)
-    → seed ≡ signing_seed m.seed me → IfOk r (λ bytes. Posts m me message [] bytes.items)
+    → seed ≡ signing_seed m.seed me → IfOk r (λ bytes. PostsMessage m me message [] bytes.items)
 signs_own (Ok bytes) m seed me leaf message h own = signed_posts m me leaf message seed bytes.items own h
 signs_own (Err fault) m seed me leaf message h own = h
 

@@ -28,8 +28,8 @@ pub record EndpointState : Type 0 where
   pub used : ℕ
 
 -- A replica of these members is one of 4, 7 or 10, and its keys are of their seed.
-abbrev pub IsOfMembers : Membership → ℕ → ℕ → List ℕ → List ℕ → Type 0
-IsOfMembers m faults me publics seed =
+abbrev pub ReplicaIsOfMembers : Membership → ℕ → ℕ → List ℕ → List ℕ → Type 0
+ReplicaIsOfMembers m faults me publics seed =
     (faults ≡ m.faults) × (1 ≤ faults) × (faults ≤ 3) × (me < 3 * faults + 1) × (publics ≡ m.seed)
     × (seed ≡ signing_seed m.seed me)
 
@@ -70,8 +70,8 @@ FitsFrame _ = ⊤
 
 -- In each configuration of these members the bytes are the replica's frame with this message, sealed for these parties;
 -- a signed one names none.
-abbrev pub Posts : Membership → ℕ → Message → List ℕ → List ℕ → Type 0
-Posts m me message sealed bytes =
+abbrev pub PostsMessage : Membership → ℕ → Message → List ℕ → List ℕ → Type 0
+PostsMessage m me message sealed bytes =
     (c : Configuration) → members c ≡ m → IsPosted c me message sealed bytes
 
 -- the receivers of an output
@@ -91,7 +91,7 @@ pub record IsPost (m : Membership) (me : ℕ) (message : Message) (sealed partie
   pub bytes : List ℕ
   pub sends : entry_of me output ≡ Sent me bytes
   pub goes : receivers output ≡ parties
-  pub posted : Posts m me message sealed bytes
+  pub posted : PostsMessage m me message sealed bytes
   pub meant : GoesAsMeant m me output
 
 -- it has a MAC for each of its receivers
@@ -137,7 +137,7 @@ says me message = record { sender = me; message = message }
 
 -- the bytes are the replica's frame with this message, signed
 abbrev pub IsOwnSigned : EndpointState → Message → List ℕ → Type 0
-IsOwnSigned e message bytes = Posts e.membership e.me message [] bytes
+IsOwnSigned e message bytes = PostsMessage e.membership e.me message [] bytes
 
 abbrev pub SignsFrame : EndpointState → Message → Vec ℕ Global → Type 0
 SignsFrame e message bytes = IsOwnSigned e message bytes.items

@@ -14,8 +14,8 @@ use Rattle.signing.specs.Signatures.{Verifies, public_key}
 use Rattle.posting.specs.Endpoint.{numbers, says}
 
 -- the bytes of slices
-abbrev pub texts : List (Bor (List ℕ)) → List (List ℕ)
-texts frames = map (λ frame. frame.now) frames
+abbrev pub slice_texts : List (Bor (List ℕ)) → List (List ℕ)
+slice_texts frames = map (λ frame. frame.now) frames
 
 -- ---- with MACs
 

@@ -9,6 +9,6 @@ use Rattle.tuple_codec.specs.Operations.{Outcome}
 use Rattle.wire_format.specs.Messages.{MessageData as Message, reply}
 
 -- the message is the reply to this client's request
-abbrev pub IsReply : ClientId → Timestamp → Mode → Number → Outcome → Message → Type 0
-IsReply client timestamp mode number outcome message =
+abbrev pub IsReplyTo : ClientId → Timestamp → Mode → Number → Outcome → Message → Type 0
+IsReplyTo client timestamp mode number outcome message =
     message ≡ reply (client_party client.number) timestamp.0 mode number.0 outcome

@@ -35,13 +35,13 @@ pub struct Endpoint {
 }
 
 impl Model for Endpoint {
-    ghost use Rattle.posting.specs.Endpoint.{EndpointState, IsOfMembers};
+    ghost use Rattle.posting.specs.Endpoint.{EndpointState, ReplicaIsOfMembers};
 
     ghost Value = { EndpointState };
 
     ghost view = { λ e. record { membership = e.ring; me = e.me.0; used = e.signer.used } };
 
-    ghost invariant = { λ e. IsOfMembers e.ring e.faults e.me.0 e.publics e.signer.seed };
+    ghost invariant = { λ e. ReplicaIsOfMembers e.ring e.faults e.me.0 e.publics e.signer.seed };
 }
 
 impl Endpoint {

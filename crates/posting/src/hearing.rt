@@ -4,7 +4,7 @@ ghost use Rattle.std.specs.Prelude.{◌≡◌, IfOk, option_map};
 ghost use Rattle.wire_format.specs.Views.{body_data};
 ghost use Rattle.signing.specs.Heard.{heard};
 ghost use Rattle.posting.specs.Endpoint.{are_heard};
-ghost use Rattle.posting.specs.Frames.{texts};
+ghost use Rattle.posting.specs.Frames.{slice_texts};
 
 use authenticator::Ring;
 use signing::{HearFault, HeardFrame, PublicKeys, hear, hears};
@@ -44,7 +44,7 @@ pub(crate) fn hears_all(
     frames: &[&[u8]],
 ) -> bool
     requires keys { publics.now ≡ ring.old.seed }
-    ensures heard { result ≡ are_heard ring.old me.0 (texts frames.now) }
+    ensures heard { result ≡ are_heard ring.old me.0 (slice_texts frames.now) }
     ensures same { ring.new ≡ ring.old }
 {
     for frame in frames {

@@ -6,7 +6,7 @@ ghost use Rattle.wire_format.specs.Messages.{checkpoint, commit, fetch, meta, ne
 ghost use Rattle.wire_format.specs.Spelling.{IsBatch, IsMessage, IsNewView, IsViewChange, has_children, is_signed, last_index};
 ghost use Rattle.wire_format.specs.Views.{message_data, new_view_data, view_change_data};
 ghost use Rattle.posting.specs.Endpoint.{FitsFrame};
-ghost use Rattle.posting.specs.Replies.{IsReply};
+ghost use Rattle.posting.specs.Replies.{IsReplyTo};
 
 use crate::bytes::{note_bytes, note_digests};
 use std::alloc::Global;
@@ -78,7 +78,7 @@ pub fn reply_message(
     number: Number,
     answer: Answer<Global>,
 ) -> Message
-    ensures says { IsReply client timestamp kind number (outcome_of answer) (message_data result) }
+    ensures says { IsReplyTo client timestamp kind number (outcome_of answer) (message_data result) }
     ensures may { IsMessage (message_data result) }
     ensures unsigned { is_signed (message_data result) ≡ false }
     ensures fits { FitsFrame (message_data result) }

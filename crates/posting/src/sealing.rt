@@ -4,7 +4,7 @@ ghost use Rattle.std.specs.Prelude.{◌≡◌, ◌≢◌, ◌+◌, ◌*◌, ◌<
 ghost use Rattle.wire_format.specs.Spelling.{IsMessage, is_signed};
 ghost use Rattle.wire_format.specs.Views.{body_data, message_data};
 ghost use Rattle.authenticator.specs.declared.sealed.SealFault.TheVariants as SealFault;
-ghost use Rattle.authenticator.specs.Giving.{Seals};
+ghost use Rattle.authenticator.specs.Giving.{SealsBody};
 ghost use Rattle.authenticator.specs.Sealing.{IsSealable};
 ghost use Rattle.posting.specs.Endpoint.{FitsFrame, SealsFor, SealsForOne, SealsForOthers, numbers, says};
 ghost use Rattle.posting.specs.Frames.{SealsMessage};
@@ -109,7 +109,7 @@ fn seal_body(
     receivers: &[Party],
 ) -> Result<Vec<u8>, SealFault>
     requires { IsSealable (body_data body.now) (numbers receivers.now) }
-    ensures sealed { IfOk result (Seals ring.old.seed body.now receivers.now) }
+    ensures sealed { IfOk result (SealsBody ring.old.seed body.now receivers.now) }
     ensures fits { FitsFrame (message_data body.now.message) → result ≢ Err SealFault.TooLarge }
     ensures same { ring.new ≡ ring.old }
 {

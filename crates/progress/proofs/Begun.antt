@@ -7,14 +7,14 @@ use Rattle.protocol.specs.Replica.Certificates.{logged, Committed}
 use Rattle.protocol.proofs.Words.Reacting.{is_replica_right}
 use Rattle.protocol.proofs.Agreement.States.{history_append}
 use Rattle.progress.specs.Redelivered.{AllRedelivered, StaysActive, IsGiven}
-use Rattle.progress.specs.Begun.{IsBegun, BegunNumbersAreExecuted}
+use Rattle.progress.specs.Begun.{ViewIsBegun, BegunNumbersAreExecuted}
 use Rattle.progress.proofs.Committing.{committed_by_log}
 use Rattle.progress.proofs.Redelivering.{active, reaches, committed, all_numbers}
 use Rattle.progress.proofs.Steady.{logged_later}
 
 pub begun_is_committed : (c : Configuration) → IsConfiguration c → (later start : List Entry) → IsRun c (later ++ start) → OnlyTheseStopped c [] (later ++ start) → Unforged c (later ++ start) → (v : ℕ)
     → is_correct_replica c (primary c v) ≡ true → ((q : ℕ) → is_correct_replica c q ≡ true → StaysActive c v later start q) → AllRedelivered c later start
-    → (i : ℕ) (begun : IsBegun c v i later start) (s : ℕ) → is_correct_replica c s ≡ true → Committed c s (history_of s (later ++ start)) v i begun.batch
+    → (i : ℕ) (begun : ViewIsBegun c v i later start) (s : ℕ) → is_correct_replica c s ≡ true → Committed c s (history_of s (later ++ start)) v i begun.batch
 begun_is_committed c setting later start run goes unforged v from stays all i begun s other =
     committed_by_log c setting (later ++ start) goes (λ p h. is_replica_right c p (history_of p (later ++ start)) (run.replicas p h)) unforged v i begun.batch from
     (active c setting later start run goes unforged v from stays all i)
@@ -27,6 +27,6 @@ pub begun_numbers_are_executed : BegunNumbersAreExecuted
 begun_numbers_are_executed c setting later start run goes unforged v m from stays all r correct numbered =
     all_numbers c setting later start run goes unforged v from stays all r m correct (λ i above below. each i (numbered i above below))
   where
-    each : (i : ℕ) → IsBegun c v i later start ⊎ IsGiven c v i later start → (batch : List ℕ) × Committed c r (history_of r (later ++ start)) v i batch
+    each : (i : ℕ) → ViewIsBegun c v i later start ⊎ IsGiven c v i later start → (batch : List ℕ) × Committed c r (history_of r (later ++ start)) v i batch
     each i (inl begun) = (begun.batch, begun_is_committed c setting later start run goes unforged v from stays all i begun r correct)
     each i (inr given) = (given.batch, committed c setting later start run goes unforged v from stays all i given r correct)

@@ -14,7 +14,7 @@ use Rattle.protocol.specs.Replica.Selection.{is_within, change_in, changes_of, c
 use Rattle.protocol.specs.Replica.Certificates.{view, target, is_active_in, taken, new_view_in, new_view_from, brought, latest_change}
 use Rattle.protocol.specs.Replica.RightReplica.{MaySay, MaySend, SafeReplica, SentBefore}
 use Rattle.protocol.specs.Replica.Owed.{AreKeysSpent, BringsChange, HasLatestChange, IsSaying}
-use Rattle.protocol.specs.Laws.Histories.{AreReplicasSafe, Takes}
+use Rattle.protocol.specs.Laws.Histories.{AreReplicasSafe, TakesOrSendsNewView}
 use Rattle.protocol.proofs.Words.Linking.{Speaks}
 use Rattle.protocol.proofs.Words.Lists.{every_change, passes_change}
 use Rattle.protocol.proofs.Words.Options.{some_injective, and_then_some}
@@ -28,7 +28,7 @@ use Rattle.protocol.proofs.Agreement.Voting.{RightAt, right_always, once_right, 
 use Rattle.protocol.proofs.Points.Levels.{many_correct}
 use Rattle.progress.specs.Delivery.{HasEntry, AllDelivered}
 use Rattle.progress.specs.Leaving.{SaysFrom}
-use Rattle.progress.specs.Changing.{IsNextView, NextViewsAreEntered}
+use Rattle.progress.specs.Changing.{NextViewIsReady, NextViewsAreEntered}
 use Rattle.progress.proofs.Answering.{in_history, in_trace}
 use Rattle.progress.proofs.Choosing.{prepared_views_are_begun}
 use Rattle.progress.proofs.Entering.{signed_is_meant, enters}
@@ -44,7 +44,7 @@ speaks_sends s vc past other (Sent p bytes) own h = (own, h)
 speaks_sends s vc past other _ own h = absurd h
 
 module _ (c : Configuration) (setting : IsConfiguration c) (trace : List Entry) (is_run : IsRun c trace) (goes : OnlyTheseStopped c [] trace) (unforged : Unforged c trace)
-    (v start : ℕ) (root : List ℕ) (n : IsNextView c trace v start root) where
+    (v start : ℕ) (root : List ℕ) (n : NextViewIsReady c trace v start root) where
   safe : AreReplicasSafe c trace
   safe p h = is_replica_right c p (history_of p trace) (is_run.replicas p h)
 
@@ -56,9 +56,9 @@ module _ (c : Configuration) (setting : IsConfiguration c) (trace : List Entry) 
 
   -- ---- no new view above the next one is taken
 
-  module _ (q : ℕ) (correct : is_correct_replica c q ≡ true) (new : NewViewData) (taken_it : Once (Takes c new) (history_of q trace)) where
-    at : At (Takes c new) (history_of q trace)
-    at = once_at (Takes c new) (history_of q trace) taken_it
+  module _ (q : ℕ) (correct : is_correct_replica c q ≡ true) (new : NewViewData) (taken_it : Once (TakesOrSendsNewView c new) (history_of q trace)) where
+    at : At (TakesOrSendsNewView c new) (history_of q trace)
+    at = once_at (TakesOrSendsNewView c new) (history_of q trace) taken_it
 
     selected : may_select c new ≡ true
     selected = selected_in c at.entry new (takes c 0 at.past at.entry new at.holds).brought

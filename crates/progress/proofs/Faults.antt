@@ -14,7 +14,7 @@ use Rattle.protocol.specs.System.Run.{IsRun, OnlyTheseStopped}
 use Rattle.protocol.specs.Replica.Selection.{change_by}
 use Rattle.protocol.specs.Replica.Certificates.{brought, proposal, logged}
 use Rattle.protocol.specs.Replica.RightReplica.{HasSeen, SafeReplica}
-use Rattle.protocol.specs.Laws.Histories.{Takes}
+use Rattle.protocol.specs.Laws.Histories.{TakesOrSendsNewView}
 use Rattle.evidence.specs.RefusedMarks.{SpellsChange}
 use Rattle.evidence.specs.Selected.{AreSigned, SomePrepared, IsSelected}
 use Rattle.protocol.proofs.Words.Elements.{each_has, has_some, has_right}
@@ -118,7 +118,7 @@ some_prepared (x ∷ xs) i (inr h) = let r = some_prepared xs i h in (r.0, inr r
 -- ---- no new view has a batch
 
 module _ (c : Configuration) (setting : IsConfiguration c) (trace : List Entry) (is_run : IsRun c trace) (goes : OnlyTheseStopped c [] trace) (unforged : Unforged c trace) (apart : NoCollision c trace)
-    (n : SecondIsNext c trace) (silent : AreFaultySilent c trace) (q : ℕ) (correct : is_correct_replica c q ≡ true) (new : NewViewData) (taken_it : Once (Takes c new) (history_of q trace)) where
+    (n : SecondIsNext c trace) (silent : AreFaultySilent c trace) (q : ℕ) (correct : is_correct_replica c q ≡ true) (new : NewViewData) (taken_it : Once (TakesOrSendsNewView c new) (history_of q trace)) where
   rules : IsSelected c new
   rules = (new_views_meet_the_rules c new).0 (Silence.selected c setting trace is_run goes unforged apart n q correct new taken_it)
 
@@ -141,7 +141,7 @@ module _ (c : Configuration) (setting : IsConfiguration c) (trace : List Entry) 
         honest : is_faulty_replica c x.0 ≡ false
         honest =
             seen_of_none c trace silent q correct (history_of q trace) (λ e h. h) (right_always c q (history_of q trace) (safe q correct).0 (safe q correct).1) frame.0
-            (once_weaker (Takes c new) (HasSeen frame.0) (taken_seen c new frame.0 frame.1) (history_of q trace) taken_it) (changing x.0 x.1) frame.2
+            (once_weaker (TakesOrSendsNewView c new) (HasSeen frame.0) (taken_seen c new frame.0 frame.1) (history_of q trace) taken_it) (changing x.0 x.1) frame.2
 
     says : Once (Speaks (changing x.0 x.1)) (history_of x.0 trace)
     says =

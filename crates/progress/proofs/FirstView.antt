@@ -11,7 +11,7 @@ use Rattle.protocol.specs.System.Trace.Entry.{Invoke, Got, Tick, Executed, Insta
 use Rattle.protocol.specs.System.Run.{IsRun, OnlyTheseStopped}
 use Rattle.protocol.specs.Replica.Certificates.{view, target, taken, is_active_in, checkpoint_from, checkpoint_in, with_checkpoint, insert_checkpoint, checkpoints_of, says_checkpoint, count_checkpoints, is_stable, stable_at, installed_at, started_at, low, is_in_marks, brought, logged, Committed}
 use Rattle.protocol.specs.Replica.Selection.{is_quorum}
-use Rattle.protocol.specs.Replica.RightReplica.{Point, HistoryReaches, May, Moves, MaySend, MaySay, MayCheckpoint, Executes, waiting_after}
+use Rattle.protocol.specs.Replica.RightReplica.{Point, HistoryReaches, May, MovesPoint, MaySend, MaySay, MayCheckpoint, Executes, waiting_after}
 use Rattle.protocol.specs.Space.Linear.{reached}
 use Rattle.protocol.proofs.Words.Options.{some_injective, and_then_some, then_some_gives}
 use Rattle.protocol.proofs.Words.Elements.{has_filter}
@@ -152,7 +152,7 @@ module _ (c : Configuration) (me : ℕ) where
           let n : point.state.number ≡ new.state.number = ap (λ (p : Point). p.state.number) is in
           later e (below (omega arith))
 
-      go : (e : Entry) → May c me past leaves.0 e → Moves c me past leaves.0 e point → ((r k : ℕ) (root : List ℕ) → e ≡ Installed r k root → ⊥)
+      go : (e : Entry) → May c me past leaves.0 e → MovesPoint c me past leaves.0 e point → ((r k : ℕ) (root : List ℕ) → e ≡ Installed r k root → ⊥)
           → (i ≤ leaves.0.state.number → (u : ℕ) × (b : List ℕ) × Committed c me past u i b) → (u : ℕ) × (b : List ℕ) × Committed c me (e ∷ past) u i b
       go (Got p bytes) may move other below = same (Got p bytes) (record leaves.0 { ran = []; waiting = waiting_after c me leaves.0 bytes }) move refl below
       go (Tick p) may move other below = same (Tick p) (record leaves.0 { ran = [] }) move refl below

@@ -8,14 +8,14 @@ use Rattle.quorum.specs.Votes.{or_else}
 use Rattle.protocol.specs.System.Configuration.{Configuration, is_correct}
 use Rattle.protocol.specs.System.Trace.{Entry, Has}
 use Rattle.protocol.specs.System.Trace.Entry.{Invoke, Got, Tick, Sent}
-use Rattle.protocol.specs.System.Schedule.{Step, Made, World, StepsLead, AtInput, new_world, made_by, with_entry, with_frame, is_delivered, next_receiver, next_pair, pending, sealed_bytes, signed_bytes}
+use Rattle.protocol.specs.System.Schedule.{Step, Made, World, StepsLead, NoOutputIsNext, new_world, made_by, with_entry, with_frame, is_delivered, next_receiver, next_pair, pending, sealed_bytes, signed_bytes}
 use Rattle.protocol.specs.System.Schedule.Step.{calls, deliver, feed, seal, sign, ticks, flush}
 use Rattle.protocol.specs.System.Schedule.StepsLead.{ends, gives, called, delivers, gets, ticked, seals, signs, flushes, flushed}
 use Rattle.protocol.proofs.Words.Options.{some_injective}
 use Rattle.protocol.proofs.Words.Elements.{some_of_has, has_reverse, has_reversed}
 use Rattle.evidence.proofs.RefusingRunsSchedules.{get_left}
 use Rattle.progress.specs.Delivery.{HasEntry, meant, AllDelivered}
-use Rattle.progress.specs.Flushed.{IsReached, EndsInFlush, FlushesDeliverAll}
+use Rattle.progress.specs.Flushed.{WorldIsReached, EndsInFlush, FlushesDeliverAll}
 
 -- ---- the trace grows by the entries
 
@@ -176,7 +176,7 @@ made_first c w v _ _ (signs {replica = r} {leaf = l} {receivers = rs} {body = b}
 made_first c w v _ _ (flushes p g) are = made_first c _ v _ _ g are
 made_first c w v _ _ (flushed j p g) are = made_first c _ v _ _ g are
 
-reached_made : (c : Configuration) (w : World) → IsReached c w → AreMade w
+reached_made : (c : Configuration) (w : World) → WorldIsReached c w → AreMade w
 reached_made c w reached = made_first c new_world w reached.0 (reverse w.past) reached.1 (λ i q d. absurd d)
 
 -- ---- at its end none is left
@@ -199,7 +199,7 @@ none_left c w v _ _ (signs {steps = steps} {replica = r} {leaf = l} {receivers =
 none_left c w v _ _ (flushes p g) h = none_left c _ v _ _ g h
 none_left c w v _ _ (flushed {steps = []} j p g) h = last w _ _ g refl j p
   where
-    last : (w : World) (steps : List Step) (entries : List Entry) → StepsLead c w steps entries v → steps ≡ [] → AtInput entries → pending c w ≡ None → pending c v ≡ None
+    last : (w : World) (steps : List Step) (entries : List Entry) → StepsLead c w steps entries v → steps ≡ [] → NoOutputIsNext entries → pending c w ≡ None → pending c v ≡ None
     last w _ _ ends none j p = p
     last w _ _ (gives {e = e} o g) none j p = let bad : false ≡ true = sym j ∙ o in absurd cc
     last w _ _ _ none j p = absurd cc

@@ -27,8 +27,8 @@ use Rattle.progress.specs.Delivery.{HasEntry, AllDelivered}
 use Rattle.progress.specs.Answered.{KeepsReply}
 use Rattle.progress.specs.Redelivered.{AllRedelivered, StaysActive, IsGiven}
 use Rattle.progress.specs.Waiting.{StandsAtPrimary}
-use Rattle.progress.specs.Begun.{IsBegun}
-use Rattle.progress.specs.NextView.{HasNumber, ViewGoesOn, CallsOutliveChanges}
+use Rattle.progress.specs.Begun.{ViewIsBegun}
+use Rattle.progress.specs.NextView.{BatchHasNumber, ViewGoesOn, CallsOutliveChanges}
 use Rattle.progress.proofs.Replies.{run_of}
 use Rattle.progress.proofs.Keeping.{by_at, by_grows, keeps_reply}
 use Rattle.progress.proofs.Answering.{executed_calls_are_accepted}
@@ -44,10 +44,10 @@ module _ (c : Configuration) (setting : IsConfiguration c) (later start : List E
   trace = later ++ start
 
   -- the new view or the primary assigned each number that the primary logged
-  either : (i : ℕ) → is_some (logged c (primary c v) (history_of (primary c v) (later ++ start)) v i) ≡ true → IsBegun c v i later start ⊎ IsGiven c v i later start
+  either : (i : ℕ) → is_some (logged c (primary c v) (history_of (primary c v) (later ++ start)) v i) ≡ true → ViewIsBegun c v i later start ⊎ IsGiven c v i later start
   either i h = go (f.numbers i (has_value (logged c (primary c v) (history_of (primary c v) (later ++ start)) v i) h).0 (has_value (logged c (primary c v) (history_of (primary c v) (later ++ start)) v i) h).1).1
     where
-      go : HasNumber c v i (has_value (logged c (primary c v) (history_of (primary c v) (later ++ start)) v i) h).0 later start → IsBegun c v i later start ⊎ IsGiven c v i later start
+      go : BatchHasNumber c v i (has_value (logged c (primary c v) (history_of (primary c v) (later ++ start)) v i) h).0 later start → ViewIsBegun c v i later start ⊎ IsGiven c v i later start
       go (inl x) = inl x.0
       go (inr x) = inr x.0
 
@@ -66,7 +66,7 @@ module _ (c : Configuration) (setting : IsConfiguration c) (later start : List E
   pub is_committed : (i : ℕ) (b : List ℕ) → logged c (primary c v) (history_of (primary c v) (later ++ start)) v i ≡ Some b → Committed c (primary c v) (history_of (primary c v) (later ++ start)) v i b
   is_committed i b h = go (f.numbers i b h).1
     where
-      go : HasNumber c v i b later start → Committed c (primary c v) (history_of (primary c v) (later ++ start)) v i b
+      go : BatchHasNumber c v i b later start → Committed c (primary c v) (history_of (primary c v) (later ++ start)) v i b
       go (inl x) = subst (λ (y : List ℕ). Committed c (primary c v) (history_of (primary c v) (later ++ start)) v i y) x.1
           (begun_is_committed c setting later start is_run goes unforged v f.from stays all i x.0 (primary c v) f.from)
       go (inr x) = subst (λ (y : List ℕ). Committed c (primary c v) (history_of (primary c v) (later ++ start)) v i y) x.1

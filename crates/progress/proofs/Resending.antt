@@ -7,12 +7,12 @@ use Rattle.protocol.specs.System.Texts.{NoCollision}
 use Rattle.protocol.specs.System.Trace.{Entry, Unforged}
 use Rattle.protocol.specs.System.Trace.Entry.{Tick, Accepted}
 use Rattle.protocol.specs.System.Run.{IsRun, OnlyTheseStopped}
-use Rattle.protocol.specs.System.Schedule.{World, StepsLead, AtInput, new_world}
+use Rattle.protocol.specs.System.Schedule.{World, StepsLead, NoOutputIsNext, new_world}
 use Rattle.protocol.specs.System.Schedule.Step.{ticks, flush}
 use Rattle.protocol.proofs.Words.Elements.{has_either, has_left, has_right, has_reverse, has_reversed}
 use Rattle.evidence.proofs.Feeding.{joins}
 use Rattle.progress.specs.Delivery.{HasEntry}
-use Rattle.progress.specs.Flushed.{IsReached}
+use Rattle.progress.specs.Flushed.{WorldIsReached}
 use Rattle.progress.specs.Redelivered.{redelivery, RedeliveriesBringAnswers}
 use Rattle.progress.proofs.Flushing.{past_grows, flushes_deliver_all}
 use Rattle.progress.proofs.Bringing.{tick_is_fed}
@@ -20,7 +20,7 @@ use Rattle.progress.proofs.Redeliveries.{redeliveries_deliver_all}
 use Rattle.progress.proofs.GivenCalls.{given_calls_are_accepted}
 
 -- the world after steps that begin with an input is reached too
-reached_on : (c : Configuration) (w u : World) (entries : List Entry) → IsReached c w → StepsLead c w (redelivery c w) entries u → AtInput entries → IsReached c u
+reached_on : (c : Configuration) (w u : World) (entries : List Entry) → WorldIsReached c w → StepsLead c w (redelivery c w) entries u → NoOutputIsNext entries → WorldIsReached c u
 reached_on c w u entries reached goes at =
     let is : u.past ≡ reverse entries ++ w.past = past_grows c w u (redelivery c w) entries goes in
     let oldest : reverse u.past ≡ reverse w.past ++ entries =

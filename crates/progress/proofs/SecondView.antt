@@ -19,11 +19,11 @@ use Rattle.protocol.specs.System.Run.{IsRun, OnlyTheseStopped}
 use Rattle.protocol.specs.Replica.Selection.{changes_of, passes_by, change_by, count_in, is_quorum, is_weak_quorum}
 use Rattle.protocol.specs.Replica.Certificates.{view, target, taken, is_active_in, low, is_in_marks, batch_begun, begun_proposal, entry_proposal, proposal, brought, first_given, logged, Committed}
 use Rattle.protocol.specs.Replica.State.{State, Call, opening, last_time}
-use Rattle.protocol.specs.Replica.RightReplica.{Point, HistoryReaches, IsStep, IsFree, May, Moves, MaySay, MayPrePrepare, SendsBytes, SentBefore, checkpoint_of, kept_states}
+use Rattle.protocol.specs.Replica.RightReplica.{Point, HistoryReaches, IsStep, IsFree, May, MovesPoint, MaySay, MayPrePrepare, SendsBytes, SentBefore, checkpoint_of, kept_states}
 use Rattle.protocol.specs.Replica.Owed.{BeginsViewWith, IsOfView, IsNumbered, AreKeysSpent}
 use Rattle.protocol.specs.Client.RightClient.{OpenCall, open_call, SafeClient}
 use Rattle.protocol.specs.Space.Linear.{reached}
-use Rattle.protocol.specs.Laws.Histories.{AreReplicasSafe, Takes}
+use Rattle.protocol.specs.Laws.Histories.{AreReplicasSafe, TakesOrSendsNewView}
 use Rattle.protocol.proofs.Words.Options.{some_injective, or_else_cases, and_then_some}
 use Rattle.protocol.proofs.Words.Elements.{has_left, has_right}
 use Rattle.protocol.proofs.Words.Leaving.{none_kept}
@@ -92,7 +92,7 @@ untouched c q (e ∷ past) point leaves first silent none =
     same : (new : Point) → point ≡ new → new.state.number ≡ leaves.0.state.number → new.snapshots ≡ leaves.0.snapshots → Untouched leaves.0 → Untouched point
     same new is number snapshots u = record { number = ap (λ (p : Point). p.state.number) is ∙ number ∙ u.number; opened = ap (λ (p : Point). p.snapshots) is ∙ snapshots ∙ u.opened }
 
-    go : (e : Entry) → May c q past leaves.0 e → Moves c q past leaves.0 e point → ((r k : ℕ) (root : List ℕ) → e ≡ Installed r k root → ⊥) → ((i : ℕ) (b : List ℕ) → logged c q past 0 i ≡ Some b → ⊥)
+    go : (e : Entry) → May c q past leaves.0 e → MovesPoint c q past leaves.0 e point → ((r k : ℕ) (root : List ℕ) → e ≡ Installed r k root → ⊥) → ((i : ℕ) (b : List ℕ) → logged c q past 0 i ≡ Some b → ⊥)
         → Untouched leaves.0 → Untouched point
     go (Got p bytes) may move other below u = record { number = ap (λ (p : Point). p.state.number) move ∙ u.number; opened = ap (λ (p : Point). p.snapshots) move ∙ u.opened }
     go (Tick p) may move other below u = record { number = ap (λ (p : Point). p.state.number) move ∙ u.number; opened = ap (λ (p : Point). p.snapshots) move ∙ u.opened }
@@ -108,7 +108,7 @@ untouched c q (e ∷ past) point leaves first silent none =
 
 -- ---- low marks if each new view starts at 0
 
-low_started : (c : Configuration) (me : ℕ) (xs : List Entry) (point : Point) → HistoryReaches c me xs point → ((new : NewViewData) → Once (Takes c new) xs → new.start ≡ 0) → low c me xs ≤ reached xs me
+low_started : (c : Configuration) (me : ℕ) (xs : List Entry) (point : Point) → HistoryReaches c me xs point → ((new : NewViewData) → Once (TakesOrSendsNewView c new) xs → new.start ≡ 0) → low c me xs ≤ reached xs me
 unfolding low
 low_started c me [] point leaves zeros = omega arith
 low_started c me (e ∷ past) point leaves zeros =
@@ -142,7 +142,7 @@ module _ (c : Configuration) (setting : IsConfiguration c) (later start : List E
       f.room.none r k root (subst (λ (x : ℕ). is_correct_replica c x ≡ true) (sym own) correct) (in_trace q (Installed r k root) trace h)
 
   -- a new view that a correct replica takes starts at 0
-  module _ (q : ℕ) (correct : is_correct_replica c q ≡ true) (new : NewViewData) (taken_it : Once (Takes c new) (history_of q (later ++ start))) where
+  module _ (q : ℕ) (correct : is_correct_replica c q ≡ true) (new : NewViewData) (taken_it : Once (TakesOrSendsNewView c new) (history_of q (later ++ start))) where
     signer : (s : ℕ) × (is_correct_replica c s ≡ true) × (passes_by (λ vc. list_any (λ (m : CheckpointEntry). (m.number == new.start) && bytes_eq m.digest new.root) vc.checkpoints) (changes_of c new) s ≡ true)
     signer =
         let selected = Silence.selected c setting trace is_run goes unforged apart f.next q correct new taken_it in
@@ -200,7 +200,7 @@ module _ (c : Configuration) (setting : IsConfiguration c) (later start : List E
 
   module _ (q : ℕ) (correct : is_correct_replica c q ≡ true) (newer xs : List Entry) (splits : history_of q (later ++ start) ≡ newer ++ xs) (point : Point) (leaves : HistoryReaches c q xs point) where
     pub low_here : low c q xs ≤ reached xs q
-    low_here = low_started c q xs point leaves (λ new h. starts_zero q correct new (subst (λ (ys : List Entry). Once (Takes c new) ys) (sym splits) (once_append (Takes c new) newer xs h)))
+    low_here = low_started c q xs point leaves (λ new h. starts_zero q correct new (subst (λ (ys : List Entry). Once (TakesOrSendsNewView c new) ys) (sym splits) (once_append (TakesOrSendsNewView c new) newer xs h)))
 
     view_here : view c xs ≤ 1
     view_here =
@@ -245,7 +245,7 @@ module _ (c : Configuration) (setting : IsConfiguration c) (later start : List E
       none_begins true h =
           let t = and_then_some (batch_begun 1 i) (taken c past e) batch h in
           let within = (proposes c 1 i t.0 batch t.2).within in
-          let bare = f.bare t.0 (subst (λ (ys : List Entry). Once (Takes c t.0) ys) (sym splits) (once_append (Takes c t.0) newer (e ∷ past) (inl t.1))) in
+          let bare = f.bare t.0 (subst (λ (ys : List Entry). Once (TakesOrSendsNewView c t.0) ys) (sym splits) (once_append (TakesOrSendsNewView c t.0) newer (e ∷ past) (inl t.1))) in
           let none : length t.0.batches ≡ 0 = ap length bare in
           omega arith
       none_begins false h = cc
@@ -507,7 +507,7 @@ module _ (c : Configuration) (setting : IsConfiguration c) (again later start : 
         where
           begun_bare : At (BeginsViewWith c 1 n.0) (history_of (primary c 1) middle) → ⊥
           begun_bare a =
-              let bare = f.bare a.holds.0 (subst (λ (ys : List Entry). Once (Takes c a.holds.0) ys) (sym a.splits) (once_append (Takes c a.holds.0) a.newer (a.entry ∷ a.past) (inl a.holds.1))) in
+              let bare = f.bare a.holds.0 (subst (λ (ys : List Entry). Once (TakesOrSendsNewView c a.holds.0) ys) (sym a.splits) (once_append (TakesOrSendsNewView c a.holds.0) a.newer (a.entry ∷ a.past) (inl a.holds.1))) in
               subst (λ (xs : List (List ℕ)). Has (λ x. x ≡ n.0) xs) bare a.holds.3
 
   accepts : StandsAtPrimary c 1 k call.timestamp middle → (answer : Outcome) × HasEntry (Accepted k call.timestamp answer) again

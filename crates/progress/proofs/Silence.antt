@@ -16,10 +16,10 @@ use Rattle.protocol.specs.System.Run.{IsRun, OnlyTheseStopped}
 use Rattle.protocol.specs.Replica.Selection.{is_within, signed_change, changes_of, change_by, passes_by, count_in, may_select}
 use Rattle.protocol.specs.Replica.Certificates.{view, view_after, target, change_sent, change_from, is_later, taken, new_view_in, new_view_from, brought, is_active_in, low, logged, change_taken, change_at, latest_change}
 use Rattle.protocol.specs.Replica.State.{State, opening, Call, call_in, last_time}
-use Rattle.protocol.specs.Replica.RightReplica.{Point, HistoryReaches, May, Moves, MaySay, SafeReplica, checkpoint_of, kept_states, with_waiting, is_newer, SentBefore}
+use Rattle.protocol.specs.Replica.RightReplica.{Point, HistoryReaches, May, MovesPoint, MaySay, SafeReplica, checkpoint_of, kept_states, with_waiting, is_newer, SentBefore}
 use Rattle.protocol.specs.Replica.Owed.{BringsChange}
 use Rattle.protocol.specs.Laws.Bounds.{IsCheckpointBounded}
-use Rattle.protocol.specs.Laws.Histories.{AreReplicasSafe, Takes, ExecutesBatch}
+use Rattle.protocol.specs.Laws.Histories.{AreReplicasSafe, TakesOrSendsNewView, ExecutesBatch}
 use Rattle.evidence.specs.ExamplesOfChanges.{beginning_change}
 use Rattle.protocol.proofs.Words.Bounds.{within_of_bounded}
 use Rattle.protocol.proofs.Words.Lists.{every_change, passes_change}
@@ -177,17 +177,17 @@ first_came c s m (e ∷ past) some l = go (nat_le m (latest_change c past s)) re
         (r.0, inl r.1, r.2)
 
 -- the replica left the first view by taking a new view
-pub left_by : (c : Configuration) (xs : List Entry) → 1 ≤ view c xs → (new : NewViewData) × Once (Takes c new) xs × (new.view ≡ view c xs)
+pub left_by : (c : Configuration) (xs : List Entry) → 1 ≤ view c xs → (new : NewViewData) × Once (TakesOrSendsNewView c new) xs × (new.view ≡ view c xs)
 unfolding view
 left_by c [] l = absurd (omega arith)
 left_by c (e ∷ past) l = go (new_view_in c e) refl l (left_by c past)
   where
-    go : (o : Option NewViewData) → new_view_in c e ≡ o → 1 ≤ view_after (view c past) (target past) o → (1 ≤ view c past → (new : NewViewData) × Once (Takes c new) past × (new.view ≡ view c past))
-        → (new : NewViewData) × Once (Takes c new) (e ∷ past) × (new.view ≡ view_after (view c past) (target past) o)
+    go : (o : Option NewViewData) → new_view_in c e ≡ o → 1 ≤ view_after (view c past) (target past) o → (1 ≤ view c past → (new : NewViewData) × Once (TakesOrSendsNewView c new) past × (new.view ≡ view c past))
+        → (new : NewViewData) × Once (TakesOrSendsNewView c new) (e ∷ past) × (new.view ≡ view_after (view c past) (target past) o)
     go None is l below = let b = below l in (b.0, inr b.1, b.2)
     go (Some new) is l below = pick (is_later (view c past) (target past) new) refl l
       where
-        pick : (b : Bool) → is_later (view c past) (target past) new ≡ b → 1 ≤ cond b new.view (view c past) → (made : NewViewData) × Once (Takes c made) (e ∷ past) × (made.view ≡ cond b new.view (view c past))
+        pick : (b : Bool) → is_later (view c past) (target past) new ≡ b → 1 ≤ cond b new.view (view c past) → (made : NewViewData) × Once (TakesOrSendsNewView c made) (e ∷ past) × (made.view ≡ cond b new.view (view c past))
         pick true later l = (new, inl (rw is (rw later refl)), refl)
         pick false later l = let b = below l in (b.0, inr b.1, b.2)
 
@@ -203,9 +203,9 @@ module _ (c : Configuration) (setting : IsConfiguration c) (trace : List Entry) 
 
   -- ---- each new view that is taken is the second
 
-  module _ (q : ℕ) (correct : is_correct_replica c q ≡ true) (new : NewViewData) (taken_it : Once (Takes c new) (history_of q trace)) where
-    at : At (Takes c new) (history_of q trace)
-    at = once_at (Takes c new) (history_of q trace) taken_it
+  module _ (q : ℕ) (correct : is_correct_replica c q ≡ true) (new : NewViewData) (taken_it : Once (TakesOrSendsNewView c new) (history_of q trace)) where
+    at : At (TakesOrSendsNewView c new) (history_of q trace)
+    at = once_at (TakesOrSendsNewView c new) (history_of q trace) taken_it
 
     pub selected : may_select c new ≡ true
     selected = selected_in c at.entry new (takes c 0 at.past at.entry new at.holds).brought
@@ -363,7 +363,7 @@ module _ (c : Configuration) (setting : IsConfiguration c) (trace : List Entry) 
           number : point.state.number ≡ 0
           number = number_zero q correct newer (e ∷ past) splits point leaves
 
-          go : (e : Entry) → May c q past leaves.0 e → Moves c q past leaves.0 e point → leaves.0.snapshots ≡ opening ∷ [] → point.snapshots ≡ opening ∷ []
+          go : (e : Entry) → May c q past leaves.0 e → MovesPoint c q past leaves.0 e point → leaves.0.snapshots ≡ opening ∷ [] → point.snapshots ≡ opening ∷ []
           go (Got p bytes) may move below = ap (λ (p : Point). p.snapshots) move ∙ below
           go (Tick p) may move below = ap (λ (p : Point). p.snapshots) move ∙ below
           go (Sent p bytes) may move below = ap (λ (p : Point). p.snapshots) move ∙ below
@@ -400,7 +400,7 @@ module _ (c : Configuration) (setting : IsConfiguration c) (trace : List Entry) 
           number : new.state.number ≡ 0
           number = number_zero q correct newer (e ∷ (middle ++ past)) splits new behind
 
-          go : (e : Entry) → May c q (middle ++ past) behind.0 e → Moves c q (middle ++ past) behind.0 e new → behind.0.waiting ≢ [] → new.waiting ≢ []
+          go : (e : Entry) → May c q (middle ++ past) behind.0 e → MovesPoint c q (middle ++ past) behind.0 e new → behind.0.waiting ≢ [] → new.waiting ≢ []
           go (Got p bytes) may move below h =
               waits_behind behind.0.state behind.0.waiting (option_and_then (call_in c) (heard (members c) q bytes)) below (sym (ap (λ (p : Point). p.waiting) move) ∙ h)
           go (Tick p) may move below h = below (sym (ap (λ (p : Point). p.waiting) move) ∙ h)

@@ -12,7 +12,7 @@ use Rattle.protocol.specs.System.Configuration.{Configuration, primary, is_clien
 use Rattle.protocol.specs.System.Trace.{Entry, is_output, history_of, Once, Has, Hears}
 use Rattle.protocol.specs.System.Trace.Entry.{Invoke, Got, Tick, Executed, Installed, Sent, Accepted}
 use Rattle.protocol.specs.Replica.State.{State, Call, call_in, call_of, execute, last_time}
-use Rattle.protocol.specs.Replica.RightReplica.{Point, HistoryReaches, Moves, IsFree, is_newer, with_waiting, still_waiting}
+use Rattle.protocol.specs.Replica.RightReplica.{Point, HistoryReaches, MovesPoint, IsFree, is_newer, with_waiting, still_waiting}
 use Rattle.protocol.specs.Replica.Certificates.{is_active_in}
 use Rattle.protocol.specs.Replica.Owed.{Owes, HistoryIsPrompt, IsNumbered}
 use Rattle.protocol.specs.Client.RightClient.{OpenCall, open_call, SafeClient}
@@ -71,7 +71,7 @@ waits_heard c me (e ∷ past) point leaves other h = go e leaves.2.moves (waits_
             pick (inl k) = inr (below k)
             pick (inr same) = inl (subst (λ (x : Call). heard (members c) me bytes ≡ Some (asking (256 + x.client) x.timestamp modes.Ordered x.op)) same (call_heard c me bytes body call hears is))
 
-    go : (e : Entry) → Moves c me past leaves.0 e point → (Has (λ x. x ≡ other) leaves.0.waiting → Once (Hears c me (asking (256 + other.client) other.timestamp modes.Ordered other.op)) past)
+    go : (e : Entry) → MovesPoint c me past leaves.0 e point → (Has (λ x. x ≡ other) leaves.0.waiting → Once (Hears c me (asking (256 + other.client) other.timestamp modes.Ordered other.op)) past)
         → Once (Hears c me (asking (256 + other.client) other.timestamp modes.Ordered other.op)) (e ∷ past)
     go (Got p bytes) move below = got p bytes (heard (members c) me bytes) refl (subst (λ (q : Point). Has (λ x. x ≡ other) q.waiting) move h) below
     go (Tick p) move below = inr (below (subst (λ (q : Point). Has (λ x. x ≡ other) q.waiting) move h))
@@ -196,7 +196,7 @@ module _ (c : Configuration) (trace : List Entry) (run : Run c trace) (k : ℕ) 
       go true e = inl (has_filtered (λ x. x ≡ its) (λ x. nat_lt (last_time st x.client) x.timestamp) (λ x same. ap (λ (y : Call). nat_lt (last_time st y.client) y.timestamp) same ∙ e) waiting h)
       go false e = inr (ltb-false (last_time st k) call.timestamp e)
 
-  one_more : (newer past : List Entry) (e : Entry) (old point : Point) → history_of r trace ≡ newer ++ e ∷ past → HistoryReaches c r past old → HistoryReaches c r (e ∷ past) point → Moves c r past old e point → Waits old → Waits point
+  one_more : (newer past : List Entry) (e : Entry) (old point : Point) → history_of r trace ≡ newer ++ e ∷ past → HistoryReaches c r past old → HistoryReaches c r (e ∷ past) point → MovesPoint c r past old e point → Waits old → Waits point
   one_more newer past e old point splits before behind move (inr l) =
       let grows = times_grow c trace run r newer (e ∷ []) past old point k correct splits before behind in
       inr (omega arith)

@@ -15,7 +15,7 @@ use Rattle.protocol.specs.System.Run.{IsRun}
 use Rattle.protocol.specs.Replica.Selection.{is_quorum, is_weak_quorum, is_within, changes_of, passes_by, count_in}
 use Rattle.protocol.specs.Replica.Certificates.{taken, brought, checkpoint_from, checkpoint_in, with_checkpoint, insert_checkpoint, checkpoints_of, says_checkpoint, count_checkpoints, is_stable, installed_at, low, logged}
 use Rattle.protocol.specs.Replica.State.{State, execute}
-use Rattle.protocol.specs.Replica.RightReplica.{Point, HistoryReaches, May, Moves, MaySay, MayCheckpoint, IsRootWanted, HadQuorum, StartsAt, checkpoint_of, kept_states, IsNewViewChange}
+use Rattle.protocol.specs.Replica.RightReplica.{Point, HistoryReaches, May, MovesPoint, MaySay, MayCheckpoint, IsRootWanted, HadQuorum, StartsAt, checkpoint_of, kept_states, IsNewViewChange}
 use Rattle.protocol.specs.Laws.Bounds.{IsBatchEntryBounded, IsCheckpointBounded}
 use Rattle.protocol.specs.Laws.Histories.{AreReplicasSafe}
 use Rattle.protocol.proofs.Words.Bounds.{bounded, within_of_bounded}
@@ -197,7 +197,7 @@ module _ (c : Configuration) (setting : IsConfiguration c) (trace : List Entry) 
       kept : (e : Entry) (ss : List State) → point.snapshots ≡ ss → Each (Fits (e ∷ past)) ss → Each (Fits (e ∷ past)) point.snapshots
       kept e ss is h = subst (λ (xs : List State). Each (Fits (e ∷ past)) xs) (sym is) h
 
-      go : (e : Entry) → May c r past leaves.0 e → Moves c r past leaves.0 e point → history_of r trace ≡ (newer ++ e ∷ []) ++ past → Each (Fits (e ∷ past)) leaves.0.snapshots → Each (Fits (e ∷ past)) point.snapshots
+      go : (e : Entry) → May c r past leaves.0 e → MovesPoint c r past leaves.0 e point → history_of r trace ≡ (newer ++ e ∷ []) ++ past → Each (Fits (e ∷ past)) leaves.0.snapshots → Each (Fits (e ∷ past)) point.snapshots
       go (Got p bytes) may move is was = kept (Got p bytes) leaves.0.snapshots (ap (λ (q : Point). q.snapshots) move) was
       go (Tick p) may move is was = kept (Tick p) leaves.0.snapshots (ap (λ (q : Point). q.snapshots) move) was
       go (Sent p bytes) may move is was = kept (Sent p bytes) leaves.0.snapshots (ap (λ (q : Point). q.snapshots) move) was

@@ -9,7 +9,7 @@ use Rattle.progress.specs.Redelivered.{AllRedelivered, StaysActive, StaysInMarks
 
 -- Each correct replica has this batch logged for the number in the view, as it has each batch of the new view. The
 -- number stays within its marks.
-pub record IsBegun (c : Configuration) (v i : ℕ) (later start : List Entry) : Type 0 where
+pub record ViewIsBegun (c : Configuration) (v i : ℕ) (later start : List Entry) : Type 0 where
   pub batch : List ℕ
   pub each : (q : ℕ) → is_correct_replica c q ≡ true
       → StaysInMarks c i later start q × (logged c q (history_of q start) v i ≡ Some batch)
@@ -24,5 +24,5 @@ BegunNumbersAreExecuted =
     → (v m : ℕ) → is_correct_replica c (primary c v) ≡ true
     → ((q : ℕ) → is_correct_replica c q ≡ true → StaysActive c v later start q) → AllRedelivered c later start
     → (r : ℕ) → is_correct_replica c r ≡ true
-    → ((i : ℕ) → reached start r < i → i ≤ m → IsBegun c v i later start ⊎ IsGiven c v i later start)
+    → ((i : ℕ) → reached start r < i → i ≤ m → ViewIsBegun c v i later start ⊎ IsGiven c v i later start)
     → m ≤ reached (later ++ start) r

@@ -18,7 +18,7 @@ AreLevel c trace v start root =
 -- The view's primary is correct and has a key left. Each correct replica has left for the view, or is in it already,
 -- and none has left for a later one; their view changes are level. Until the primary is in the view, it has each batch
 -- above the mark that a correct replica holds prepared in an earlier view.
-pub record IsNextView (c : Configuration) (trace : List Entry) (v start : ℕ) (root : List ℕ) : Type 0 where
+pub record NextViewIsReady (c : Configuration) (trace : List Entry) (v start : ℕ) (root : List ℕ) : Type 0 where
   pub above : 1 ≤ v
   pub from : is_correct_replica c (primary c v) ≡ true
   pub keys : AreKeysSpent (history_of (primary c v) trace) → ⊥
@@ -34,5 +34,5 @@ pub record IsNextView (c : Configuration) (trace : List Entry) (v start : ℕ) (
 abbrev pub NextViewsAreEntered : Type 0
 NextViewsAreEntered =
     (c : Configuration) → IsConfiguration c → (trace : List Entry) → IsRun c trace → OnlyTheseStopped c [] trace
-    → Unforged c trace → (v start : ℕ) (root : List ℕ) → IsNextView c trace v start root → AllDelivered c trace
+    → Unforged c trace → (v start : ℕ) (root : List ℕ) → NextViewIsReady c trace v start root → AllDelivered c trace
     → (q : ℕ) → is_correct_replica c q ≡ true → is_active_in c (history_of q trace) v ≡ true

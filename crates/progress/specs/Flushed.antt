@@ -14,8 +14,8 @@ use Rattle.progress.specs.Delivery.{HasEntry, AllDelivered}
 use Rattle.progress.specs.Answered.{KeepsReply}
 
 -- some schedule makes the world
-abbrev pub IsReached : Configuration → World → Type 0
-IsReached c w = (steps : List Step) × StepsLead c new_world steps (reverse w.past) w
+abbrev pub WorldIsReached : Configuration → World → Type 0
+WorldIsReached c w = (steps : List Step) × StepsLead c new_world steps (reverse w.past) w
 
 -- the last step is a flush
 abbrev pub EndsInFlush : List Step → Type 0
@@ -29,7 +29,7 @@ EndsInFlush (step ∷ next ∷ steps) = EndsInFlush (next ∷ steps)
 abbrev pub FlushesDeliverAll : Type 0
 FlushesDeliverAll =
     (c : Configuration) (w v : World) (steps : List Step) (entries : List Entry)
-    → IsReached c w → StepsLead c w steps entries v → EndsInFlush steps
+    → WorldIsReached c w → StepsLead c w steps entries v → EndsInFlush steps
     → (v.past ≡ reverse entries ++ w.past) × AllDelivered c (reverse entries)
 
 -- The world that a tick of the client and a flush make.
@@ -40,7 +40,7 @@ AsksAndFlushes c client w entries v = StepsLead c w (ticks (client_party client)
 -- reply. The client's tick and a flush make it accept, if nobody has stopped at the end.
 abbrev pub FlushesBringAnswers : Type 0
 FlushesBringAnswers =
-    (c : Configuration) → IsConfiguration c → (w v : World) (entries : List Entry) → IsReached c w
+    (c : Configuration) → IsConfiguration c → (w v : World) (entries : List Entry) → WorldIsReached c w
     → (k : ℕ) (call : OpenCall) (keeps : ℕ → Bool) → AsksAndFlushes c k w entries v
     → IsRun c v.past → OnlyTheseStopped c [] v.past → Unforged c v.past → NoCollision c v.past
     → is_correct_client c (client_party k) ≡ true → open_call (history_of (client_party k) w.past) ≡ Some call

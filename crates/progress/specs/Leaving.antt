@@ -36,14 +36,14 @@ ViewChangesAreWithin =
     → (vc : ViewChangeData) → IsNewViewChange c r past point vc → is_within c vc ≡ true
 
 -- A frame has room for each new view change for the view that the replica may send: some bytes say it.
-abbrev pub HasRoom : Configuration → ℕ → List Entry → Point → ℕ → Type 0
-HasRoom c me past point v =
+abbrev pub FrameHasRoom : Configuration → ℕ → List Entry → Point → ℕ → Type 0
+FrameHasRoom c me past point v =
     (vc : ViewChangeData) → vc.view ≡ v → IsNewViewChange c me past point vc
     → (bytes : List ℕ) × (said bytes ≡ Some (record { sender = me; message = ViewChange vc }))
 
 -- a request waits, or the replica is inactive
-abbrev pub IsWaiting : Configuration → List Entry → Point → Type 0
-IsWaiting c past point = (point.waiting ≢ []) ⊎ (view c past < target past)
+abbrev pub WaitsOrIsInactive : Configuration → List Entry → Point → Type 0
+WaitsOrIsInactive c past point = (point.waiting ≢ []) ⊎ (view c past < target past)
 
 -- Nobody has stopped. Time goes by at a correct replica that has a waiting request or is inactive. Then it has sent a
 -- view change for the view after the one that it was in or left for, or for a later one, if a frame has room for it and
@@ -54,8 +54,8 @@ WaitingReplicasLeave =
     → OnlyTheseStopped c [] (later ++ Tick r ∷ start) → Unforged c (later ++ Tick r ∷ start)
     → is_correct_replica c r ≡ true → is_number (suc (sought_view c (history_of r start))) ≡ true
     → ((point : Point) → HistoryReaches c r (history_of r start) point
-    → IsWaiting c (history_of r start) point
-    × HasRoom c r (Tick r ∷ history_of r start) point (suc (sought_view c (history_of r start))))
+    → WaitsOrIsInactive c (history_of r start) point
+    × FrameHasRoom c r (Tick r ∷ history_of r start) point (suc (sought_view c (history_of r start))))
     → (sought_view c (history_of r start) < target (history_of r (later ++ Tick r ∷ start)))
     ⊎ AreKeysSpent (history_of r start)
 

@@ -13,13 +13,13 @@ use Rattle.protocol.specs.Client.RightClient.{OpenCall, open_call}
 use Rattle.protocol.specs.Space.Linear.{reached}
 use Rattle.progress.specs.Delivery.{HasEntry, AllDelivered}
 use Rattle.progress.specs.Redelivered.{AllRedelivered, IsGiven}
-use Rattle.progress.specs.Begun.{IsBegun}
-use Rattle.progress.specs.Changing.{IsNextView}
+use Rattle.progress.specs.Begun.{ViewIsBegun}
+use Rattle.progress.specs.Changing.{NextViewIsReady}
 
 -- the new view or the primary assigned this batch to the number
-abbrev pub HasNumber : Configuration → ℕ → ℕ → List ℕ → List Entry → List Entry → Type 0
-HasNumber c v i batch later start =
-    ((begun : IsBegun c v i later start) × (begun.batch ≡ batch))
+abbrev pub BatchHasNumber : Configuration → ℕ → ℕ → List ℕ → List Entry → List Entry → Type 0
+BatchHasNumber c v i batch later start =
+    ((begun : ViewIsBegun c v i later start) × (begun.batch ≡ batch))
     ⊎ ((given : IsGiven c v i later start) × (given.batch ≡ batch))
 
 -- The primary is correct, and each correct replica is active in the view at the end. The new view or the primary
@@ -31,7 +31,7 @@ pub record ViewGoesOn (c : Configuration) (v : ℕ) (later start : List Entry) :
   pub active : (q : ℕ) → is_correct_replica c q ≡ true → is_active_in c (history_of q (later ++ start)) v ≡ true
   pub numbers : (i : ℕ) (batch : List ℕ)
       → logged c (primary c v) (history_of (primary c v) (later ++ start)) v i ≡ Some batch
-      → (1 ≤ i) × HasNumber c v i batch later start
+      → (1 ≤ i) × BatchHasNumber c v i batch later start
   pub begun : (batch : List ℕ) → Once (BeginsViewWith c v batch) (history_of (primary c v) (later ++ start))
       → (i : ℕ) × (logged c (primary c v) (history_of (primary c v) (later ++ start)) v i ≡ Some batch)
   pub all : (r i j : ℕ) → is_correct_replica c r ≡ true → reached start r < j → j ≤ i
@@ -54,7 +54,7 @@ CallsOutliveChanges =
     → IsRun c start → OnlyTheseStopped c [] start → IsRun c (later ++ start) → OnlyTheseStopped c [] (later ++ start)
     → IsRun c (again ++ (later ++ start)) → OnlyTheseStopped c [] (again ++ (later ++ start))
     → Unforged c (again ++ (later ++ start)) → NoCollision c (again ++ (later ++ start))
-    → (v mark : ℕ) (root : List ℕ) → IsNextView c start v mark root → AllDelivered c start
+    → (v mark : ℕ) (root : List ℕ) → NextViewIsReady c start v mark root → AllDelivered c start
     → ViewGoesOn c v later start → AllRedelivered c later start
     → (k : ℕ) (call : OpenCall) → is_correct_client c (client_party k) ≡ true
     → open_call (history_of (client_party k) start) ≡ Some call

@@ -9,13 +9,13 @@ use Rattle.protocol.specs.System.Trace.{Entry, history_of, Once, Has, SendsBody,
 use Rattle.protocol.specs.System.Trace.Entry.{Got, Sent, Tick, Accepted}
 use Rattle.protocol.specs.System.Texts.{NoCollision}
 use Rattle.protocol.specs.System.Run.{IsRun, OnlyTheseStopped}
-use Rattle.protocol.specs.System.Schedule.{Step, deliver, flush, Made, World, StepsLead, AtInput}
+use Rattle.protocol.specs.System.Schedule.{Step, deliver, flush, Made, World, StepsLead, NoOutputIsNext}
 use Rattle.protocol.specs.Replica.Certificates.{is_active_in, low, is_in_marks, are_genuine}
 use Rattle.protocol.specs.Replica.Owed.{HasRequest}
 use Rattle.protocol.specs.Client.RightClient.{OpenCall, open_call}
 use Rattle.protocol.specs.Space.Linear.{reached}
 use Rattle.progress.specs.Delivery.{HasEntry, meant, AllDelivered}
-use Rattle.progress.specs.Flushed.{IsReached, AsksAndFlushes}
+use Rattle.progress.specs.Flushed.{WorldIsReached, AsksAndFlushes}
 
 -- Each correct party that a frame is for receives it in the later part, if it was ever sent.
 abbrev pub AllRedelivered : Configuration → List Entry → List Entry → Type 0
@@ -38,7 +38,7 @@ redelivery c w = deliveries c 0 w.frames ++ flush ∷ []
 -- From any world that is reached, this delivers all that was ever sent.
 abbrev pub RedeliveriesDeliverAll : Type 0
 RedeliveriesDeliverAll =
-    (c : Configuration) (w v : World) (entries : List Entry) → IsReached c w → StepsLead c w (redelivery c w) entries v
+    (c : Configuration) (w v : World) (entries : List Entry) → WorldIsReached c w → StepsLead c w (redelivery c w) entries v
     → AllRedelivered c (reverse entries) w.past
 
 -- ---- the law
@@ -96,8 +96,8 @@ GivenCallsAreAccepted =
 -- again, then all that is left, and then the client's tick and a flush make it accept.
 abbrev pub RedeliveriesBringAnswers : Type 0
 RedeliveriesBringAnswers =
-    (c : Configuration) → IsConfiguration c → (w u x : World) (first more : List Entry) → IsReached c w
-    → StepsLead c w (redelivery c w) first u → AtInput first
+    (c : Configuration) → IsConfiguration c → (w u x : World) (first more : List Entry) → WorldIsReached c w
+    → StepsLead c w (redelivery c w) first u → NoOutputIsNext first
     → (k : ℕ) (call : OpenCall) → AsksAndFlushes c k u more x
     → IsRun c u.past → OnlyTheseStopped c [] u.past → IsRun c x.past → OnlyTheseStopped c [] x.past
     → Unforged c x.past → NoCollision c x.past

@@ -12,7 +12,7 @@ use Rattle.protocol.specs.Replica.Certificates.{target, low, is_in_marks, are_ge
 use Rattle.protocol.specs.Replica.Owed.{AreKeysSpent}
 use Rattle.protocol.specs.Client.RightClient.{OpenCall, open_call}
 use Rattle.protocol.specs.Space.Linear.{reached}
-use Rattle.protocol.specs.Laws.Histories.{Takes}
+use Rattle.protocol.specs.Laws.Histories.{TakesOrSendsNewView}
 use Rattle.progress.specs.Delivery.{HasEntry, AllDelivered}
 use Rattle.progress.specs.Redelivered.{AllRedelivered, StaysActive}
 use Rattle.progress.specs.FirstView.{NoneInstalls}
@@ -33,7 +33,7 @@ pub record SecondHasRoom (c : Configuration) (later start : List Entry) : Type 0
 -- The first view is silent. The second one's primary is correct, began it with no batch, and has room for numbers.
 pub record SecondGoesOn (c : Configuration) (later start : List Entry) : Type 0 where
   pub next : SecondIsNext c (later ++ start)
-  pub bare : (new : NewViewData) → Once (Takes c new) (history_of (primary c 1) (later ++ start)) → new.batches ≡ []
+  pub bare : (new : NewViewData) → Once (TakesOrSendsNewView c new) (history_of (primary c 1) (later ++ start)) → new.batches ≡ []
   pub room : SecondHasRoom c later start
 
 -- Nobody has stopped, each correct replica stays active in the second view, and that goes on. A correct client with an

@@ -11,7 +11,7 @@ use Rattle.authenticator.specs.Membership.{Membership}
 use Rattle.signing.specs.Heard.{heard}
 use Rattle.signing.proofs.Heard.{heard_was_opened}
 use Rattle.wire.specs.Marks.{asks_read}
-use Rattle.read_only.specs.Hearing.{HearsNoRead, read_only_request}
+use Rattle.read_only.specs.Hearing.{NobodyHearsRead, read_only_request}
 
 -- whether a frame has the marks, by its message and the bytes after it
 abbrev has_marks : MessageData → List ℕ → Bool
@@ -36,7 +36,7 @@ heard_is_marked bytes m me sender timestamp op h =
 
 -- so nobody hears one from bytes without them
 pub no_marks : (bytes : List ℕ) (of_requests read_only : Bool) → of_requests ≡ (slice_index bytes 4 == 0x41) → read_only ≡ (slice_index bytes 15 == 0x01)
-    → (of_requests && read_only) ≡ false → HearsNoRead bytes
+    → (of_requests && read_only) ≡ false → NobodyHearsRead bytes
 no_marks bytes of_requests read_only e f unmarked m me sender timestamp op h =
     let same : (of_requests && read_only) ≡ asks_read bytes = ap (λ b. b && read_only) e ∙ ap (λ b. (slice_index bytes 4 == 0x41) && b) f in
     false≢true (sym unmarked ∙ same ∙ heard_is_marked bytes m me sender timestamp op h)

@@ -42,8 +42,8 @@ pub record IsReadReply (shelf : Shelf) (request : ReadRequest) (op : Operation) 
       (outcome (tuples_of shelf.space.now) request.client.number op)
 
 -- This is a reply to the operation that the request asks for.
-abbrev pub AnswersRead : Shelf → ReadRequest → Reply → Type 0
-AnswersRead shelf request r =
+abbrev pub RepliesToRead : Shelf → ReadRequest → Reply → Type 0
+RepliesToRead shelf request r =
     (op : Operation) → SpellsOperation request.op.now op → IsReadReply shelf request op r
 
 -- ---- for private functions

@@ -15,8 +15,8 @@ read_only_request sender timestamp op =
     record { sender = sender; message = request timestamp modes.ReadOnly op }
 
 -- No party hears a read-only request from the bytes.
-abbrev pub HearsNoRead : List ℕ → Type 0
-HearsNoRead bytes =
+abbrev pub NobodyHearsRead : List ℕ → Type 0
+NobodyHearsRead bytes =
     (m : Membership) (me sender timestamp : ℕ) (op : Operation)
     → heard m me bytes ≢ Some (read_only_request sender timestamp op)
 

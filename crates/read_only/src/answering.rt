@@ -4,7 +4,7 @@ ghost use Rattle.std.specs.Prelude.{◌≡◌, ◌↔◌, IfOk, MatchResult};
 ghost use Rattle.tuple_codec.specs.OperationView.{outcome_of};
 ghost use Rattle.tuple_codec.specs.Spelling.{SpellsSomeOperation};
 ghost use Rattle.wire_format.specs.Spelling.{IsMessage};
-ghost use Rattle.read_only.specs.Answering.{AnswersRead, AnswersText, SpellsNoRead, SpellsRead, begins_as_read, read_reply, reply_data};
+ghost use Rattle.read_only.specs.Answering.{RepliesToRead, AnswersText, SpellsNoRead, SpellsRead, begins_as_read, read_reply, reply_data};
 
 use crate::hearing::ReadRequest;
 use crate::read_fault::ReadFault;
@@ -35,7 +35,7 @@ pub fn answer(
     arena: &mut Bump,
 ) -> Result<Reply, ReadFault>
     requires spelled { SpellsSomeOperation request.now.op.now }
-    ensures answer { IfOk result (AnswersRead shelf.now request.now) }
+    ensures answer { IfOk result (RepliesToRead shelf.now request.now) }
     ensures may { IfOk result (λ reply. IsMessage (reply_data reply)) }
     ensures not_read_only { (result ≡ Err ReadFault.NotReadOnly) ↔ SpellsNoRead request.now.op.now }
     ensures memory { (result ≡ Err ReadFault.NoMemory) → SpellsRead request.now.op.now }

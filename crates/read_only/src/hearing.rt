@@ -3,7 +3,7 @@
 ghost use Rattle.std.specs.Prelude.{◌≡◌, ◌==◌, slice_index, true, IfSome, IsFalse, IsNone};
 ghost use Rattle.signing.specs.Heard.{heard};
 ghost use Rattle.wire.specs.Marks.{asks_read};
-ghost use Rattle.read_only.specs.Hearing.{HearsNoRead, HearsRead};
+ghost use Rattle.read_only.specs.Hearing.{NobodyHearsRead, HearsRead};
 
 use authenticator::Ring;
 use signing::hear_request;
@@ -23,7 +23,7 @@ pub struct ReadRequest<'b> {
 /// time, and no memory.
 pub fn asks_read(bytes: &[u8]) -> bool
     ensures value { result ≡ asks_read bytes.now }
-    ensures none { IsFalse result → HearsNoRead bytes.now }
+    ensures none { IsFalse result → NobodyHearsRead bytes.now }
 {
     has_type_of_requests(bytes) && has_read_only_mode(bytes)
 }

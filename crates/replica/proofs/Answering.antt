@@ -34,7 +34,7 @@ use Rattle.wire_format.specs.Spelling.{is_signed}
 use Rattle.replica.specs.State.{JoinedData, AreOne}
 use Rattle.orderer.specs.Fitting.{given, FitsEvent}
 use Rattle.replica.specs.Entering.{event_of, TakesBytes}
-use Rattle.desk.specs.Fetching.{GivesPart, HasKept, HasNone}
+use Rattle.desk.specs.Fetching.{GivesPart, HasKept, KeepsNoState}
 use Rattle.desk.specs.DeskOf.{desk_of}
 use Rattle.replica.specs.Joined.{JoinedMatchesHistory, me_of}
 use Rattle.replica.proofs.Beginning.{rests}
@@ -98,7 +98,7 @@ module _ (r : JoinedData) (one : AreOne r.orderer r.desk) (sender : ReplicaId) (
         × AnswersInput c (me_of r) past (Got (me_of r) bytes) (given (me_of r) os) runs.holds.of_desk.point r.desk.executed.state.number
         × ((os ≡ []) ⊎ IsTaken c (me_of r) (event_of c r past runs bytes))
 
-    kept_none : HasNone r.desk k → Left []
+    kept_none : KeepsNoState r.desk k → Left []
     kept_none none = (
       begun,
       other_numbers_owe_none c (me_of r) (desk_of c r.desk) r.orderer.log past (Got (me_of r) bytes) [] sender.0 k fetch.index r.desk.executed.state.number fetch.level runs.holds (heard_so r one c past runs bytes body known hears)

@@ -47,12 +47,12 @@ use Rattle.claims.specs.ClaimsView.{ClaimsData}
 use Rattle.replica_histories.specs.Questions.{has_question}
 use Rattle.replica_histories.specs.Events as histories
 use Rattle.replica_histories.specs.Events.{IsTaken}
-use Rattle.replica_histories.specs.Changes.{CutsClaims, FitsChanges, Passes, KeepsChanges, IsNoBatch, IsNoChange}
+use Rattle.replica_histories.specs.Changes.{CutsClaims, FitsChanges, LogPassesEntry, KeepsChanges, IsNoBatch, IsNoChange}
 use Rattle.replica_histories.proofs.ChangesPassing.{inputs_enter, changes_stay, claims_are_above, batches_are_claimed}
 use Rattle.replica_histories.proofs.ChangesKept.{got_keep, heard_keep, others_bring_none}
 use Rattle.replica_histories.proofs.Questions.{others_owe_none}
-use Rattle.replica_histories.specs.Inputs.{asked, IsBesideLog}
-use Rattle.replica_histories.specs.Logs.{FitsLog, Takes}
+use Rattle.replica_histories.specs.Inputs.{replies_again, IsBesideLog}
+use Rattle.replica_histories.specs.Logs.{FitsLog, LogTakesBody}
 use Rattle.replica_histories.proofs.Entering.{inputs_fit}
 use Rattle.replica_histories.proofs.Resting.{held_are_settled}
 use Rattle.replica_histories.proofs.Counting.{batches_count, batches_drop, prepares_count, prepares_drop, commits_count, commits_drop, others_drop, mapped_none}
@@ -63,7 +63,7 @@ use Rattle.replica.specs.Going.{NothingIsLeft}
 use Rattle.orderer.specs.Taking.{TakesBatch, TakesPrepare, TakesCommit}
 use Rattle.replica.specs.Joined.{JoinedMatchesHistory, me_of}
 use Rattle.orderer.specs.State.{OrdererData}
-use Rattle.orderer.specs.Fitting.{FitsEvent, changes_of}
+use Rattle.orderer.specs.Fitting.{FitsEvent, changes_held}
 use Rattle.orderer.specs.Going.{IsSameLog, IsVotedBut}
 use Rattle.replica.specs.Entering.{event_of, TakesBytes, TakesMessage}
 use Rattle.replica.proofs.Choosing.{active_begins_none}
@@ -88,7 +88,7 @@ rests c r past runs =
 -- it is no ordered request, no view change and no new view, and asks for no part of a state
 pub record IsNoCall (c : Configuration) (said : Option Body) : Type 0 where
   pub call : option_and_then (call_in c) said ≡ None
-  pub asks : (st : State) → asked st said ≡ []
+  pub asks : (st : State) → replies_again st said ≡ []
   pub parts : has_question said ≡ false
   pub views : option_and_then (new_view_from c) said ≡ None
   pub changes : IsNoChange said
@@ -99,12 +99,12 @@ none_taken c past e h = ap (option_and_then (λ (new : NewViewData). then_some (
 
 -- With this log and these claims, the view-change data fit after the bytes.
 abbrev pub ChangesFit : (r : JoinedData) (c : Configuration) (past : List Entry) → List ℕ → LogData → ClaimsData → Type 0
-ChangesFit r c past bytes after claims = Passes c (me_of r) past (Got (me_of r) bytes) r.orderer.log after
-    → FitsChanges c (me_of r) after (record (changes_of r.orderer) { claims = claims }) (Got (me_of r) bytes ∷ past)
+ChangesFit r c past bytes after claims = LogPassesEntry c (me_of r) past (Got (me_of r) bytes) r.orderer.log after
+    → FitsChanges c (me_of r) after (record (changes_held r.orderer) { claims = claims }) (Got (me_of r) bytes ∷ past)
 
 -- The log takes the bytes, which count.
 pub record TakesOne (r : JoinedData) (c : Configuration) (past : List Entry) (runs : JoinedMatchesHistory c r past) (bytes : List ℕ) (after : LogData) (claims : ClaimsData) : Type 0 where
-  pub takes : Takes c (me_of r) (heard (members c) (me_of r) bytes) r.orderer.log after
+  pub takes : LogTakesBody c (me_of r) (heard (members c) (me_of r) bytes) r.orderer.log after
   pub none : IsNoCall c (heard (members c) (me_of r) bytes)
   pub counts : IsTaken c (me_of r) (event_of c r past runs bytes)
   pub changes : ChangesFit r c past bytes after claims
@@ -117,15 +117,15 @@ module _ (r : JoinedData) (one : AreOne r.orderer r.desk) where
 
   -- So they do if the bytes change no view-change data, and the low mark stays.
   pub changes_kept : (c : Configuration) (past : List Entry) (runs : JoinedMatchesHistory c r past) (bytes : List ℕ) (after : LogData) → IsSameLog r.orderer.log after → after.low ≡ r.orderer.log.low
-      → (Passes c (me_of r) past (Got (me_of r) bytes) r.orderer.log after → KeepsChanges c (me_of r) past (Got (me_of r) bytes)) → ChangesFit r c past bytes after r.orderer.claims
+      → (LogPassesEntry c (me_of r) past (Got (me_of r) bytes) r.orderer.log after → KeepsChanges c (me_of r) past (Got (me_of r) bytes)) → ChangesFit r c past bytes after r.orderer.claims
   changes_kept c past runs bytes after same low keeps passes =
-      changes_stay c (me_of r) past (Got (me_of r) bytes) r.orderer.log after (changes_of r.orderer) r.orderer.claims passes (record { view = same.view; active = same.active }) (keeps passes)
+      changes_stay c (me_of r) past (Got (me_of r) bytes) r.orderer.log after (changes_held r.orderer) r.orderer.claims passes (record { view = same.view; active = same.active }) (keeps passes)
       (subst (λ (n : ℕ). CutsClaims n r.orderer.claims r.orderer.claims) (sym low)
       (claims_are_above c (me_of r) r.orderer.log past r.orderer.claims runs.holds.of_log.fits runs.changes.claims)) runs.changes
 
   -- bytes that are no ordered request, of which the log may take something
   pub begins_with : (c : Configuration) (past : List Entry) (runs : JoinedMatchesHistory c r past) (bytes : List ℕ) (after : LogData) (claims : ClaimsData)
-      → IsSameLog r.orderer.log after → Takes c (me_of r) (heard (members c) (me_of r) bytes) r.orderer.log after → IsNoCall c (heard (members c) (me_of r) bytes)
+      → IsSameLog r.orderer.log after → LogTakesBody c (me_of r) (heard (members c) (me_of r) bytes) r.orderer.log after → IsNoCall c (heard (members c) (me_of r) bytes)
       → ChangesFit r c past bytes after claims
       → PartsFitEvent c (event_of c r past runs bytes) (record r.orderer { log = after; claims = claims }) r.desk [] []
   begins_with c past runs bytes after claims same takes none changes = record {
@@ -161,7 +161,7 @@ module _ (r : JoinedData) (one : AreOne r.orderer r.desk) where
   -- Dropped bytes change nothing.
   pub drops : (bytes : List ℕ)
       → ((c : Configuration) (past : List Entry) → JoinedMatchesHistory c r past → members c ≡ r.desk.membership
-      → Takes c (me_of r) (heard (members c) (me_of r) bytes) r.orderer.log r.orderer.log × IsNoCall c (heard (members c) (me_of r) bytes))
+      → LogTakesBody c (me_of r) (heard (members c) (me_of r) bytes) r.orderer.log r.orderer.log × IsNoCall c (heard (members c) (me_of r) bytes))
       → TakesBytes bytes r touched.Nothing r []
   drops bytes none = record {
     party = one_self r;
@@ -315,7 +315,7 @@ prepare_dropped r sender p new one t bytes h =
     subst (λ (o : OrdererData). TakesBytes bytes r touched.Nothing (record r { orderer = o }) []) (sym t.1) (drops r one bytes none)
   where
     none : (c : Configuration) (past : List Entry) → JoinedMatchesHistory c r past → members c ≡ r.desk.membership
-        → Takes c (me_of r) (heard (members c) (me_of r) bytes) r.orderer.log r.orderer.log × IsNoCall c (heard (members c) (me_of r) bytes)
+        → LogTakesBody c (me_of r) (heard (members c) (me_of r) bytes) r.orderer.log r.orderer.log × IsNoCall c (heard (members c) (me_of r) bytes)
     none c past runs known =
         let hears = heard_by r one c bytes _ known h in
         let fault = some_fault _ t.0 in (
@@ -329,7 +329,7 @@ commit_dropped r sender p new one t bytes h =
     subst (λ (o : OrdererData). TakesBytes bytes r touched.Nothing (record r { orderer = o }) []) (sym t.1) (drops r one bytes none)
   where
     none : (c : Configuration) (past : List Entry) → JoinedMatchesHistory c r past → members c ≡ r.desk.membership
-        → Takes c (me_of r) (heard (members c) (me_of r) bytes) r.orderer.log r.orderer.log × IsNoCall c (heard (members c) (me_of r) bytes)
+        → LogTakesBody c (me_of r) (heard (members c) (me_of r) bytes) r.orderer.log r.orderer.log × IsNoCall c (heard (members c) (me_of r) bytes)
     none c past runs known =
         let hears = heard_by r one c bytes _ known h in
         let fault = some_fault _ t.0 in (
@@ -349,7 +349,7 @@ batch_dropped r sender p new one t bytes h =
     why c known (inr e) = inr (ap (λ (m : Membership). are_heard m (me_of r) (requests_of p.batch.text.items)) (known ∙ one.1) ∙ e)
 
     none : (c : Configuration) (past : List Entry) → JoinedMatchesHistory c r past → members c ≡ r.desk.membership
-        → Takes c (me_of r) (heard (members c) (me_of r) bytes) r.orderer.log r.orderer.log × IsNoCall c (heard (members c) (me_of r) bytes)
+        → LogTakesBody c (me_of r) (heard (members c) (me_of r) bytes) r.orderer.log r.orderer.log × IsNoCall c (heard (members c) (me_of r) bytes)
     none c past runs known =
         let hears = heard_by r one c bytes _ known h in (
           batches_drop c (me_of r) r.orderer.log past sender.0 p.view.0 p.number.0 p.batch.text.items bytes runs.holds.of_log.fits hears (why c known t.0),
@@ -393,7 +393,7 @@ batch_taken r sender p new one (free, were_heard, (claims, adds, is)) bytes h =
           takes = counts.1;
           none = batch_none r bytes c sender.0 p.view.0 p.number.0 p.batch.text.items hears;
           counts = (record { sender = sender.0; message = PrePrepare p.view.0 p.number.0 p.batch.text.items }, hears, counts.0);
-          changes = λ passes. batches_are_claimed c (me_of r) past (Got (me_of r) bytes) r.orderer.log (changes_of r.orderer) claims sender.0 p.number.0 p.batch.text.items passes fits.within
+          changes = λ passes. batches_are_claimed c (me_of r) past (Got (me_of r) bytes) r.orderer.log (changes_held r.orderer) claims sender.0 p.number.0 p.batch.text.items passes fits.within
               (no_batch r.orderer.log p.number.0 fits.within (no_digest (logs.logged_digest r.orderer.log p.number.0) (sha256 p.batch.text.items) (no_fault_later _ beside free)))
               (hears ∙ ap (λ (v : ℕ). Some (record { sender = sender.0; message = PrePrepare v p.number.0 p.batch.text.items })) fits.view) adds runs.changes;
         }

@@ -26,7 +26,7 @@ use Rattle.desk.specs.State.{DeskData, OpenData}
 use Rattle.desk.specs.Waiting.{with_view}
 use Rattle.desk.specs.Desking.{desk_above}
 use Rattle.replica.specs.Desks.{PartsFitEvent}
-use Rattle.replica.specs.EnteringViews.{Enters, FetchesStart}
+use Rattle.replica.specs.EnteringViews.{EntersView, FetchesStart}
 use Rattle.orderer.specs.Fitting.{given, FitsEvent}
 use Rattle.orderer.specs.EnteringViews.{SaysVotesOf, entering}
 use Rattle.desk.specs.Begun.{AreBegun}
@@ -34,10 +34,10 @@ use Rattle.replica.specs.Fetching.{SaysFetch}
 use Rattle.desk.specs.Fetching.{aimed_at, aiming, fetch_of}
 use Rattle.desk.specs.DeskOf.{desk_of, IsDeskOf}
 use Rattle.replica.specs.Going.{IsOneParty}
-use Rattle.orderer.specs.Saying.{Says}
+use Rattle.orderer.specs.Saying.{SaysToOthers}
 use Rattle.replica.proofs.EnteringViews.{begun_data, begun_desk, begun_is}
 use Rattle.replica.proofs.Following.{aim_of, aimed_same, aims_desk}
-use Rattle.orderer.specs.Going.{GoesOn, IsVoted, IsVotedAll}
+use Rattle.orderer.specs.Going.{KeepsFitting, NoVoteIsDue, IsVotedAll}
 use Rattle.replica.proofs.StartsFetched.{start_aims}
 use Rattle.replica.proofs.ViewsEntered.{FetchedSo, unlogged_voted}
 
@@ -50,17 +50,17 @@ past_end (x ∷ xs) zero l = absurd (omega (arith, l))
 past_end (x ∷ xs) (suc k) l = past_end xs k (omega (arith, l))
 
 -- if a view begins, only for numbers of the new view
-pub asks_there : (log : LogData) (new : NewViewData) → IsLog log → new.start < 2 ^ 48 → (i : ℕ) → ((new.start < i) × (i ≤ new.start + length new.batches)) ⊎ IsVoted (begun_log log new) i
+pub asks_there : (log : LogData) (new : NewViewData) → IsLog log → new.start < 2 ^ 48 → (i : ℕ) → ((new.start < i) × (i ≤ new.start + length new.batches)) ⊎ NoVoteIsDue (begun_log log new) i
 asks_there log new is small i = go (logs.is_in_marks (begun_log log new) i) refl
   where
     inside : new.start < i → logs.is_in_marks (begun_log log new) i ≡ true → (b : Bool) → nat_le i (new.start + length new.batches) ≡ b
-        → ((new.start < i) × (i ≤ new.start + length new.batches)) ⊎ IsVoted (begun_log log new) i
+        → ((new.start < i) × (i ≤ new.start + length new.batches)) ⊎ NoVoteIsDue (begun_log log new) i
     inside above w true l = inl (above, leb-true i (new.start + length new.batches) l)
     inside above w false l =
         let over = leb-false i (new.start + length new.batches) l in
         inr (unlogged_voted (begun_log log new) i (begun_batch log new is small i w above ∙ past_end new.batches (i - suc new.start) (omega (arith, over, above))))
 
-    go : (b : Bool) → logs.is_in_marks (begun_log log new) i ≡ b → ((new.start < i) × (i ≤ new.start + length new.batches)) ⊎ IsVoted (begun_log log new) i
+    go : (b : Bool) → logs.is_in_marks (begun_log log new) i ≡ b → ((new.start < i) × (i ≤ new.start + length new.batches)) ⊎ NoVoteIsDue (begun_log log new) i
     go true w =
         let over = above_low (begun_log log new) i w in
         let low = begun_low log new is small in
@@ -95,7 +95,7 @@ pub record Begins (new : NewViewData) (own : Option (List ℕ)) (r : JoinedData)
   pub new_is : n ≡ record fetched { orderer = orderer }
 
 module _ (new : NewViewData) (own : Option (List ℕ)) (r : JoinedData) (before : List Output) (n : JoinedData) (after : List Output) (is : IsLog r.orderer.log) (small : new.start < 2 ^ 48)
-    (k : Enters new.view (start_of new) new.batches own r before n after) where
+    (k : EntersView new.view (start_of new) new.batches own r before n after) where
   abbrev last : ℕ
   last = new.start + length new.batches
 
@@ -194,8 +194,8 @@ module _ (new : NewViewData) (own : Option (List ℕ)) (r : JoinedData) (before 
 
   pub all_voted : IsLog r.orderer.log → new.start < 2 ^ 48 → IsVotedAll n.orderer.log
   all_voted is small i =
-      subst (λ (x : JoinedData). IsVoted x.orderer.log i) (sym k.new_is)
-      (k.votes.voted i (subst (λ (x : OrdererData). ((new.start < i) × (i ≤ new.start + length new.batches)) ⊎ IsVoted x.log i) (sym from.orderer) (asks_there r.orderer.log new is small i)))
+      subst (λ (x : JoinedData). NoVoteIsDue x.orderer.log i) (sym k.new_is)
+      (k.votes.voted i (subst (λ (x : OrdererData). ((new.start < i) × (i ≤ new.start + length new.batches)) ⊎ NoVoteIsDue x.log i) (sym from.orderer) (asks_there r.orderer.log new is small i)))
 
   -- What fits once the view has begun, stands in the end.
   module _ (c : Configuration) (s : Start) (known : members c ≡ r.orderer.endpoint.membership) (own_me : r.desk.me ≡ me) (is : IsDeskOf c r.desk)
@@ -209,7 +209,7 @@ module _ (new : NewViewData) (own : Option (List ℕ)) (r : JoinedData) (before 
         (subst (λ (desk : Desk). FitsEvent c me s the_orderer desk the_desk.waiting (start_due (desk_of c r.desk) new) before) (sym (begun_desk c the_low k.calls r.desk)) f)
 
     -- the fetch is sent
-    aimed : (said : List Output) → aimed_at r.desk < new.start → Says the_orderer (fetch_of (aim_of (start_of new) the_desk).transfer) before said → PartsFitEvent c s the_orderer (aiming (start_of new) the_desk) [] said
+    aimed : (said : List Output) → aimed_at r.desk < new.start → SaysToOthers the_orderer (fetch_of (aim_of (start_of new) the_desk).transfer) before said → PartsFitEvent c s the_orderer (aiming (start_of new) the_desk) [] said
     aimed said ahead says = record {
       is = aims_desk c s the_orderer the_desk the_desk.waiting (start_of new) before said (begun_is c the_low k.calls r.desk is);
       fits = subst (λ (m : ℕ). FitsEvent c m s the_orderer (desk_of c (aiming (start_of new) the_desk)) the_desk.waiting [] said) (sym own_me)
@@ -226,7 +226,7 @@ module _ (new : NewViewData) (own : Option (List ℕ)) (r : JoinedData) (before 
     says_it : (said : List Output) → aimed_at r.desk < new.start → SaysFetch (record mid { desk = aiming (start_of new) the_desk }) before said → PartsFitEvent c s the_orderer (aiming (start_of new) the_desk) [] said
     says_it said ahead (inl h) = absurd (let bad : Some (aim_of (start_of new) the_desk) ≡ None = h.0 in cc)
     says_it said ahead (inr h) =
-        aimed said ahead (subst (λ (o : OpenData). Says the_orderer (fetch_of o.transfer) before said) (sym (some_injective (aim_of (start_of new) the_desk) h.0 h.1)) h.2)
+        aimed said ahead (subst (λ (o : OpenData). SaysToOthers the_orderer (fetch_of o.transfer) before said) (sym (some_injective (aim_of (start_of new) the_desk) h.0 h.1)) h.2)
 
     at_start : (fetched : JoinedData) (said : List Output) → FetchesStart (start_of new) mid before fetched said → PartsFitEvent c s the_orderer fetched.desk [] said
     at_start fetched said (inl h) =
@@ -249,5 +249,5 @@ module _ (new : NewViewData) (own : Option (List ℕ)) (r : JoinedData) (before 
         named : k.fetched.desk.me ≡ me
         named = from.me ∙ own_me
 
-        goes : GoesOn the_orderer k.said k.orderer after
-        goes = subst (λ (x : OrdererData). GoesOn x k.said k.orderer after) from.orderer k.votes.goes
+        goes : KeepsFitting the_orderer k.said k.orderer after
+        goes = subst (λ (x : OrdererData). KeepsFitting x k.said k.orderer after) from.orderer k.votes.goes

@@ -14,12 +14,12 @@ use Rattle.replica_histories.specs.Events as histories
 use Rattle.replica_histories.specs.Changes.{FitsChanges, IsNoChange}
 use Rattle.replica_histories.proofs.ChangesPassing.{inputs_enter}
 use Rattle.replica_histories.proofs.ChangesKept.{got_keep, others_bring_none}
-use Rattle.replica_histories.specs.Inputs.{IsBesideLog, asked, asked_by}
+use Rattle.replica_histories.specs.Inputs.{IsBesideLog, replies_again, asked_by}
 use Rattle.replica_histories.proofs.Counting.{others_drop}
 use Rattle.replica_histories.proofs.Entering.{inputs_fit}
 use Rattle.replica.specs.declared.taking.Touched.TheVariants as touched
 use Rattle.replica.specs.State.{JoinedData, AreOne}
-use Rattle.orderer.specs.Fitting.{FitsEvent, changes_of}
+use Rattle.orderer.specs.Fitting.{FitsEvent, changes_held}
 use Rattle.replica.specs.Entering.{event_of, TakesBytes}
 use Rattle.replica.specs.Joined.{JoinedMatchesHistory, me_of}
 use Rattle.replica.proofs.Beginning.{rests, changes_kept, none_taken}
@@ -48,7 +48,7 @@ module _ (r : JoinedData) (one : AreOne r.orderer r.desk) (c : Configuration) (p
 
   -- The view-change data fit, if the log stays, whatever the desk does.
   pub changes_beside : (later : Desk) (due : List Message) → new_view_from c body ≡ None → IsNoChange (Some body) → histories.Fits c (me_of r) (event_of c r past runs bytes) later r.orderer.log due []
-      → FitsChanges c (me_of r) r.orderer.log (changes_of r.orderer) (Got (me_of r) bytes ∷ past)
+      → FitsChanges c (me_of r) r.orderer.log (changes_held r.orderer) (Got (me_of r) bytes ∷ past)
   changes_beside later due none silent enters =
       changes_kept r one c past runs bytes r.orderer.log (same_log r.orderer.log) refl
       (λ passes. got_keep c (me_of r) past bytes r.orderer.log r.orderer.log passes (record { view = refl; active = refl }) (takes_none none) (λ i within. refl)
@@ -74,7 +74,7 @@ module _ (r : JoinedData) (one : AreOne r.orderer r.desk) (c : Configuration) (p
         waiting = rw (ap (option_and_then (call_in c)) heard_so ∙ beside.call) refl;
         transfer = refl;
         frames = λ frame h. inl h;
-        due_is = sym (ap (asked r.desk.executed.state) heard_so ∙ beside.asks r.desk.executed.state);
+        due_is = sym (ap (replies_again r.desk.executed.state) heard_so ∙ beside.asks r.desk.executed.state);
       })
 
 -- Such a dropped message changes nothing, and the replica owes nothing for it.

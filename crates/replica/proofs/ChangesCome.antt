@@ -23,16 +23,16 @@ use Rattle.protocol.proofs.Words.Options.{some_injective}
 use Rattle.view_change.specs.declared.change_fault.ChangeFault.{ChangeFault}
 use Rattle.view_change.specs.declared.changes.Change.{Change}
 use Rattle.view_change.specs.Laws.{ChangesAreJudged, HaveOneRule}
-use Rattle.view_change.specs.ReceivedData.{AreHeldFrom, HeldData, IsJoined, held_of, later_views, refusal_of, with_held}
-use Rattle.view_change.specs.ReceivedView.{IsHeldIn, configuration_of, held_as}
+use Rattle.view_change.specs.ReceivedData.{AreHeldFrom, HeldData, IsJoined, held_of, later_views, view_change_refusal, with_held}
+use Rattle.view_change.specs.ReceivedView.{IsHeldIn, judging_configuration, held_as}
 use Rattle.view_change.specs.Sets.{change_pair}
 use Rattle.view_change.proofs.Opening.{signed_is}
-use Rattle.replica_histories.specs.Questions.{AnswersInput, MovesOn, brings_part, has_part}
-use Rattle.replica_histories.specs.Changes.{FitsChanges, IsNoBatch, Passes}
+use Rattle.replica_histories.specs.Questions.{AnswersInput, OwesViewChange, brings_part, has_part}
+use Rattle.replica_histories.specs.Changes.{FitsChanges, IsNoBatch, LogPassesEntry}
 use Rattle.replica_histories.specs.Desk.{snapshot_of}
 use Rattle.replica_histories.specs.Events as histories
 use Rattle.replica_histories.specs.Events.{Start, IsTaken, after_outputs}
-use Rattle.replica_histories.specs.Inputs.{IsBesideLog, asked}
+use Rattle.replica_histories.specs.Inputs.{IsBesideLog, replies_again}
 use Rattle.replica_histories.specs.Received.{held_view}
 use Rattle.replica_histories.specs.Views.{entries_of}
 use Rattle.replica_histories.proofs.ChangesKept.{heard_are_signed, heard_keep}
@@ -54,13 +54,13 @@ use Rattle.desk.specs.DeskOf.{desk_of}
 use Rattle.replica.specs.Beginning.{BeginsView, MayBegin, HasNoView}
 use Rattle.orderer.specs.Changing.{IsJoinedBy, IsJoinedByNone, IsUnsayable, aimed_view, change_for}
 use Rattle.replica.specs.Changing.{ChangesView}
-use Rattle.orderer.specs.Fitting.{given, FitsEvent, changes_of}
+use Rattle.orderer.specs.Fitting.{given, FitsEvent, changes_held}
 use Rattle.replica.specs.Desks.{PartsFitEvent}
 use Rattle.replica.specs.Entering.{event_of, event_with, TakesBytes, TakesInput}
 use Rattle.replica.specs.Joined.{JoinedMatchesHistory, me_of}
 use Rattle.replica.specs.Going.{IsOneParty, NothingIsLeft}
 use Rattle.replica.specs.Numbering.{IsAllNumbered}
-use Rattle.orderer.specs.Receiving.{JudgesAlike, Receives}
+use Rattle.orderer.specs.Receiving.{JudgesAlike, ReceivesViewChange}
 use Rattle.orderer.proofs.ChangingViews.{unsaid_spent}
 use Rattle.replica.proofs.Beginning.{heard_by, none_taken, rests}
 use Rattle.replica.proofs.Choosing.{active_begins_none}
@@ -71,7 +71,7 @@ use Rattle.orderer.proofs.Staying.{numbers_alike, numbers_beside, said_on}
 -- a received view change is signed
 pub heard_is_signed : (o : OrdererData) (d : DeskData) (x : Change) (frame : List ℕ) → JudgesAlike o → AreOne o d
     → heard d.membership d.me frame ≡ Some (record { sender = x.sender.0; message = ViewChange (view_change_data x.change) })
-    → signed_change (configuration_of o.received) frame ≡ Some (change_pair x)
+    → signed_change (judging_configuration o.received) frame ≡ Some (change_pair x)
 heard_is_signed o d x frame rules one h = (rules c one.1 (sym one.2)).signed frame ∙ (heard_are_signed c d.me x.sender.0 (view_change_data x.change) frame h).0
   where
     c : Configuration
@@ -102,7 +102,7 @@ change_at_most c me bytes x signed = go (heard (members c) me bytes) refl
 -- it is no request, no fetch and no new view, and the log takes none of it
 record IsBesideAll (c : Configuration) (said : Option Body) : Type 0 where
   call : option_and_then (call_in c) said ≡ None
-  asks : (st : State) → asked st said ≡ []
+  asks : (st : State) → replies_again st said ≡ []
   parts : has_part said ≡ false
   views : option_and_then (new_view_from c) said ≡ None
   log : IsBesideLog said
@@ -143,10 +143,10 @@ module _ (r : JoinedData) (one : AreOne r.orderer r.desk) (bytes : List ℕ) whe
       due_is = sym (beside.asks r.desk.executed.state);
     })
 
-    passes : Passes c me past e r.orderer.log r.orderer.log
+    passes : LogPassesEntry c me past e r.orderer.log r.orderer.log
     passes = inputs_enter c me (desk_of c r.desk) (desk_of c r.desk) r.orderer.log r.orderer.log [] past e runs.holds enters
 
-    stands : (held : List (Option HeldData)) → FitsChanges c me r.orderer.log (record (changes_of r.orderer) { held = held }) (e ∷ past)
+    stands : (held : List (Option HeldData)) → FitsChanges c me r.orderer.log (record (changes_held r.orderer) { held = held }) (e ∷ past)
         → PartsFitEvent c (event_of c r past runs bytes) (holding held) r.desk [] []
     stands held changes = record {
       is = runs.is_desk;
@@ -168,18 +168,18 @@ some_fault None h = absurd (h refl)
 some_fault (Some x) h = (x, refl)
 
 module _ (r : JoinedData) (one : AreOne r.orderer r.desk) (rules : JudgesAlike r.orderer) (bytes : List ℕ) (x : ℕ × ViewChangeData)
-    (signed : signed_change (configuration_of r.orderer.received) bytes ≡ Some x) where
-  rule : (c : Configuration) (past : List Entry) → JoinedMatchesHistory c r past → members c ≡ r.desk.membership → HaveOneRule (configuration_of r.orderer.received) c
+    (signed : signed_change (judging_configuration r.orderer.received) bytes ≡ Some x) where
+  rule : (c : Configuration) (past : List Entry) → JoinedMatchesHistory c r past → members c ≡ r.desk.membership → HaveOneRule (judging_configuration r.orderer.received) c
   rule c past runs known = rules c (known ∙ one.1) (runs.is_desk.period_is ∙ sym one.2)
 
   signed_in : (c : Configuration) (past : List Entry) → JoinedMatchesHistory c r past → members c ≡ r.desk.membership → signed_change c bytes ≡ Some x
   signed_in c past runs known = sym ((rule c past runs known).signed bytes) ∙ signed
 
   -- a refused view change gives no reason to move
-  refused_move : ChangesAreJudged → refusal_of (configuration_of r.orderer.received) r.orderer.log.view r.orderer.received.held x ≢ None → (c : Configuration) (past : List Entry) (runs : JoinedMatchesHistory c r past) → members c ≡ r.desk.membership
-      → (outputs : List Entry) → MovesOn c (me_of r) past (Got (me_of r) bytes) outputs runs.holds.of_desk.point
+  refused_move : ChangesAreJudged → view_change_refusal (judging_configuration r.orderer.received) r.orderer.log.view r.orderer.received.held x ≢ None → (c : Configuration) (past : List Entry) (runs : JoinedMatchesHistory c r past) → members c ≡ r.desk.membership
+      → (outputs : List Entry) → OwesViewChange c (me_of r) past (Got (me_of r) bytes) outputs runs.holds.of_desk.point
   refused_move judge faulty c past runs known outputs vc other (inl t) may within says = absurd (no_time c (me_of r) (me_of r) past bytes runs.holds.of_desk.point.waiting vc.view t)
-  refused_move judge faulty c past runs known outputs vc other (inr (taken, joins)) may within says = absurd (faulty ((judge (configuration_of r.orderer.received) r.orderer.log.view r.orderer.received.held x).1 (above, inside, newer)))
+  refused_move judge faulty c past runs known outputs vc other (inr (taken, joins)) may within says = absurd (faulty ((judge (judging_configuration r.orderer.received) r.orderer.log.view r.orderer.received.held x).1 (above, inside, newer)))
     where
       its : ◌≡◌ {A = ℕ × ViewChangeData} (taken.0, taken.1) x
       its = go (change_at_most c (me_of r) bytes x (signed_in c past runs known))
@@ -196,7 +196,7 @@ module _ (r : JoinedData) (one : AreOne r.orderer r.desk) (rules : JudgesAlike r
       above : r.orderer.log.view < x.1.view
       above = let l = taken.3.0 in let is = runs.holds.of_log.fits.view in let same = ap (λ (y : ViewChangeData). y.view) change in omega (arith, l, is, same)
 
-      inside : is_within (configuration_of r.orderer.received) x.1 ≡ true
+      inside : is_within (judging_configuration r.orderer.received) x.1 ≡ true
       inside = (rule c past runs known).within x.1 ∙ ap (is_within c) (sym change) ∙ taken.3.1
 
       newer : (h : HeldData) → held_of r.orderer.received.held x.0 ≡ Some h → h.change.view < x.1.view
@@ -211,7 +211,7 @@ module _ (r : JoinedData) (one : AreOne r.orderer r.desk) (rules : JudgesAlike r
           omega (arith, l, latest, same)
 
   -- A signed view change that is refused changes nothing.
-  refused : ChangesAreJudged → refusal_of (configuration_of r.orderer.received) r.orderer.log.view r.orderer.received.held x ≢ None → TakesBytes bytes r touched.Nothing r []
+  refused : ChangesAreJudged → view_change_refusal (judging_configuration r.orderer.received) r.orderer.log.view r.orderer.received.held x ≢ None → TakesBytes bytes r touched.Nothing r []
   refused judge faulty = record {
     party = one_self r;
     begins = λ c past runs known.
@@ -228,9 +228,9 @@ module _ (r : JoinedData) (one : AreOne r.orderer r.desk) (rules : JudgesAlike r
   }
     where
       stays : (c : Configuration) (past : List Entry) (runs : JoinedMatchesHistory c r past) → members c ≡ r.desk.membership
-          → FitsChanges c (me_of r) r.orderer.log (changes_of r.orderer) (Got (me_of r) bytes ∷ past)
+          → FitsChanges c (me_of r) r.orderer.log (changes_held r.orderer) (Got (me_of r) bytes ∷ past)
       stays c past runs known =
-          changes_stay c (me_of r) past (Got (me_of r) bytes) r.orderer.log r.orderer.log (changes_of r.orderer) r.orderer.claims (passes r one bytes c past runs x is) (record { view = refl; active = refl })
+          changes_stay c (me_of r) past (Got (me_of r) bytes) r.orderer.log r.orderer.log (changes_held r.orderer) r.orderer.claims (passes r one bytes c past runs x is) (record { view = refl; active = refl })
           (heard_keep c (me_of r) past bytes (free r one bytes c past runs x is) (beside r one bytes c past runs x is).batch
           (λ s other. refused_bring_none c (me_of r) s bytes past r.orderer.received.held x fault.0 is at other runs.changes.received))
           (claims_are_above c (me_of r) r.orderer.log past r.orderer.claims runs.holds.of_log.fits runs.changes.claims) runs.changes
@@ -238,20 +238,20 @@ module _ (r : JoinedData) (one : AreOne r.orderer r.desk) (rules : JudgesAlike r
           is : signed_change c bytes ≡ Some x
           is = signed_in c past runs known
 
-          fault : (fault : ChangeFault) × (refusal_of (configuration_of r.orderer.received) r.orderer.log.view r.orderer.received.held x ≡ Some fault)
-          fault = some_fault (refusal_of (configuration_of r.orderer.received) r.orderer.log.view r.orderer.received.held x) faulty
+          fault : (fault : ChangeFault) × (view_change_refusal (judging_configuration r.orderer.received) r.orderer.log.view r.orderer.received.held x ≡ Some fault)
+          fault = some_fault (view_change_refusal (judging_configuration r.orderer.received) r.orderer.log.view r.orderer.received.held x) faulty
 
-          at : refusal_of c (view c past) r.orderer.received.held x ≡ Some fault.0
-          at = ap (λ (v : ℕ). refusal_of c v r.orderer.received.held x) runs.holds.of_log.fits.view
+          at : view_change_refusal c (view c past) r.orderer.received.held x ≡ Some fault.0
+          at = ap (λ (v : ℕ). view_change_refusal c v r.orderer.received.held x) runs.holds.of_log.fits.view
               ∙ sym ((rule c past runs known).untaken r.orderer.log.view r.orderer.received.held x) ∙ fault.1
 
 -- One that is stored in these bytes is refused: it is as late as itself.
 pub change_held : (r : JoinedData) (bytes : List ℕ) (h : HeldData) → AreOne r.orderer r.desk → JudgesAlike r.orderer → ChangesAreJudged → IsHeldIn r.orderer.received bytes h → TakesBytes bytes r touched.Nothing r []
 change_held r bytes h one rules judged is = refused r one rules bytes (h.sender, h.change) is.signed judged late
   where
-    late : refusal_of (configuration_of r.orderer.received) r.orderer.log.view r.orderer.received.held (h.sender, h.change) ≢ None
+    late : view_change_refusal (judging_configuration r.orderer.received) r.orderer.log.view r.orderer.received.held (h.sender, h.change) ≢ None
     late right =
-        let newer = ((judged (configuration_of r.orderer.received) r.orderer.log.view r.orderer.received.held (h.sender, h.change)).0 right).2 h is.held in
+        let newer = ((judged (judging_configuration r.orderer.received) r.orderer.log.view r.orderer.received.held (h.sender, h.change)).0 right).2 h is.held in
         omega (arith, newer)
 
 -- ---- what follows an input that a rule takes
@@ -270,7 +270,7 @@ record Comes (input : Entry) (old new : JoinedData) (outs : List Output) : Type 
 abbrev MovesAt : Entry → JoinedData → ℕ → Type 0
 MovesAt input old to =
     (c : Configuration) (past : List Entry) (runs : JoinedMatchesHistory c old past) → members c ≡ old.desk.membership → (outputs : List Entry)
-    → target (after_outputs (event_with c old past runs input) outputs) ≡ to → MovesOn c (me_of old) past input outputs runs.holds.of_desk.point
+    → target (after_outputs (event_with c old past runs input) outputs) ≡ to → OwesViewChange c (me_of old) past input outputs runs.holds.of_desk.point
 
 module _ (input : Entry) (old : JoinedData) (alone : AreOne old.orderer old.desk) where
   -- the replica may move to a later view, to which others move it
@@ -353,16 +353,16 @@ module _ (r : JoinedData) (x : Change) (bytes : List ℕ) (one : AreOne r.ordere
   abbrev vc : ViewChangeData
   vc = view_change_data x.change
 
-  signed : signed_change (configuration_of r.orderer.received) bytes ≡ Some (change_pair x)
+  signed : signed_change (judging_configuration r.orderer.received) bytes ≡ Some (change_pair x)
   signed = heard_is_signed r.orderer r.desk x bytes rules one h
 
-  module _ (right : refusal_of (configuration_of r.orderer.received) r.orderer.log.view r.orderer.received.held (change_pair x) ≡ None) where
+  module _ (right : view_change_refusal (judging_configuration r.orderer.received) r.orderer.log.view r.orderer.received.held (change_pair x) ≡ None) where
     abbrev with_it : JoinedData
     with_it = record r { orderer = holding r one bytes (with_held (held_as x bytes) r.orderer.received.held) }
 
-    judged : (r.orderer.log.view < vc.view) × (is_within (configuration_of r.orderer.received) vc ≡ true)
+    judged : (r.orderer.log.view < vc.view) × (is_within (judging_configuration r.orderer.received) vc ≡ true)
         × ((last : HeldData) → held_of r.orderer.received.held x.sender.0 ≡ Some last → last.change.view < vc.view)
-    judged = (judge (configuration_of r.orderer.received) r.orderer.log.view r.orderer.received.held (change_pair x)).0 right
+    judged = (judge (judging_configuration r.orderer.received) r.orderer.log.view r.orderer.received.held (change_pair x)).0 right
 
     -- no view change of its sender that is as late is stored
     later : held_view r.orderer.received.held x.sender.0 < vc.view
@@ -381,8 +381,8 @@ module _ (r : JoinedData) (x : Change) (bytes : List ℕ) (one : AreOne r.ordere
           (sym ((rule r one rules bytes (change_pair x) signed c past runs known).within vc) ∙ judged.1)
           (subst (λ (n : ℕ). n < vc.view) (sym (runs.changes.received.latest x.sender.0 (heard_are_signed c (me_of r) x.sender.0 vc bytes hears).1)) later)
 
-      holds : FitsChanges c (me_of r) r.orderer.log (record (changes_of r.orderer) { held = with_held (held_as x bytes) r.orderer.received.held }) (Got (me_of r) bytes ∷ past)
-      holds = changes_are_taken c (me_of r) past r.orderer.log (changes_of r.orderer) x.sender.0 vc bytes
+      holds : FitsChanges c (me_of r) r.orderer.log (record (changes_held r.orderer) { held = with_held (held_as x bytes) r.orderer.received.held }) (Got (me_of r) bytes ∷ past)
+      holds = changes_are_taken c (me_of r) past r.orderer.log (changes_held r.orderer) x.sender.0 vc bytes
           (passes r one bytes c past runs (change_pair x) (signed_in r one rules bytes (change_pair x) signed c past runs known)) hears
           (sym ((rule r one rules bytes (change_pair x) signed c past runs known).untaken r.orderer.log.view r.orderer.received.held (change_pair x)) ∙ right)
           runs.changes
@@ -404,7 +404,7 @@ module _ (r : JoinedData) (x : Change) (bytes : List ℕ) (one : AreOne r.ordere
     -- ---- the view to which others move the replica
 
     module _ (c : Configuration) (past : List Entry) (runs : JoinedMatchesHistory c r past) (known : members c ≡ r.desk.membership) where
-      passed : Passes c (me_of r) past (Got (me_of r) bytes) r.orderer.log r.orderer.log
+      passed : LogPassesEntry c (me_of r) past (Got (me_of r) bytes) r.orderer.log r.orderer.log
       passed = passes r one bytes c past runs (change_pair x) (signed_in r one rules bytes (change_pair x) signed c past runs known)
 
       faults_are : c.faults ≡ r.orderer.endpoint.membership.faults
@@ -414,20 +414,20 @@ module _ (r : JoinedData) (x : Change) (bytes : List ℕ) (one : AreOne r.ordere
       sought_is = ap₂ (λ (a b : ℕ). max a b) passed.fits_behind.view (holds c past runs known).target
 
       -- the views ahead in the history are those of the stored view changes
-      joined : AreHeldFrom (configuration_of with_it.orderer.received) 0 with_it.orderer.received.held → (v : ℕ) → HasToMove c (me_of r) past (Got (me_of r) bytes) runs.holds.of_desk.point.waiting v
+      joined : AreHeldFrom (judging_configuration with_it.orderer.received) 0 with_it.orderer.received.held → (v : ℕ) → HasToMove c (me_of r) past (Got (me_of r) bytes) runs.holds.of_desk.point.waiting v
           → IsJoined r.orderer.endpoint.membership.faults (later_views (me_of r) (aimed_view with_it.orderer) with_it.orderer.received.held) v
       joined each v (inl t) = absurd (no_time c (me_of r) (me_of r) past bytes runs.holds.of_desk.point.waiting v t)
       joined each v (inr (taken, joins)) =
           let f = holds c past runs known in
           subst (λ (n : ℕ). IsJoined n (later_views (me_of r) (aimed_view with_it.orderer) with_it.orderer.received.held) v) faults_are
           (subst (λ (t : ℕ). IsJoined c.faults (later_views (me_of r) t with_it.orderer.received.held) v) sought_is
-          (ahead_are_held c (configuration_of with_it.orderer.received) (me_of r) v (Got (me_of r) bytes ∷ past) with_it.orderer.received.held f.places each joins f.received))
+          (ahead_are_held c (judging_configuration with_it.orderer.received) (me_of r) v (Got (me_of r) bytes ∷ past) with_it.orderer.received.held f.places each joins f.received))
 
       -- none, if a view change for the view can't be sent
       unsaid_move : (v : ℕ) → IsJoinedBy with_it.orderer v → IsUnsayable with_it.orderer (change_for v (entries_of r.desk.snapshots) with_it.orderer) → (outputs : List Entry)
-          → MovesOn c (me_of r) past (Got (me_of r) bytes) outputs runs.holds.of_desk.point
+          → OwesViewChange c (me_of r) past (Got (me_of r) bytes) outputs runs.holds.of_desk.point
       unsaid_move v by unsaid outputs other_vc other reason may within says =
-          inr (all_are_spent c (me_of r) r.orderer.log (changes_of r.orderer) past spent runs.changes)
+          inr (all_are_spent c (me_of r) r.orderer.log (changes_held r.orderer) past spent runs.changes)
         where
           at : other_vc.view ≡ v
           at = joined_one r.orderer.endpoint.membership.faults other_vc.view v (later_views (me_of r) (aimed_view with_it.orderer) with_it.orderer.received.held) (joined by.0 other_vc.view reason) by.1
@@ -457,7 +457,7 @@ module _ (r : JoinedData) (x : Change) (bytes : List ℕ) (one : AreOne r.ordere
         absurd (omega (arith, many, few))
 
   -- The replica stores it and moves on.
-  pub change_taken : (received : OrdererData) (moved new : JoinedData) (said outs : List Output) (what : Touched) → Receives (held_as x bytes) r.orderer received true
+  pub change_taken : (received : OrdererData) (moved new : JoinedData) (said outs : List Output) (what : Touched) → ReceivesViewChange (held_as x bytes) r.orderer received true
       → MayJoin (record r { orderer = received }) [] moved said → MayBegin moved said what new outs → TakesBytes bytes r what new outs
   change_taken received moved new said outs what receives joins begins =
       may_begin (Got (me_of r) bytes) r one moved new said outs what begins (go joins)
@@ -473,6 +473,6 @@ module _ (r : JoinedData) (x : Change) (bytes : List ℕ) (one : AreOne r.ordere
           (subst (λ (os : List Output). Comes (Got (me_of r) bytes) r (record r { orderer = received }) os) (sym still) came)
 
   -- Or it refuses it.
-  pub change_refused : (received : OrdererData) → Receives (held_as x bytes) r.orderer received false → TakesBytes bytes r touched.Nothing (record r { orderer = received }) []
+  pub change_refused : (received : OrdererData) → ReceivesViewChange (held_as x bytes) r.orderer received false → TakesBytes bytes r touched.Nothing (record r { orderer = received }) []
   change_refused received receives =
       subst (λ (o : OrdererData). TakesBytes bytes r touched.Nothing (record r { orderer = o }) []) (sym receives.1) (refused r one rules bytes (change_pair x) signed judge receives.0)

@@ -12,11 +12,11 @@ use Rattle.protocol.specs.System.Trace.Entry.{Sent}
 use Rattle.protocol.specs.Replica.Certificates.{target, view as in_view, view}
 use Rattle.protocol.specs.Replica.RightReplica.{IsPreparedList, IsPrePreparedList, TimesOut, JoinsOthers, sought_view}
 use Rattle.view_change.specs.ReceivedData.{with_held, later_views, IsJoined}
-use Rattle.view_change.specs.ReceivedView.{configuration_of}
+use Rattle.view_change.specs.ReceivedView.{judging_configuration}
 use Rattle.replica_histories.specs.Desk.{Desk, point_of}
 use Rattle.replica_histories.specs.Events as events
 use Rattle.replica_histories.specs.Events.{Start, after_outputs}
-use Rattle.replica_histories.specs.Changes.{FitsChanges, Passes}
+use Rattle.replica_histories.specs.Changes.{FitsChanges, LogPassesEntry}
 use Rattle.replica_histories.specs.Views.{IsChange, entries_of}
 use Rattle.replica_histories.proofs.ChangesMade.{changes_are_sent}
 use Rattle.replica_histories.proofs.ChangesPassing.{outputs_pass}
@@ -29,7 +29,7 @@ use Rattle.orderer.specs.State.{OrdererData, IsOrderer}
 use Rattle.replica.specs.State.{JoinedData, AreOne}
 use Rattle.desk.specs.declared.waiting.WaitingRequest.{WaitingRequest}
 use Rattle.desk.specs.DeskOf.{waiting_calls, desk_of}
-use Rattle.orderer.specs.Fitting.{given, changes_of, FitsEvent}
+use Rattle.orderer.specs.Fitting.{given, changes_held, FitsEvent}
 use Rattle.orderer.specs.Going.{IsVotedAll}
 use Rattle.orderer.specs.Claiming.{SaysFrame}
 use Rattle.orderer.specs.Changing.{IsNextView, SignsChange, aimed_view, IsUnsayable, MaySignChange, change_for}
@@ -93,7 +93,7 @@ module _ (view : ℕ) (old : JoinedData) (signed : OrdererData) (frame : List �
 
         go : HasReason c s old view → TimesOut c me past desk.waiting view ⊎ JoinsOthers c me past view
         go (inl t) = inl (ticks_are_reasons c me view s desk o.log [] (given me before) t.0 (either t.1) t.2 f.fits)
-        go (inr j) = inr (held_are_joined c (configuration_of o.received) me view past o.received.held f.changes.places j.0
+        go (inr j) = inr (held_are_joined c (judging_configuration o.received) me view past o.received.held f.changes.places j.0
             (subst (λ (n : ℕ). IsJoined n (later_views me (sought_view c past) o.received.held) view) faults_are
             (subst (λ (t : ℕ). IsJoined o.endpoint.membership.faults (later_views me t o.received.held) view) sought j.1)) f.changes.received)
 
@@ -121,12 +121,12 @@ module _ (view : ℕ) (old : JoinedData) (signed : OrdererData) (frame : List �
     place : me < replicas c
     place = let is = f.fits.of_log.is_log.me in let own = f.fits.of_log.own in let faults = f.fits.of_log.faults in omega (arith, is, own, faults)
 
-    held : FitsChanges c me (left o.log) (changes_of new) (Sent me frame ∷ past)
+    held : FitsChanges c me (left o.log) (changes_held new) (Sent me frame ∷ past)
     held =
-        subst (λ (v : ℕ). FitsChanges c me (left o.log) (record (changes_of new) { target = v }) (Sent me frame ∷ past)) is_view
-        (subst (λ (b : List ℕ). FitsChanges c me (left o.log) (record (changes_of new) { target = k.own.change.view }) (Sent me b ∷ past)) k.frame_is
-        (changes_are_sent c me (o.spent + 1) past o.log (changes_of o) k.own
-        (subst (λ (b : List ℕ). Passes c me past (Sent me b) o.log (left o.log)) (sym k.frame_is) (outputs_pass c me s desk desk o.log (left o.log) [] [] (given me before) (Sent me frame) f.fits on))
+        subst (λ (v : ℕ). FitsChanges c me (left o.log) (record (changes_held new) { target = v }) (Sent me frame ∷ past)) is_view
+        (subst (λ (b : List ℕ). FitsChanges c me (left o.log) (record (changes_held new) { target = k.own.change.view }) (Sent me b ∷ past)) k.frame_is
+        (changes_are_sent c me (o.spent + 1) past o.log (changes_held o) k.own
+        (subst (λ (b : List ℕ). LogPassesEntry c me past (Sent me b) o.log (left o.log)) (sym k.frame_is) (outputs_pass c me s desk desk o.log (left o.log) [] [] (given me before) (Sent me frame) f.fits on))
         place (k.sender ∙ f.fits.of_log.own) (subst (λ (b : List ℕ). IsPosted c me (ViewChange k.own.change) [] b) (sym k.frame_is) posted)
         (subst (λ (v : ℕ). target past < v) (sym is_view) newer)
         (next_is_spent me o.spent past k.own.frame (ap leaf_of k.frame_is ∙ k.by_leaf)) f.changes))

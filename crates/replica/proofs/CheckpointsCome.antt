@@ -37,16 +37,16 @@ use Rattle.orderer.specs.State.{OrdererData}
 use Rattle.replica.specs.State.{JoinedData, AreOne}
 use Rattle.desk.specs.State.{DeskData}
 use Rattle.orderer.specs.Checkpoints.{TakesCheckpoint, counting, said_entry}
-use Rattle.replica.specs.Checkpoints.{StartsTransferIfBehind, Settles}
-use Rattle.orderer.specs.Fitting.{given, FitsEvent, changes_of}
+use Rattle.replica.specs.Checkpoints.{StartsTransferIfBehind, SettlesMarks}
+use Rattle.orderer.specs.Fitting.{given, FitsEvent, changes_held}
 use Rattle.replica.specs.Desks.{PartsFitEvent}
 use Rattle.replica.specs.Beginning.{CannotBegin}
 use Rattle.replica.specs.Entering.{event_of, IsTakenAlone, IsTakenBeside, IsLeftToDo, TakesBytes, TakesMessage}
 use Rattle.desk.specs.Fetching.{aimed_at, aiming}
 use Rattle.desk.specs.DeskOf.{desk_of}
 use Rattle.replica.specs.Joined.{JoinedMatchesHistory, me_of}
-use Rattle.replica.specs.Going.{IsExecuted, IsOneParty, NothingIsLeft}
-use Rattle.orderer.specs.Saying.{Says}
+use Rattle.replica.specs.Going.{AllIsExecuted, IsOneParty, NothingIsLeft}
+use Rattle.orderer.specs.Saying.{SaysToOthers}
 use Rattle.orderer.specs.Going.{CommitsNoMore, IsSameLog, IsVotedAll}
 use Rattle.replica.proofs.Beginning.{IsNoCall, drops, heard_by, none_taken, rests, some_fault}
 use Rattle.replica.proofs.DueCheckpoints.{cut_commits, cut_voted, either, same_cut, settled_claims, settled_desk, settled_orderer, settled_snapshots}
@@ -170,8 +170,8 @@ module _ (r : JoinedData) (one : AreOne r.orderer r.desk) (s : ℕ) (entry : Che
       keeps : KeepsChanges c (me_of r) past e
       keeps = heard_keep c (me_of r) past bytes free (subst IsNoBatch (sym (hears c known)) tt) (λ other ne. others_bring_none c (me_of r) other past bytes (no_call c known).changes ne)
 
-      changing : FitsChanges c (me_of r) after (changes_of (checked claims)) (e ∷ past)
-      changing = changes_stay c (me_of r) past e r.orderer.log after (changes_of r.orderer) claims
+      changing : FitsChanges c (me_of r) after (changes_held (checked claims)) (e ∷ past)
+      changing = changes_stay c (me_of r) past e r.orderer.log after (changes_held r.orderer) claims
           (inputs_enter c (me_of r) (desk_of c r.desk) (desk_from after.low (desk_of c r.desk)) r.orderer.log after (fetch_due (desk_of c r.desk) counted entry) past e runs.holds fitting)
           (let same = same_counted r.orderer.log s entry in record { view = same.view; active = same.active }) keeps
           (cuts (claims_are_above c (me_of r) r.orderer.log past r.orderer.claims runs.holds.of_log.fits runs.changes.claims)) runs.changes
@@ -193,7 +193,7 @@ module _ (r : JoinedData) (one : AreOne r.orderer r.desk) (s : ℕ) (entry : Che
         let above = kept_are_above c (me_of r) (desk_of c r.desk) r.orderer.log runs.holds.of_desk.point.snapshots past runs.holds.of_log.fits runs.holds.of_desk.kept in
         ap (λ (d : Desk). d.snapshots) above
 
-    module _ (n : JoinedData) (b : Bool) (settles : Settles entry with_it n b) where
+    module _ (n : JoinedData) (b : Bool) (settles : SettlesMarks entry with_it n b) where
       orderer_is : n.orderer ≡ checked n.orderer.claims
       orderer_is = settled_orderer entry with_it n b settles
 
@@ -230,14 +230,14 @@ module _ (r : JoinedData) (one : AreOne r.orderer r.desk) (s : ℕ) (entry : Che
           let before = rests c r past runs in
           let is_log = counted_is_log r.orderer.log s entry runs.holds.of_log.fits.is_log in (
             subst (λ (k : OrdererData). IsVotedAll k.log) (sym orderer_is) (either IsVotedAll counted entry before.0 (cut_voted counted entry.number is_log before.0)),
-            subst (λ (k : OrdererData). IsExecuted k.log n.desk) (sym orderer_is)
-                (subst (λ (k : DeskData). IsExecuted after k) (sym desk_is)
+            subst (λ (k : OrdererData). AllIsExecuted k.log n.desk) (sym orderer_is)
+                (subst (λ (k : DeskData). AllIsExecuted after k) (sym desk_is)
                 (none_more r.orderer.log after (suc r.desk.executed.state.number)
                 (either (CommitsNoMore r.orderer.log) counted entry (λ i text is. is) (cut_commits counted entry.number is_log)) before.1)),
           )
 
     -- The marks move.
-    settled : (n : JoinedData) → Settles entry with_it n true → TakesBytes bytes r touched.Waiting n []
+    settled : (n : JoinedData) → SettlesMarks entry with_it n true → TakesBytes bytes r touched.Waiting n []
     settled n settles = record {
       party = party n true settles;
       begins = λ c past runs known. (
@@ -276,7 +276,7 @@ module _ (r : JoinedData) (one : AreOne r.orderer r.desk) (s : ℕ) (entry : Che
           none_now c past runs (inr behind) = none_behind (desk_of c r.desk) counted entry unstable (subst (λ (k : ℕ). entry.number ≤ k) (sym (aimed_same r.desk.executed.state.number r.desk.transfer)) behind)
 
       fetches : (outs : List Output) → nat_le (2 * counted.faults + 1) (logs.count_checkpoints counted entry) ≡ true → aimed_at r.desk < entry.number
-          → Says with_it.orderer (Fetch entry.number levels.Root 0) [] outs → TakesBytes bytes r touched.Nothing (record with_it { desk = aiming entry r.desk }) outs
+          → SaysToOthers with_it.orderer (Fetch entry.number levels.Root 0) [] outs → TakesBytes bytes r touched.Nothing (record with_it { desk = aiming entry r.desk }) outs
       fetches outs quorum ahead says = record {
         party = record { endpoint = refl; me = refl; membership = refl };
         begins = λ c past runs known. (
@@ -322,11 +322,11 @@ module _ (r : JoinedData) (one : AreOne r.orderer r.desk) (sender : ReplicaId) (
     latest_then : says_checkpoint (said_entry m) (logs.checkpoints_of (logs.with_checkpoint_of r.orderer.log sender.0 (said_entry m)) sender.0) ≡ true
     latest_then = subst (λ (k : OrdererData). says_checkpoint (said_entry m) (logs.checkpoints_of k.log sender.0) ≡ true) takes.1 takes.2
 
-    pub checkpoint_settled : (n : JoinedData) → Settles (said_entry m) (record r { orderer = o }) n true → TakesMessage sender (Checkpoint m.number.0 m.root) r touched.Waiting n []
+    pub checkpoint_settled : (n : JoinedData) → SettlesMarks (said_entry m) (record r { orderer = o }) n true → TakesMessage sender (Checkpoint m.number.0 m.root) r touched.Waiting n []
     checkpoint_settled n settles bytes h =
-        settled r one sender.0 (said_entry m) bytes h takes.0 latest_then n (subst (λ (k : OrdererData). Settles (said_entry m) (record r { orderer = k }) n true) takes.1 settles)
+        settled r one sender.0 (said_entry m) bytes h takes.0 latest_then n (subst (λ (k : OrdererData). SettlesMarks (said_entry m) (record r { orderer = k }) n true) takes.1 settles)
 
-    pub checkpoint_followed : (x n : JoinedData) (outs : List Output) → Settles (said_entry m) (record r { orderer = o }) x false → StartsTransferIfBehind (said_entry m) x [] n outs
+    pub checkpoint_followed : (x n : JoinedData) (outs : List Output) → SettlesMarks (said_entry m) (record r { orderer = o }) x false → StartsTransferIfBehind (said_entry m) x [] n outs
         → TakesMessage sender (Checkpoint m.number.0 m.root) r touched.Nothing n outs
     checkpoint_followed x n outs settles follows bytes h =
         let unstable = subst (λ (k : OrdererData). logs.is_stable k.log (said_entry m) ≡ false) takes.1 settles.0 in

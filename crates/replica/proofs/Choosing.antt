@@ -23,7 +23,7 @@ use Rattle.orderer.specs.State.{OrdererData, IsOrderer}
 use Rattle.replica.specs.State.{JoinedData, AreOne}
 use Rattle.replica.specs.declared.taking.Touched.TheVariants as touched
 use Rattle.replica.specs.Beginning.{CannotBegin, HasNoView, MayBegin}
-use Rattle.replica.specs.Checkpoints.{Settles}
+use Rattle.replica.specs.Checkpoints.{SettlesMarks}
 use Rattle.orderer.specs.EnteringViews.{HasNoSelection, MaySignView}
 use Rattle.orderer.specs.Going.{IsSameLog, IsSameOrderer, KeepsChoice}
 use Rattle.replica.specs.Marking.{MovesMarks}
@@ -43,7 +43,7 @@ moved_choice low old new (o, (claims, cuts, o_is), new_is) =
     subst (λ (r : JoinedData). KeepsChoice old.orderer r.orderer) (sym new_is)
     (subst (λ (x : OrdererData). KeepsChoice old.orderer x) (sym o_is) (cut_choice old.orderer (logs.cut_to old.orderer.log low) (logs.cut_to old.orderer.log low).low claims cuts))
 
-pub settled_choice : (entry : CheckpointEntry) (old new : JoinedData) (b : Bool) → Settles entry old new b → KeepsChoice old.orderer new.orderer
+pub settled_choice : (entry : CheckpointEntry) (old new : JoinedData) (b : Bool) → SettlesMarks entry old new b → KeepsChoice old.orderer new.orderer
 settled_choice entry old new true (stable, moves) = moved_choice entry.number old new moves
 settled_choice entry old new false (unstable, same) = subst (λ (r : JoinedData). KeepsChoice old.orderer r.orderer) (sym same) (same_choice old.orderer)
 

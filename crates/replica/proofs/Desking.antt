@@ -36,7 +36,7 @@ use Rattle.desk.specs.declared.waiting.WaitingRequest.{WaitingRequest}
 use Rattle.desk.specs.Keeping.{AreFew}
 use Rattle.orderer.specs.State.{OrdererData}
 use Rattle.desk.specs.State.{DeskData, IsDesk}
-use Rattle.desk.specs.Waiting.{frames_of, is_new, forgotten}
+use Rattle.desk.specs.Waiting.{frames_waiting, is_new, forgotten}
 use Rattle.orderer.specs.Flags.{FitsFlags}
 use Rattle.replica.specs.Desks.{PartsFitEvent}
 use Rattle.orderer.specs.Fitting.{FitsWaiting, FitsEvent, given}
@@ -102,7 +102,7 @@ pays_kept d client timestamp x y (kept, has, same, says) = pays_again d client t
 -- ---- waiting requests
 
 -- A desk with the waiting requests that are newer than a later state.
-pub frames_behind : (later : State) (d : DeskData) (frame : List ℕ) → Has (λ x. x ≡ frame) (frames_of (forgotten later d.waiting)) → Has (λ x. x ≡ frame) (frames_of d.waiting)
+pub frames_behind : (later : State) (d : DeskData) (frame : List ℕ) → Has (λ x. x ≡ frame) (frames_waiting (forgotten later d.waiting)) → Has (λ x. x ≡ frame) (frames_waiting d.waiting)
 frames_behind later d frame h =
     has_mapped (λ x. x ≡ frame) (λ (r : WaitingRequest). r.frame.items) d.waiting.requests
     (has_filter (λ (r : WaitingRequest). r.frame.items ≡ frame) (is_new later) d.waiting.requests (has_map (λ x. x ≡ frame) (λ (r : WaitingRequest). r.frame.items) (forgotten later d.waiting).requests h))
@@ -153,11 +153,11 @@ module _ (c : Configuration) (d : DeskData) (text : List ℕ) (ran : List Ran) (
     state = st;
     snapshots = kept st;
     waiting = waiting st;
-    frames = frames_of later.waiting;
+    frames = frames_waiting later.waiting;
     transfer = still_open st.number (option_map (λ o. o.transfer) d.transfer);
   }
 
-  run_desk : executed_desk c (desk_of c d) text (frames_of later.waiting) ≡ desk_of c later
+  run_desk : executed_desk c (desk_of c d) text (frames_waiting later.waiting) ≡ desk_of c later
   run_desk =
       ap (desk_at (λ st. snapshots_behind c st d.snapshots) (λ st. still_waiting st calls)) (sym r.ex.state)
       ∙ ap (λ (n : ℕ). desk_at (λ st. all_with n st d.snapshots) (λ st. still_waiting st calls) executed.state) r.is.period_is
@@ -183,8 +183,8 @@ module _ (c : Configuration) (d : DeskData) (text : List ℕ) (ran : List Ran) (
 
     run_on : events.Fits c d.me s (desk_of c later) o.log due (e ∷ given d.me before)
     run_on = subst (λ (desk : Desk). events.Fits c d.me s desk o.log due (e ∷ given d.me before)) run_desk
-        (subst (λ (ms : List Message). events.Fits c d.me s (executed_desk c (desk_of c d) text (frames_of later.waiting)) o.log ms (e ∷ given d.me before)) run_due
-        (executes_fit c d.me s (desk_of c d) o.log (given d.me before) text (frames_of later.waiting) r.is_state r.few committed (frames_behind executed.state d) f.fits))
+        (subst (λ (ms : List Message). events.Fits c d.me s (executed_desk c (desk_of c d) text (frames_waiting later.waiting)) o.log ms (e ∷ given d.me before)) run_due
+        (executes_fit c d.me s (desk_of c d) o.log (given d.me before) text (frames_waiting later.waiting) r.is_state r.few committed (frames_behind executed.state d) f.fits))
 
     -- which waiting requests have numbers
     run_numbers : FitsWaiting c d.me o later.waiting (desk_of c later) (e ∷ past)

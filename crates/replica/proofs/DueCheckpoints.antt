@@ -34,14 +34,14 @@ use Rattle.orderer.specs.State.{OrdererData}
 use Rattle.replica.specs.State.{JoinedData, AreOne}
 use Rattle.desk.specs.State.{DeskData}
 use Rattle.desk.specs.Waiting.{WaitingData}
-use Rattle.orderer.specs.Fitting.{given, FitsWaiting, FitsEvent, changes_of}
+use Rattle.orderer.specs.Fitting.{given, FitsWaiting, FitsEvent, changes_held}
 use Rattle.replica.specs.Desks.{PartsFitEvent}
 use Rattle.orderer.specs.Going.{CommitsNoMore, IsSameLog, IsSameOrderer, IsVotedAll, KeepsChoice}
 use Rattle.replica.proofs.Choosing.{settled_choice}
-use Rattle.desk.specs.Desking.{due_entry, is_due, newest_entry}
+use Rattle.desk.specs.Desking.{due_entry, checkpoint_is_due, newest_entry}
 use Rattle.desk.specs.DeskOf.{desk_of}
-use Rattle.replica.specs.Checkpoints.{IsDueKept, SaysDueCheckpoint, Settles}
-use Rattle.orderer.specs.Saying.{Says}
+use Rattle.replica.specs.Checkpoints.{IsDueKept, SaysDueCheckpoint, SettlesMarks}
+use Rattle.orderer.specs.Saying.{SaysToOthers}
 use Rattle.orderer.proofs.Staying.{numbers_alike, numbers_beside, sent_beside}
 use Rattle.orderer.proofs.Voting.{SaidIn, said_in}
 use Rattle.orderer.specs.Checkpoints.{SaysCheckpoint}
@@ -56,15 +56,15 @@ abbrev message_at : State → Message
 message_at st = Checkpoint st.number (root_of st)
 
 pub record IsDueEntry (d : DeskData) (entry : CheckpointEntry) : Type 0 where
-  pub due : is_due d ≡ true
+  pub due : checkpoint_is_due d ≡ true
   pub is : entry ≡ entry_at d.executed.state
 
 pub entry_due : (d : DeskData) (entry : CheckpointEntry) → IsDueKept d → due_entry d ≡ Some entry → IsDueEntry d entry
 entry_due d entry kept is =
-    let a = passed (is_due d) (newest_entry d.snapshots) entry is in
+    let a = passed (checkpoint_is_due d) (newest_entry d.snapshots) entry is in
     record { due = a.0; is = some_injective entry (entry_at d.executed.state) (sym a.1 ∙ kept a.0) }
 
-due_when : (c : Configuration) (d : DeskData) (b : Bool) → c.period ≡ d.period → is_due d ≡ b → checkpoint_due c d.executed.state ≡ cond b (message_at d.executed.state ∷ []) []
+due_when : (c : Configuration) (d : DeskData) (b : Bool) → c.period ≡ d.period → checkpoint_is_due d ≡ b → checkpoint_due c d.executed.state ≡ cond b (message_at d.executed.state ∷ []) []
 due_when c d b period is =
     ap (λ (p : ℕ). cond (d.executed.state.number % p == 0) (message_at d.executed.state ∷ []) []) period
     ∙ ap (λ (t : Bool). cond t (message_at d.executed.state ∷ []) []) is
@@ -114,7 +114,7 @@ same_checked log entry =
     (let s = same_cut (logs.with_checkpoint_of log log.me entry) entry.number in record { me = s.me; faults = s.faults; span = s.span; view = s.view; active = s.active; low = s.low })
 
 module _ (c : Configuration) (s : Start) (o : OrdererData) (desk : Desk) (w : WaitingData) (entry : CheckpointEntry) (claims : ClaimsData) (before after : List Output) (known : members c ≡ o.endpoint.membership)
-    (says : Says o (Checkpoint entry.number entry.digest) before after) (voted : IsVotedAll o.log) (f : FitsEvent c o.endpoint.me s o desk w (Checkpoint entry.number entry.digest ∷ []) before)
+    (says : SaysToOthers o (Checkpoint entry.number entry.digest) before after) (voted : IsVotedAll o.log) (f : FitsEvent c o.endpoint.me s o desk w (Checkpoint entry.number entry.digest ∷ []) before)
     (cuts : CutsClaims o.log.low o.claims o.claims → CutsClaims (checked_log o.log o.log.me entry).low o.claims claims) (here : entry.number ≡ desk.state.number) where
   abbrev me : ℕ
   me = o.endpoint.me
@@ -144,10 +144,10 @@ module _ (c : Configuration) (s : Start) (o : OrdererData) (desk : Desk) (w : Wa
       let may : MayCheckpoint c past point entry.number entry.digest × (is_number entry.number ≡ true) = f.fits.of_desk.rightly (Checkpoint entry.number entry.digest) (inl refl) in
       checkpoints_are_latest c me past point entry said.bytes (steps_leave c me s (given me before) point f.fits.of_desk.leaves f.fits.of_desk.steps) may.0 here may.1 said.posted.says
 
-  changing : FitsChanges c me (checking o entry claims).log (changes_of (checking o entry claims)) (Sent me said.bytes ∷ past)
+  changing : FitsChanges c me (checking o entry claims).log (changes_held (checking o entry claims)) (Sent me said.bytes ∷ past)
   changing =
       let same = same_checked o.log entry in
-      checkpoints_are_noted c me past o.log (checking o entry claims).log (changes_of o) claims entry said.bytes
+      checkpoints_are_noted c me past o.log (checking o entry claims).log (changes_held o) claims entry said.bytes
       (outputs_pass c me s desk later o.log (checking o entry claims).log (Checkpoint entry.number entry.digest ∷ []) [] (given me before) (Sent me said.bytes) f.fits fitting)
       (record { view = same.view; active = same.active }) said.posted.says latest
       (cuts (claims_are_above c me o.log past o.claims f.fits.of_log f.changes.claims)) f.changes
@@ -158,13 +158,13 @@ module _ (c : Configuration) (s : Start) (o : OrdererData) (desk : Desk) (w : Wa
     numbers = subst (λ (es : List Entry). FitsWaiting c me (checking o entry claims) w later (after_outputs s es)) (sym said.is.is) numbering;
     said = λ other is. subst (λ (es : List Entry). Once (λ earlier e. IsSaying me (Checkpoint other.number other.digest) e) (after_outputs s es)) (sym said.is.is)
         (inl (subst (λ (z : CheckpointEntry). IsSaying me (Checkpoint z.number z.digest) (Sent me said.bytes)) (some_injective entry other is) said.posted.says));
-    changes = subst (λ (es : List Entry). FitsChanges c me (checking o entry claims).log (changes_of (checking o entry claims)) (after_outputs s es)) (sym said.is.is) changing;
+    changes = subst (λ (es : List Entry). FitsChanges c me (checking o entry claims).log (changes_held (checking o entry claims)) (after_outputs s es)) (sym said.is.is) changing;
     meant = said.is.meant f.meant;
   }
 
 -- ---- both parts
 
-pub settled_orderer : (entry : CheckpointEntry) (m n : JoinedData) (b : Bool) → Settles entry m n b
+pub settled_orderer : (entry : CheckpointEntry) (m n : JoinedData) (b : Bool) → SettlesMarks entry m n b
     → n.orderer ≡ record m.orderer { log = cut_if_stable m.orderer.log entry; claims = n.orderer.claims }
 settled_orderer entry m n true (stable, (o, (claims, cuts, o_is), moves)) =
     subst (λ (r : JoinedData). r.orderer ≡ record m.orderer { log = cut_if_stable m.orderer.log entry; claims = r.orderer.claims }) (sym moves)
@@ -175,7 +175,7 @@ settled_orderer entry m n false (stable, same) =
     (ap (λ (b : Bool). let k : OrdererData = record m.orderer { log = cond b (logs.cut_to m.orderer.log entry.number) m.orderer.log } in k) (sym stable))
 
 -- the claims up to the low mark are dropped
-pub settled_claims : (entry : CheckpointEntry) (m n : JoinedData) (b : Bool) → Settles entry m n b → CutsClaims m.orderer.log.low m.orderer.claims m.orderer.claims
+pub settled_claims : (entry : CheckpointEntry) (m n : JoinedData) (b : Bool) → SettlesMarks entry m n b → CutsClaims m.orderer.log.low m.orderer.claims m.orderer.claims
     → CutsClaims (cut_if_stable m.orderer.log entry).low m.orderer.claims n.orderer.claims
 settled_claims entry m n true (stable, (o, (claims, cuts, o_is), moves)) above =
     subst (λ (b : Bool). CutsClaims (cond b (logs.cut_to m.orderer.log entry.number) m.orderer.log).low m.orderer.claims n.orderer.claims) (sym stable)
@@ -184,12 +184,12 @@ settled_claims entry m n false (stable, same) above =
     subst (λ (b : Bool). CutsClaims (cond b (logs.cut_to m.orderer.log entry.number) m.orderer.log).low m.orderer.claims n.orderer.claims) (sym stable)
     (subst (λ (r : JoinedData). CutsClaims m.orderer.log.low m.orderer.claims r.orderer.claims) (sym same) above)
 
-pub settled_desk : (entry : CheckpointEntry) (m n : JoinedData) (b : Bool) → Settles entry m n b → n.desk ≡ record m.desk { snapshots = n.desk.snapshots }
+pub settled_desk : (entry : CheckpointEntry) (m n : JoinedData) (b : Bool) → SettlesMarks entry m n b → n.desk ≡ record m.desk { snapshots = n.desk.snapshots }
 settled_desk entry m n true (stable, (o, cuts, moves)) = subst (λ (r : JoinedData). r.desk ≡ record m.desk { snapshots = r.desk.snapshots }) (sym moves) refl
 settled_desk entry m n false (stable, same) = subst (λ (r : JoinedData). r.desk ≡ record m.desk { snapshots = r.desk.snapshots }) (sym same) refl
 
 -- the kept states are those from the mark on
-pub settled_snapshots : (entry : CheckpointEntry) (m n : JoinedData) (b : Bool) → Settles entry m n b → kept_from m.orderer.log.low m.desk.snapshots ≡ m.desk.snapshots
+pub settled_snapshots : (entry : CheckpointEntry) (m n : JoinedData) (b : Bool) → SettlesMarks entry m n b → kept_from m.orderer.log.low m.desk.snapshots ≡ m.desk.snapshots
     → kept_from (cut_if_stable m.orderer.log entry).low m.desk.snapshots ≡ n.desk.snapshots
 settled_snapshots entry m n true (stable, (o, cuts, moves)) kept =
     ap (λ (b : Bool). kept_from (cond b (logs.cut_to m.orderer.log entry.number) m.orderer.log).low m.desk.snapshots) stable
@@ -199,7 +199,7 @@ settled_snapshots entry m n false (stable, same) kept =
     ∙ kept ∙ sym (ap (λ (r : JoinedData). r.desk.snapshots) same)
 
 module _ (a : JoinedData) (o : OrdererData) (n : JoinedData) (entry : CheckpointEntry) (x y : List Output) (b : Bool) (one : AreOne a.orderer a.desk) (due : IsDueEntry a.desk entry)
-    (says : SaysCheckpoint entry a.orderer x o y) (settles : Settles entry (record a { orderer = o }) n b) (is_log : IsLog o.log) where
+    (says : SaysCheckpoint entry a.orderer x o y) (settles : SettlesMarks entry (record a { orderer = o }) n b) (is_log : IsLog o.log) where
   abbrev counted : LogData
   counted = logs.with_checkpoint_of a.orderer.log a.orderer.log.me entry
 

@@ -21,7 +21,7 @@ use Rattle.replica.specs.Fetching.{SaysFetch}
 use Rattle.desk.specs.Fetching.{AimsAt}
 use Rattle.replica.specs.Marking.{MovesMarks}
 use Rattle.orderer.specs.EnteringViews.{entering, LogsBatches, SaysVotesOf}
-use Rattle.replica.specs.EnteringViews.{Enters, FetchesStart}
+use Rattle.replica.specs.EnteringViews.{EntersView, FetchesStart}
 use Rattle.desk.specs.Begun.{NotesBegun}
 use Rattle.desk.specs.DeskOf.{waiting_call, desk_of, IsDeskOf}
 
@@ -63,7 +63,7 @@ pub enters_all : (view : ℕ) (start : CheckpointEntry) (texts : List (List ℕ)
     → NotesBegun texts r.desk d → o ≡ entering view (start.number + length texts) own r.orderer → MovesMarks start.number (record r { orderer = o; desk = d }) cut
     → LogsBatches (suc start.number) texts cut.orderer logged → FetchesStart start (record cut { orderer = logged }) before fetched said
     → SaysVotesOf start.number (start.number + length texts) fetched.orderer said last after
-    → Enters view start texts own r before (record fetched { orderer = last }) after
+    → EntersView view start texts own r before (record fetched { orderer = last }) after
 enters_all view start texts own r d o cut logged fetched last before said after noted is moves logs fetches votes = record {
   desk = d;
   noted = noted;

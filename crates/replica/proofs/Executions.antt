@@ -8,7 +8,7 @@ use Rattle.replica.specs.State.{JoinedData}
 use Rattle.desk.specs.State.{DeskData}
 use Rattle.desk.specs.Waiting.{WaitingData, all_unnumbered, count_unnumbered, keeping, is_new}
 use Rattle.orderer.specs.Going.{CommitsNoMore, IsVotedAll}
-use Rattle.replica.specs.Going.{FitIsKept, ExecutesAll, ExecutesNext, IsExecuted, IsSameParty}
+use Rattle.replica.specs.Going.{FitIsKept, ExecutesAll, ExecutesNextBatch, AllIsExecuted, IsSameParty}
 use Rattle.desk.specs.Desking.{RunsWhole}
 use Rattle.replica.specs.Checkpoints.{SaysDueCheckpoint}
 use Rattle.replica.proofs.Desking.{RunsOn, runs_on}
@@ -68,7 +68,7 @@ forgets_no_more p w = fewer_left p w.requests
 -- ---- one batch
 
 pub executes_next : (a : JoinedData) (d : DeskData) (n : JoinedData) (text : List ℕ) (x y z : List Output) → RunsWhole a.desk text x d y
-    → committed_batch a.orderer.log (suc a.desk.executed.state.number) ≡ Some text → SaysDueCheckpoint (record a { desk = d }) y n z → ExecutesNext a x n z
+    → committed_batch a.orderer.log (suc a.desk.executed.state.number) ≡ Some text → SaysDueCheckpoint (record a { desk = d }) y n z → ExecutesNextBatch a x n z
 executes_next a d n text x y z whole h e =
     let r : RunsOn a.desk text x d y = runs_on a.desk d text x y whole in record {
       proceeds = λ voted c s known st.
@@ -119,7 +119,7 @@ low_known : (a b : JoinedData) (count : ℕ) → IsSameParty a b → b.desk.exec
 low_known a b count party at inside (inr low) = inr low
 low_known a b count party at inside (inl none) = let up = party.orderer.log.low in inr (omega (arith, at, inside, none, up))
 
-pub one_executed : (count : ℕ) (a b d : JoinedData) (x y z : List Output) → ExecutesSoFar count a x b y → ExecutesNext b y d z → ExecutesSoFar (count + 1) a x d z
+pub one_executed : (count : ℕ) (a b d : JoinedData) (x y z : List Output) → ExecutesSoFar count a x b y → ExecutesNextBatch b y d z → ExecutesSoFar (count + 1) a x d z
 one_executed count a b d x y z f e = record {
   proceeds = λ voted c s known st. e.proceeds (f.voted voted) c s (known ∙ sym f.party.membership) (f.proceeds voted c s known st);
   party = parties_twice a b d f.party e.party;
@@ -131,10 +131,10 @@ one_executed count a b d x y z f e = record {
   low = low_known a b count f.party f.number e.within f.low;
 }
 
-executes_all : (count : ℕ) (a b : JoinedData) (x y : List Output) → ExecutesSoFar count a x b y → IsExecuted b.orderer.log b.desk → ExecutesAll a x b y
+executes_all : (count : ℕ) (a b : JoinedData) (x y : List Output) → ExecutesSoFar count a x b y → AllIsExecuted b.orderer.log b.desk → ExecutesAll a x b y
 executes_all count a b x y f none = record { proceeds = f.proceeds; party = f.party; rises = (let at = f.number in omega (arith, at)); used = f.used; waiting = f.waiting; rests = λ voted. (f.voted voted, none) }
 
-pub executes_stop : (count : ℕ) (a b d : JoinedData) (x y z : List Output) → ExecutesSoFar count a x b y → (d ≡ b) × (z ≡ y) × IsExecuted b.orderer.log b.desk → ExecutesAll a x d z
+pub executes_stop : (count : ℕ) (a b d : JoinedData) (x y z : List Output) → ExecutesSoFar count a x b y → (d ≡ b) × (z ≡ y) × AllIsExecuted b.orderer.log b.desk → ExecutesAll a x d z
 executes_stop count a b d x y z f (same, outs, none) =
     subst (λ (r : JoinedData). ExecutesAll a x r z) (sym same) (subst (λ (o : List Output). ExecutesAll a x b o) (sym outs) (executes_all count a b x y f none))
 

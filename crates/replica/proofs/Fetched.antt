@@ -9,7 +9,7 @@ use Rattle.protocol.specs.Replica.State.{State, pages_of}
 use Rattle.protocol.specs.Replica.Transfers.{NoneAsked}
 use Rattle.protocol.proofs.Words.Options.{some_injective}
 use Rattle.replica_histories.specs.Events.{Start, after_outputs}
-use Rattle.replica_histories.specs.Transfers.{FitsOpen, MayAsk, AsksNext, IsTold, RestsOnState}
+use Rattle.replica_histories.specs.Transfers.{FitsOpenTransfer, TransferMayAsk, AsksNext, IsTold, RestsOnState}
 use Rattle.replica_histories.proofs.Fetching.{transfers_change}
 use Rattle.replica_histories.proofs.Transfers.{may_ask_any, pages_rested}
 use Rattle.replica_histories.proofs.TransfersInstalling.{rested_rests}
@@ -19,7 +19,7 @@ use Rattle.desk.specs.State.{DeskData, OpenData}
 use Rattle.desk.specs.Waiting.{WaitingData}
 use Rattle.orderer.specs.Fitting.{given, FitsEvent}
 use Rattle.desk.specs.Fetching.{fetch_of, with_transfer}
-use Rattle.orderer.specs.Saying.{Says}
+use Rattle.orderer.specs.Saying.{SaysToOthers}
 use Rattle.desk.specs.Transferring.{IsRestedAt, AsksPlace}
 use Rattle.desk.specs.DeskOf.{desk_of, RestsAt, IsDeskOf}
 use Rattle.orderer.proofs.Voting.{asks}
@@ -54,21 +54,21 @@ asked_long st n m place (rested, rests, next, m_is, all) =
 -- The transfer n is at the desk, and may ask on. Up to here the event fits with this one open.
 module _ (c : Configuration) (s : Start) (o : OrdererData) (d : DeskData) (w : WaitingData) (n : OpenData) (outs : List Output)
     (there : d.transfer ≡ Some n) (is : IsDeskOf c d) (open_one : Option TransferData) (f : FitsEvent c o.endpoint.me s o (record (desk_of c d) { transfer = open_one }) w [] outs)
-    (may : MayAsk c o.endpoint.me n.transfer d.executed.state.number (after_outputs s (given o.endpoint.me outs))) (told : IsTold n.transfer) (none : NoneAsked (after_outputs s (given o.endpoint.me outs))) where
+    (may : TransferMayAsk c o.endpoint.me n.transfer d.executed.state.number (after_outputs s (given o.endpoint.me outs))) (told : IsTold n.transfer) (none : NoneAsked (after_outputs s (given o.endpoint.me outs))) where
   abbrev past : List Entry
   past = after_outputs s (given o.endpoint.me outs)
 
   -- rested, it may ask, and rests on the state
-  rested_ask : (rested : OpenData) → IsRestedAt d.executed.state n rested → MayAsk c o.endpoint.me rested.transfer d.executed.state.number past
-  rested_ask rested (inl (same, at)) = subst (λ (x : OpenData). MayAsk c o.endpoint.me x.transfer d.executed.state.number past) (sym at) may
+  rested_ask : (rested : OpenData) → IsRestedAt d.executed.state n rested → TransferMayAsk c o.endpoint.me rested.transfer d.executed.state.number past
+  rested_ask rested (inl (same, at)) = subst (λ (x : OpenData). TransferMayAsk c o.endpoint.me x.transfer d.executed.state.number past) (sym at) may
   rested_ask rested (inr (rests, at)) = (pages_rested c o.endpoint.me (pages_of d.executed.state) n.transfer rested.transfer d.executed.state.number past rests).1 may
 
   rested_told : (rested : OpenData) → IsRestedAt d.executed.state n rested → IsTold rested.transfer
   rested_told rested (inl (same, at)) = subst (λ (x : OpenData). IsTold x.transfer) (sym at) told
   rested_told rested (inr (rests, at)) = (told.0, ap (λ (x : TransferData). x.part_digests) rests.same ∙ told.1)
 
-  rested_open : (rested : OpenData) → IsRestedAt d.executed.state n rested → FitsOpen c o.endpoint.me (Some n.transfer) d.executed.state.number past → FitsOpen c o.endpoint.me (Some rested.transfer) d.executed.state.number past
-  rested_open rested (inl (same, at)) fits = subst (λ (x : OpenData). FitsOpen c o.endpoint.me (Some x.transfer) d.executed.state.number past) (sym at) fits
+  rested_open : (rested : OpenData) → IsRestedAt d.executed.state n rested → FitsOpenTransfer c o.endpoint.me (Some n.transfer) d.executed.state.number past → FitsOpenTransfer c o.endpoint.me (Some rested.transfer) d.executed.state.number past
+  rested_open rested (inl (same, at)) fits = subst (λ (x : OpenData). FitsOpenTransfer c o.endpoint.me (Some x.transfer) d.executed.state.number past) (sym at) fits
   rested_open rested (inr (rests, at)) fits = (pages_rested c o.endpoint.me (pages_of d.executed.state) n.transfer rested.transfer d.executed.state.number past rests).0 fits
 
   rested_on : (rested : OpenData) → IsRestedAt d.executed.state n rested → RestsOnState rested.transfer d.executed.state
@@ -97,27 +97,27 @@ module _ (c : Configuration) (s : Start) (o : OrdererData) (d : DeskData) (w : W
       some_same a b e = some_injective a b e
 
   -- the next place is asked for
-  pub asks_next : (m : OpenData) (place : Place) (after : List Output) → members c ≡ o.endpoint.membership → AsksPlace d.executed.state n m (Some place) → Says o (fetch_of m.transfer) outs after
+  pub asks_next : (m : OpenData) (place : Place) (after : List Output) → members c ≡ o.endpoint.membership → AsksPlace d.executed.state n m (Some place) → SaysToOthers o (fetch_of m.transfer) outs after
       → IsDeskOf c (with_transfer m d) × FitsEvent c o.endpoint.me s o (desk_of c (with_transfer m d)) w [] after
   asks_next m place after known (rested, rests, next, m_is, all) says =
       let at = ap (λ (x : OpenData). x.rests_at) m_is ∙ rested_at rested rests in
       let asking_on = may_ask_any c o.endpoint.me rested.transfer (Some place) d.executed.state.number past (rested_ask rested rests) in
       let first = nexts_are_first c o.endpoint.me rested.transfer d.executed.state past place (rested_ask rested rests) (rested_on rested rests) (rested_held rested rests all.0) none (rested_told rested rests) (sym next) in (
         desk_with m at (subst (λ (x : OpenData). RestsOnState x.transfer d.executed.state) (sym m_is) (rested_on rested rests)),
-        asks c s o (record (desk_of c d) { transfer = open_one }) w outs after m.transfer known says [] (subst (λ (x : OpenData). MayAsk c o.endpoint.me x.transfer d.executed.state.number past) (sym m_is) asking_on) (subst (λ (x : OpenData). AsksNext c o.endpoint.me x.transfer d.executed.state past) (sym m_is) (inl first)) f,
+        asks c s o (record (desk_of c d) { transfer = open_one }) w outs after m.transfer known says [] (subst (λ (x : OpenData). TransferMayAsk c o.endpoint.me x.transfer d.executed.state.number past) (sym m_is) asking_on) (subst (λ (x : OpenData). AsksNext c o.endpoint.me x.transfer d.executed.state past) (sym m_is) (inl first)) f,
       )
 
   -- nothing differs any more: it rests on the state, and may ask; and if it fitted, it fits
   pub rests_now : (m : OpenData) → AsksPlace d.executed.state n m None
-      → IsDeskOf c (with_transfer m d) × MayAsk c o.endpoint.me m.transfer d.executed.state.number past × RestsOnState m.transfer d.executed.state
-      × (FitsOpen c o.endpoint.me (Some n.transfer) d.executed.state.number past → FitsEvent c o.endpoint.me s o (desk_of c (with_transfer m d)) w [] outs)
+      → IsDeskOf c (with_transfer m d) × TransferMayAsk c o.endpoint.me m.transfer d.executed.state.number past × RestsOnState m.transfer d.executed.state
+      × (FitsOpenTransfer c o.endpoint.me (Some n.transfer) d.executed.state.number past → FitsEvent c o.endpoint.me s o (desk_of c (with_transfer m d)) w [] outs)
   rests_now m (rested, rests, next, m_is, all) =
       let at = ap (λ (x : OpenData). x.rests_at) m_is ∙ rested_at rested rests in
       let on = subst (λ (x : OpenData). RestsOnState x.transfer d.executed.state) (sym m_is) (rested_on rested rests) in (
         desk_with m at on,
-        subst (λ (x : OpenData). MayAsk c o.endpoint.me x.transfer d.executed.state.number past) (sym m_is) (rested_ask rested rests),
+        subst (λ (x : OpenData). TransferMayAsk c o.endpoint.me x.transfer d.executed.state.number past) (sym m_is) (rested_ask rested rests),
         on,
         λ fits.
-            let opened = subst (λ (x : OpenData). FitsOpen c o.endpoint.me (Some x.transfer) d.executed.state.number past) (sym m_is) (rested_open rested rests fits) in
+            let opened = subst (λ (x : OpenData). FitsOpenTransfer c o.endpoint.me (Some x.transfer) d.executed.state.number past) (sym m_is) (rested_open rested rests fits) in
             record { fits = transfers_change c o.endpoint.me s (record (desk_of c d) { transfer = open_one }) o.log [] (given o.endpoint.me outs) (Some m.transfer) opened f.fits; numbers = f.numbers; said = f.said; changes = f.changes; meant = f.meant },
       )

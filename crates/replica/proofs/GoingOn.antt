@@ -12,12 +12,12 @@ use Rattle.replica.specs.Going.{FitIsKept, ExecutesAll, GoesOnWith}
 use Rattle.orderer.specs.Saying.{GoesAgain, SaysVotes, PostsAll, PostsChange, SaysLastAlso}
 use Rattle.desk.specs.DeskOf.{desk_of}
 use Rattle.orderer.specs.Fitting.{FitsEvent}
-use Rattle.orderer.specs.Going.{GoesOn, IsVoted, IsVotedBut, IsVotedAll}
+use Rattle.orderer.specs.Going.{KeepsFitting, NoVoteIsDue, IsVotedBut, IsVotedAll}
 use Rattle.orderer.proofs.Parties.{orderers_twice}
 use Rattle.replica.specs.Numbering.{AllAgain}
 
 -- what the orderer sends stands on the same desk
-pub said_stands : (a : JoinedData) (o : OrdererData) (x y : List Output) → AreOne a.orderer a.desk → GoesOn a.orderer x o y → FitIsKept a x (record a { orderer = o }) y
+pub said_stands : (a : JoinedData) (o : OrdererData) (x y : List Output) → AreOne a.orderer a.desk → KeepsFitting a.orderer x o y → FitIsKept a x (record a { orderer = o }) y
 said_stands a o x y one goes c s known st = record {
   is = st.is;
   fits = subst (λ (m : ℕ). FitsEvent c m s o (desk_of c a.desk) a.desk.waiting [] y) (sym one.0)
@@ -34,11 +34,11 @@ again_stands a y one goes c s known st = record {
 }
 
 -- if the log asks for votes of one number alone, and these are sent, it asks for none
-pub all_voted : (number : ℕ) (old new : LogData) → ((i : ℕ) → i ≢ number → IsVoted old i → IsVoted new i) → IsVoted new number → IsVotedBut number old → IsVotedAll new
+pub all_voted : (number : ℕ) (old new : LogData) → ((i : ℕ) → i ≢ number → NoVoteIsDue old i → NoVoteIsDue new i) → NoVoteIsDue new number → IsVotedBut number old → IsVotedAll new
 all_voted number old new others here but i = go (i == number) refl
   where
-    go : (b : Bool) → (i == number) ≡ b → IsVoted new i
-    go true e = subst (IsVoted new) (sym (eqb-true i number e)) here
+    go : (b : Bool) → (i == number) ≡ b → NoVoteIsDue new i
+    go true e = subst (NoVoteIsDue new) (sym (eqb-true i number e)) here
     go false e = others i (eqb-false i number e) (but i (eqb-false i number e))
 
 pub goes_on_with : (number : ℕ) (a : JoinedData) (o : OrdererData) (d : JoinedData) (x y z : List Output) → AreOne a.orderer a.desk → SaysVotes number a.orderer x o y

@@ -21,7 +21,7 @@ use Rattle.replica_histories.specs.Events as events
 use Rattle.replica_histories.specs.Events.{Start, after_outputs}
 use Rattle.replica_histories.specs.Changes.{CutsClaims}
 use Rattle.replica_histories.specs.Outputs.{installed_desk}
-use Rattle.replica_histories.specs.Transfers.{MayAsk, RestsOnState}
+use Rattle.replica_histories.specs.Transfers.{TransferMayAsk, RestsOnState}
 use Rattle.replica_histories.proofs.Cutting.{cut_low}
 use Rattle.replica_histories.proofs.Installing.{installations_fit}
 use Rattle.replica_histories.proofs.ChangesKept.{silent_keep}
@@ -30,13 +30,13 @@ use Rattle.claims.specs.ClaimsView.{ClaimsData}
 use Rattle.orderer.specs.State.{OrdererData}
 use Rattle.replica.specs.State.{JoinedData, AreOne}
 use Rattle.desk.specs.State.{OpenData, DeskData}
-use Rattle.desk.specs.Waiting.{forgotten, frames_of, is_new}
+use Rattle.desk.specs.Waiting.{forgotten, frames_waiting, is_new}
 use Rattle.orderer.specs.Flags.{FitsFlags}
 use Rattle.replica.specs.Desks.{PartsFitEvent}
 use Rattle.orderer.specs.Fitting.{given, FitsWaiting, FitsEvent}
 use Rattle.desk.specs.Desking.{desk_above}
-use Rattle.replica.specs.Fetching.{InstallsFetched}
-use Rattle.desk.specs.Fetching.{Installs}
+use Rattle.replica.specs.Fetching.{InstallsFetchedState}
+use Rattle.desk.specs.Fetching.{InstallsHeldPages}
 use Rattle.desk.specs.DeskOf.{waiting_calls, desk_of, IsDeskOf}
 use Rattle.replica.specs.Going.{IsSameParty}
 use Rattle.orderer.specs.Going.{IsVotedAll}
@@ -57,7 +57,7 @@ pub record IsFetched (c : Configuration) (s : Start) (a : JoinedData) (m : OpenD
   pub is : IsDeskOf c a.desk
   pub open_one : Option TransferData
   pub fits : FitsEvent c (me_of a) s a.orderer (record (desk_of c a.desk) { transfer = open_one }) a.desk.waiting [] before
-  pub may : MayAsk c (me_of a) m.transfer a.desk.executed.state.number (after_outputs s (given (me_of a) before))
+  pub may : TransferMayAsk c (me_of a) m.transfer a.desk.executed.state.number (after_outputs s (given (me_of a) before))
   pub rests : RestsOnState m.transfer a.desk.executed.state
   pub root : root_of_pages m.transfer.held ≡ m.transfer.root
 
@@ -139,15 +139,15 @@ module _ (c : Configuration) (s : Start) (a : JoinedData) (m : OpenData) (before
     differ = AllPairs-filter (λ (x y : WaitingRequest). x.client.number ≢ y.client.number) (is_new st) a.desk.waiting.requests g.is.differ;
   }
 
-  desk_is : installed_desk open_desk st (frames_of installed.waiting) ≡ later
+  desk_is : installed_desk open_desk st (frames_waiting installed.waiting) ≡ later
   desk_is =
-      ap (λ (xs : List Snapshot). record (installed_desk open_desk st (frames_of installed.waiting)) { snapshots = xs })
+      ap (λ (xs : List Snapshot). record (installed_desk open_desk st (frames_waiting installed.waiting)) { snapshots = xs })
       (ap (λ (n : ℕ). kept_from n (snapshot_of st ∷ a.desk.snapshots)) (sym low_is) ∙ kept_alone cut.low (snapshot_of st) a.desk.snapshots all_below)
       ∙ ap (λ (xs : List Call). record later { waiting = xs }) (calls_behind c st a.desk.waiting.requests)
 
   fitting : events.Fits c me s later cut [] (e ∷ given me before)
   fitting = subst (λ (desk : Desk). events.Fits c me s desk cut [] (e ∷ given me before)) desk_is
-      (installations_fit c me s open_desk a.orderer.log (given me before) m.transfer st (frames_of installed.waiting) g.may g.rests g.root has.state has.number has.pages small falls
+      (installations_fit c me s open_desk a.orderer.log (given me before) m.transfer st (frames_waiting installed.waiting) g.may g.rests g.root has.state has.number has.pages small falls
       (λ i. (voted i).0) (λ i. (voted i).1) (frames_behind st a.desk) g.fits.fits)
 
   abbrev new : OrdererData
@@ -172,7 +172,7 @@ entry_for number root = record { number = number.0; digest = root }
 pub same_open : (x y : OpenData) → Some x ≡ Some y → x ≡ y
 same_open x y e = some_injective x y e
 
-installs_so : (a b : JoinedData) (d : DeskData) (m : OpenData) (number : Number) (root : List ℕ) → a.desk.transfer ≡ Some m → Installs a.desk d (Some (entry_for number root)) → MovesMarks number.0 (record a { desk = d }) b
+installs_so : (a b : JoinedData) (d : DeskData) (m : OpenData) (number : Number) (root : List ℕ) → a.desk.transfer ≡ Some m → InstallsHeldPages a.desk d (Some (entry_for number root)) → MovesMarks number.0 (record a { desk = d }) b
     → IsInstalled a m number root d.executed.state b
 installs_so a b d m number root there (o, is_open, entry_is, has, falls, d_is, below) (x, (claims, cuts, x_is), moves) = record {
   has = subst (λ (y : OpenData). HasPagesAt y.transfer.number y.transfer.held d.executed.state) same has;
@@ -202,20 +202,20 @@ installed_party a n claims st low cuts = record {
 }
 
 -- The fetched state's number is reached.
-pub number_reached : (a b : JoinedData) (m : OpenData) (before after : List Output) → a.desk.transfer ≡ Some m → InstallsFetched a before b after true → b.desk.executed.state.number ≡ m.transfer.number
+pub number_reached : (a b : JoinedData) (m : OpenData) (before after : List Output) → a.desk.transfer ≡ Some m → InstallsFetchedState a before b after true → b.desk.executed.state.number ≡ m.transfer.number
 number_reached a b m before after there (d, number, root, installs, gives, moves) =
     let i = installs_so a b d m number root there installs moves in
     ap (λ (r : JoinedData). r.desk.executed.state.number) i.new_is ∙ i.has.number
 
 -- The party is the same.
-pub moved_party : (a b : JoinedData) (m : OpenData) (before after : List Output) → a.desk.transfer ≡ Some m → InstallsFetched a before b after true → IsSameParty a b
+pub moved_party : (a b : JoinedData) (m : OpenData) (before after : List Output) → a.desk.transfer ≡ Some m → InstallsFetchedState a before b after true → IsSameParty a b
 moved_party a b m before after there (d, number, root, installs, gives, moves) =
     let i = installs_so a b d m number root there installs moves in
     subst (λ (r : JoinedData). IsSameParty a r) (sym i.new_is) (installed_party a m.transfer.number i.claims d.executed.state (logs.cut_to a.orderer.log m.transfer.number).low i.cuts)
 
 -- The replica installs the fetched state.
 pub installs_fetched : (c : Configuration) (s : Start) (a b : JoinedData) (m : OpenData) (before after : List Output) → AreOne a.orderer a.desk → IsFetched c s a m before → IsVotedAll a.orderer.log
-    → InstallsFetched a before b after true → PartsFitEvent c s b.orderer b.desk [] after × IsVotedAll b.orderer.log
+    → InstallsFetchedState a before b after true → PartsFitEvent c s b.orderer b.desk [] after × IsVotedAll b.orderer.log
 installs_fetched c s a b m before after one g voted (d, number, root, installs, gives, moves) =
     let i = installs_so a b d m number root g.is_open installs moves in
     let st = d.executed.state in

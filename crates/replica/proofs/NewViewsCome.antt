@@ -10,9 +10,9 @@ use Rattle.signing.specs.Heard.{heard}
 use Rattle.events.specs.declared.output.Output.{Output}
 use Rattle.authenticator.specs.Membership.{Membership}
 use Rattle.posting.specs.Endpoint.{EndpointState}
-use Rattle.view_change.specs.Checking.{refusal}
-use Rattle.view_change.specs.Laws.{AreAlike, NewViewsAreJudged, SizesDecide}
-use Rattle.view_change.specs.ReceivedView.{ReceivedState, configuration_of}
+use Rattle.view_change.specs.Checking.{new_view_refusal}
+use Rattle.view_change.specs.Laws.{AreAlikeConfigurations, NewViewsAreJudged, SizesDecide}
+use Rattle.view_change.specs.ReceivedView.{ReceivedState, judging_configuration}
 use Rattle.protocol.specs.System.Configuration.{Configuration, members, primary}
 use Rattle.protocol.specs.System.Trace.{Entry}
 use Rattle.protocol.specs.System.Trace.Entry.{Got}
@@ -22,11 +22,11 @@ use Rattle.protocol.specs.Replica.RightReplica.{with_waiting}
 use Rattle.protocol.specs.Replica.State.{call_in}
 use Rattle.protocol.proofs.Agreement.Marks.{few_batches}
 use Rattle.replica_histories.specs.Questions.{AnswersInput, has_question}
-use Rattle.replica_histories.specs.Changes.{IsNoChange, Passes}
+use Rattle.replica_histories.specs.Changes.{IsNoChange, LogPassesEntry}
 use Rattle.replica_histories.specs.Desk.{desk_from}
 use Rattle.replica_histories.specs.Events as histories
 use Rattle.replica_histories.specs.Events.{IsTaken}
-use Rattle.replica_histories.specs.Inputs.{IsBesideLog, asked}
+use Rattle.replica_histories.specs.Inputs.{IsBesideLog, replies_again}
 use Rattle.replica_histories.specs.Views.{begun_log, start_due}
 use Rattle.replica_histories.proofs.Beginning.{start_small, new_small, still_brings}
 use Rattle.replica_histories.proofs.ChangesKept.{got_keep, others_bring_none}
@@ -44,7 +44,7 @@ use Rattle.replica.specs.Desks.{PartsFitEvent}
 use Rattle.replica.specs.Entering.{event_of, IsTakenAnswered, TakesBytes, TakesMessage}
 use Rattle.replica.specs.Joined.{JoinedMatchesHistory}
 use Rattle.replica.proofs.Beginning.{changes_kept, heard_by, rests}
-use Rattle.replica.specs.EnteringViews.{Enters}
+use Rattle.replica.specs.EnteringViews.{EntersView}
 use Rattle.orderer.proofs.Parties.{same_log}
 use Rattle.replica.proofs.Parties.{one_self}
 use Rattle.orderer.proofs.Staying.{numbers_beside, said_on}
@@ -55,12 +55,12 @@ use Rattle.desk.specs.DeskOf.{waiting_calls, desk_of}
 -- ---- which new views the replica takes
 
 -- a new view that is not refused starts at a number, with few batches
-pub right_views_are_small : NewViewsAreJudged → (r : ReceivedState) (v t sender : ℕ) (new : NewViewData) → refusal (configuration_of r) v t sender new ≡ None → (new.start < 2 ^ 48) × (length new.batches ≤ 32)
+pub right_views_are_small : NewViewsAreJudged → (r : ReceivedState) (v t sender : ℕ) (new : NewViewData) → new_view_refusal (judging_configuration r) v t sender new ≡ None → (new.start < 2 ^ 48) × (length new.batches ≤ 32)
 right_views_are_small judge r v t sender new h =
-    let selected = (and_parts (sender == primary (configuration_of r) new.view) (may_select (configuration_of r) new) ((judge (configuration_of r) v t sender new).0 h).0).1 in
-    let few = (few_batches (configuration_of r) new selected).0 in
+    let selected = (and_parts (sender == primary (judging_configuration r) new.view) (may_select (judging_configuration r) new) ((judge (judging_configuration r) v t sender new).0 h).0).1 in
+    let few = (few_batches (judging_configuration r) new selected).0 in
     let short = r.sizes.short in
-    (start_small (configuration_of r) new selected, omega (arith, few, short))
+    (start_small (judging_configuration r) new selected, omega (arith, few, short))
 
 -- the replica takes exactly the received new views that it does not refuse
 module _ (judge : NewViewsAreJudged) (c : Configuration) (me sender : ℕ) (past : List Entry) (new : NewViewData) (bytes : List ℕ) (hears : heard (members c) me bytes ≡ Some (record { sender = sender; message = NewView new })) where
@@ -70,12 +70,12 @@ module _ (judge : NewViewsAreJudged) (c : Configuration) (me sender : ℕ) (past
   taken_is : taken c past (Got me bytes) ≡ option_and_then (λ x. then_some (Later x) x) (then_some ((sender == primary c new.view) && may_select c new) new)
   taken_is = ap (λ (o : Option Body). option_and_then (λ x. then_some (Later x) x) (option_and_then (new_view_from c) o)) hears
 
-  right_taken : refusal c (view c past) (target past) sender new ≡ None → taken c past (Got me bytes) ≡ Some new
+  right_taken : new_view_refusal c (view c past) (target past) sender new ≡ None → taken c past (Got me bytes) ≡ Some new
   right_taken h =
       let j = (judge c (view c past) (target past) sender new).0 h in
       taken_is ∙ ap (λ (b : Bool). option_and_then (λ x. then_some (Later x) x) (then_some b new)) j.0 ∙ ap (λ (b : Bool). then_some b new) j.1
 
-  refused_untaken : refusal c (view c past) (target past) sender new ≢ None → taken c past (Got me bytes) ≡ None
+  refused_untaken : new_view_refusal c (view c past) (target past) sender new ≢ None → taken c past (Got me bytes) ≡ None
   refused_untaken refused = taken_is ∙ go ((sender == primary c new.view) && may_select c new) (Later new) refl refl
     where
       go : (a b : Bool) → ((sender == primary c new.view) && may_select c new) ≡ a → Later new ≡ b → option_and_then (λ x. then_some (Later x) x) (then_some a new) ≡ None
@@ -101,13 +101,13 @@ module _ (judge : NewViewsAreJudged) (decide : SizesDecide) (r : JoinedData) (on
 
   -- it is judged as the history's configuration judges it
   judged : (c : Configuration) (past : List Entry) → JoinedMatchesHistory c r past → members c ≡ r.desk.membership
-      → refusal c (view c past) (target past) sender new ≡ refusal (configuration_of r.orderer.received) r.orderer.log.view r.orderer.target sender new
+      → new_view_refusal c (view c past) (target past) sender new ≡ new_view_refusal (judging_configuration r.orderer.received) r.orderer.log.view r.orderer.target sender new
   judged c past runs known =
-      ap (λ (v : ℕ). refusal c v (target past) sender new) runs.holds.of_log.fits.view
-      ∙ ap (λ (t : ℕ). refusal c r.orderer.log.view t sender new) runs.changes.target
-      ∙ (decide c (configuration_of r.orderer.received) alike).refused r.orderer.log.view r.orderer.target sender new
+      ap (λ (v : ℕ). new_view_refusal c v (target past) sender new) runs.holds.of_log.fits.view
+      ∙ ap (λ (t : ℕ). new_view_refusal c r.orderer.log.view t sender new) runs.changes.target
+      ∙ (decide c (judging_configuration r.orderer.received) alike).refused r.orderer.log.view r.orderer.target sender new
     where
-      alike : AreAlike c (configuration_of r.orderer.received)
+      alike : AreAlikeConfigurations c (judging_configuration r.orderer.received)
       alike = record {
         seed = ap (λ (m : Membership). m.seed) (known ∙ one.1) ∙ sym own.2;
         faults = ap (λ (m : Membership). m.faults) (known ∙ one.1) ∙ sym own.3;
@@ -129,7 +129,7 @@ module _ (judge : NewViewsAreJudged) (decide : SizesDecide) (r : JoinedData) (on
       waiting = ap (λ (o : Option Body). option_map_or (with_waiting r.desk.executed.state (waiting_calls c r.desk.waiting.requests)) (option_and_then (call_in c) o) (waiting_calls c r.desk.waiting.requests)) (sym (hears c known));
       transfer = refl;
       frames = λ frame k. inl k;
-      due_is = ap (asked r.desk.executed.state) (sym (hears c known));
+      due_is = ap (replies_again r.desk.executed.state) (sym (hears c known));
     })
 
     event : FitsEvent c me (event_of c r past runs bytes) r.orderer (desk_of c r.desk) r.desk.waiting [] []
@@ -150,7 +150,7 @@ module _ (judge : NewViewsAreJudged) (decide : SizesDecide) (r : JoinedData) (on
       fits = subst (λ (m : ℕ). FitsEvent c m (event_of c r past runs bytes) r.orderer (desk_of c r.desk) r.desk.waiting [] []) (sym one.0) event;
     }
 
-  refused_dropped : refusal (configuration_of r.orderer.received) r.orderer.log.view r.orderer.target sender new ≢ None → TakesBytes bytes r touched.Nothing r []
+  refused_dropped : new_view_refusal (judging_configuration r.orderer.received) r.orderer.log.view r.orderer.target sender new ≢ None → TakesBytes bytes r touched.Nothing r []
   refused_dropped refused = record {
     party = one_self r;
     begins = λ c past runs known. (
@@ -167,7 +167,7 @@ module _ (judge : NewViewsAreJudged) (decide : SizesDecide) (r : JoinedData) (on
     begins_it : histories.Fits c me (event_of c r past runs bytes) (desk_from (begun_log r.orderer.log new).low (desk_of c r.desk)) (begun_log r.orderer.log new) (start_due (desk_of c r.desk) new) []
     begins_it = new_views_enter c me (desk_of c r.desk) r.orderer.log past sender new bytes runs.holds (hears c known) t
 
-    passes : Passes c me past e r.orderer.log (begun_log r.orderer.log new)
+    passes : LogPassesEntry c me past e r.orderer.log (begun_log r.orderer.log new)
     passes = inputs_enter c me (desk_of c r.desk) (desk_from (begun_log r.orderer.log new).low (desk_of c r.desk)) r.orderer.log (begun_log r.orderer.log new) (start_due (desk_of c r.desk) new) past e runs.holds begins_it
 
     taken_stands : PartsFitEvent c (event_of c r past runs bytes) n.orderer n.desk [] outs
@@ -181,8 +181,8 @@ module _ (judge : NewViewsAreJudged) (decide : SizesDecide) (r : JoinedData) (on
               (others_owe_none c me past e outputs runs.holds.of_desk.point executed (asks_no_part c known)),
         )
 
-  right_entered : r.desk.executed.clients ≡ r.desk.membership.clients → (n : JoinedData) (outs : List Output) → refusal (configuration_of r.orderer.received) r.orderer.log.view r.orderer.target sender new ≡ None
-      → Enters new.view (start_in new) new.batches None r [] n outs → TakesBytes bytes r touched.View n outs
+  right_entered : r.desk.executed.clients ≡ r.desk.membership.clients → (n : JoinedData) (outs : List Output) → new_view_refusal (judging_configuration r.orderer.received) r.orderer.log.view r.orderer.target sender new ≡ None
+      → EntersView new.view (start_in new) new.batches None r [] n outs → TakesBytes bytes r touched.View n outs
   right_entered clients n outs right enters = record {
     party = entered_party new None r [] n outs x;
     begins = λ c past runs known.
@@ -205,18 +205,18 @@ module _ (judge : NewViewsAreJudged) (decide : SizesDecide) (r : JoinedData) (on
 
 -- the replica enters with the selection in the new view
 pub enters_with : (new : NewViewData) (start : ℕ) (root : List ℕ) (texts : List (List ℕ)) (r n : JoinedData) (before after : List Output) → start ≡ new.start → root ≡ new.root → texts ≡ new.batches → before ≡ []
-    → Enters new.view (record { number = start; digest = root }) texts None r before n after → Enters new.view (start_in new) new.batches None r [] n after
+    → EntersView new.view (record { number = start; digest = root }) texts None r before n after → EntersView new.view (start_in new) new.batches None r [] n after
 enters_with new start root texts r n before after start_is root_is texts_are none x =
-    subst (λ (k : ℕ). Enters new.view (record { number = k; digest = new.root }) new.batches None r [] n after) start_is
-    (subst (λ (d : List ℕ). Enters new.view (record { number = start; digest = d }) new.batches None r [] n after) root_is
-    (subst (λ (ts : List (List ℕ)). Enters new.view (record { number = start; digest = root }) ts None r [] n after) texts_are
-    (subst (λ (outs : List Output). Enters new.view (record { number = start; digest = root }) texts None r outs n after) none x)))
+    subst (λ (k : ℕ). EntersView new.view (record { number = k; digest = new.root }) new.batches None r [] n after) start_is
+    (subst (λ (d : List ℕ). EntersView new.view (record { number = start; digest = d }) new.batches None r [] n after) root_is
+    (subst (λ (ts : List (List ℕ)). EntersView new.view (record { number = start; digest = root }) ts None r [] n after) texts_are
+    (subst (λ (outs : List Output). EntersView new.view (record { number = start; digest = root }) texts None r outs n after) none x)))
 
 pub new_view_dropped : NewViewsAreJudged → SizesDecide → (r : JoinedData) (sender : ReplicaId) (new : NewViewData) → AreOne r.orderer r.desk → IsOrderer r.orderer
-    → refusal (configuration_of r.orderer.received) r.orderer.log.view r.orderer.target sender.0 new ≢ None → TakesMessage sender (NewView new) r touched.Nothing r []
+    → new_view_refusal (judging_configuration r.orderer.received) r.orderer.log.view r.orderer.target sender.0 new ≢ None → TakesMessage sender (NewView new) r touched.Nothing r []
 new_view_dropped judge decide r sender new one own refused bytes h = refused_dropped judge decide r one own sender.0 new bytes h refused
 
 pub new_view_entered : NewViewsAreJudged → SizesDecide → (r : JoinedData) (sender : ReplicaId) (new : NewViewData) (n : JoinedData) (outs : List Output) → AreOne r.orderer r.desk → IsOrderer r.orderer → r.desk.executed.clients ≡ r.desk.membership.clients
-    → refusal (configuration_of r.orderer.received) r.orderer.log.view r.orderer.target sender.0 new ≡ None → Enters new.view (start_in new) new.batches None r [] n outs
+    → new_view_refusal (judging_configuration r.orderer.received) r.orderer.log.view r.orderer.target sender.0 new ≡ None → EntersView new.view (start_in new) new.batches None r [] n outs
     → TakesMessage sender (NewView new) r touched.View n outs
 new_view_entered judge decide r sender new n outs one own clients right enters bytes h = right_entered judge decide r one own sender.0 new bytes h clients n outs right enters

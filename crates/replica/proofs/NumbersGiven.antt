@@ -20,7 +20,7 @@ use Rattle.replica_histories.specs.Desk.{Desk}
 use Rattle.replica_histories.specs.Logs.{FitsLog}
 use Rattle.replica_histories.specs.Events.{Start, after_outputs}
 use Rattle.replica_histories.specs.Numbers as numbers
-use Rattle.replica_histories.specs.Numbers.{AreCalls, Waiting, HasNumber, HasNone, IsRightly}
+use Rattle.replica_histories.specs.Numbers.{AreCalls, Waiting, CallHasNumber, CallHasNoNumber, IsRightly}
 use Rattle.replica_histories.specs.Outputs.{MayNumber}
 use Rattle.replica_histories.proofs.Words.{marks_are}
 use Rattle.replica_histories.proofs.Numbers.{next_is_free}
@@ -28,7 +28,7 @@ use Rattle.replica_histories.proofs.NumbersLists.{each_unmapped, has_taken, pair
 use Rattle.desk.specs.declared.waiting.WaitingRequest.{WaitingRequest}
 use Rattle.replica.specs.State.{JoinedData, AreOne}
 use Rattle.desk.specs.State.{DeskData}
-use Rattle.desk.specs.Waiting.{WaitingData, texts, frames_of, all_unnumbered, unnumbered, count_unnumbered, all_numbered, with_numbered}
+use Rattle.desk.specs.Waiting.{WaitingData, texts, frames_waiting, all_unnumbered, unnumbered, count_unnumbered, all_numbered, with_numbered}
 use Rattle.orderer.specs.Flags.{FitsFlags, flagged}
 use Rattle.desk.specs.Begun.{begun_of}
 use Rattle.desk.specs.DeskOf.{waiting_call, waiting_calls, desk_of, SpellCalls, AreOfDifferentClients}
@@ -36,9 +36,9 @@ use Rattle.replica.specs.Desks.{PartsFitEvent}
 use Rattle.replica.specs.Going.{GoesOnWith, IsSameParty, FitIsKept, NothingIsLeft}
 use Rattle.replica.specs.Numbering.{IsAllNumbered}
 use Rattle.orderer.specs.Fitting.{given, FitsEvent}
-use Rattle.orderer.specs.Going.{IsSameLog, IsSameOrderer, IsVoted, IsVotedBut, IsVotedAll}
+use Rattle.orderer.specs.Going.{IsSameLog, IsSameOrderer, NoVoteIsDue, IsVotedBut, IsVotedAll}
 use Rattle.orderer.specs.Numbering.{next_number}
-use Rattle.replica.specs.NumbersNext.{NumbersNext, GivesNumber, NumbersWaiting}
+use Rattle.replica.specs.NumbersNext.{NumbersNext, GivesNumber, NumbersWaitingRequests}
 use Rattle.desk.proofs.WaitingKept.{few_unnumbered}
 use Rattle.orderer.proofs.Flags.{oldest_spelled}
 use Rattle.replica.proofs.Parties.{same_party, parties_twice}
@@ -48,7 +48,7 @@ use Rattle.orderer.proofs.Voting.{due_prepare_elsewhere, due_commit_elsewhere}
 -- ---- waiting requests
 
 -- one of the oldest without a number waits
-frame_waits : (frame : List ℕ) (w : WaitingData) → Has (λ x. x ≡ frame) (texts (unnumbered w)) → Has (λ x. x ≡ frame) (frames_of w)
+frame_waits : (frame : List ℕ) (w : WaitingData) → Has (λ x. x ≡ frame) (texts (unnumbered w)) → Has (λ x. x ≡ frame) (frames_waiting w)
 frame_waits frame w h =
     let at = has_map (λ x. x ≡ frame) (λ (r : WaitingRequest). r.frame.items) (unnumbered w) h in
     has_mapped (λ x. x ≡ frame) (λ (r : WaitingRequest). r.frame.items) w.requests
@@ -61,7 +61,7 @@ none_numbered : (c : Configuration) (me v : ℕ) (history : List Entry) (client 
 none_numbered c me v history client timestamp [] r h n = h
 none_numbered c me v history client timestamp (e ∷ es) r h n = go e.numbered r.0 (none_numbered c me v history client timestamp es r.1) h
   where
-    go : (b : Bool) → either b (HasNumber c me v history e.call) (HasNone c me v history e.call)
+    go : (b : Bool) → either b (CallHasNumber c me v history e.call) (CallHasNoNumber c me v history e.call)
         → (Has (λ (x : Waiting). IsAt client timestamp x.call) (numbers.unnumbered es) → IsNumbered c me history v client timestamp → ⊥)
         → Has (λ (x : Waiting). IsAt client timestamp x.call) (cond (not b) (e ∷ numbers.unnumbered es) (numbers.unnumbered es)) → ⊥
     go true k rest at = rest at n
@@ -116,7 +116,7 @@ left_numbered (suc n) (r ∷ rs) h = go r.numbered refl (left_numbered (suc n) r
 -- ---- one batch
 
 module _ (c : Configuration) (me number used : ℕ) (log : LogData) (text : List ℕ) (w : WaitingData) (desk : Desk) (history : List Entry) (inside : logs.is_in_marks log number ≡ true)
-    (active : log.active ≡ true) (primary : logs.primary log log.view ≡ log.me) (free : IsFree c me history desk.state.number log.view number) (reads : requests_of text ≡ texts (unnumbered w)) (frames : desk.frames ≡ frames_of w)
+    (active : log.active ≡ true) (primary : logs.primary log log.view ≡ log.me) (free : IsFree c me history desk.state.number log.view number) (reads : requests_of text ≡ texts (unnumbered w)) (frames : desk.frames ≡ frames_waiting w)
     (calls : SpellCalls c w.requests) (of_log : FitsLog c me log history) (f : FitsFlags c me log.view used w desk.state desk.waiting history) where
   abbrev entries : List Waiting
   entries = flagged c w.requests
@@ -235,7 +235,7 @@ module _ (number : ℕ) (a b : JoinedData) (x y : List Output) (one : AreOne a.o
   }
 
   voted_but : IsVotedAll a.orderer.log → IsVotedBut number b.orderer.log
-  voted_but voted i ne = subst (λ (l : LogData). IsVoted l i) (sym n.says.log)
+  voted_but voted i ne = subst (λ (l : LogData). NoVoteIsDue l i) (sym n.says.log)
       (due_prepare_elsewhere a.orderer.log i number _ inside ne ∙ (voted i).0, due_commit_elsewhere a.orderer.log i number _ inside ne ∙ (voted i).1)
 
   fewer : count_unnumbered b.desk.waiting < count_unnumbered w
@@ -281,13 +281,13 @@ one_given count a b d x y z f g = record {
   fewer = let first = f.fewer in let then = g.fewer in omega (arith, first, then);
 }
 
-pub numbers_stop : (count : ℕ) (a b d : JoinedData) (x y z : List Output) → NumbersSoFar count a x b y → (d ≡ b) × (z ≡ y) × IsAllNumbered b → NumbersWaiting a x d z
+pub numbers_stop : (count : ℕ) (a b d : JoinedData) (x y z : List Output) → NumbersSoFar count a x b y → (d ≡ b) × (z ≡ y) × IsAllNumbered b → NumbersWaitingRequests a x d z
 numbers_stop count a b d x y z f (same, outs, all) =
-    subst (λ (r : JoinedData). NumbersWaiting a x r z) (sym same) (subst (λ (o : List Output). NumbersWaiting a x b o) (sym outs)
+    subst (λ (r : JoinedData). NumbersWaitingRequests a x r z) (sym same) (subst (λ (o : List Output). NumbersWaitingRequests a x b o) (sym outs)
     (record { proceeds = f.proceeds; party = f.party; rises = f.rises; rests = f.rests; all = all }))
 
 -- after as many numbers as requests without one, none is left
-pub numbers_end : (count : ℕ) (a b : JoinedData) (x y : List Output) → count ≡ count_unnumbered a.desk.waiting → NumbersSoFar count a x b y → NumbersWaiting a x b y
+pub numbers_end : (count : ℕ) (a b : JoinedData) (x y : List Output) → count ≡ count_unnumbered a.desk.waiting → NumbersSoFar count a x b y → NumbersWaitingRequests a x b y
 numbers_end count a b x y whole f = record {
   proceeds = f.proceeds;
   party = f.party;

@@ -23,9 +23,9 @@ use Rattle.protocol.specs.Replica.RightReplica.{HasSeen}
 use Rattle.protocol.specs.Replica.Selection.{is_start, may_all_stand, may_select, null_batch}
 use Rattle.protocol.proofs.Agreement.Marks.{largest_of-le}
 use Rattle.protocol.proofs.Words.Elements.{each_append, each_has}
-use Rattle.view_change.specs.Laws.{AreAlike, SizesDecide}
+use Rattle.view_change.specs.Laws.{AreAlikeConfigurations, SizesDecide}
 use Rattle.view_change.specs.ReceivedData.{HeldData, held_of, held_for, frames_for, pairs_for}
-use Rattle.view_change.specs.ReceivedView.{configuration_of}
+use Rattle.view_change.specs.ReceivedView.{judging_configuration}
 use Rattle.view_change.specs.Selecting.{AreFrom, how_many_from, meets}
 use Rattle.view_change.specs.Sets.{sized, texts_of}
 use Rattle.replica_histories.specs.Changes.{FitsChanges}
@@ -50,9 +50,9 @@ use Rattle.desk.specs.DeskOf.{desk_of, IsDeskOf}
 use Rattle.replica.specs.Beginning.{BeginsView}
 use Rattle.orderer.specs.Claiming.{SaysFrame}
 use Rattle.replica.specs.Desks.{PartsFitEvent}
-use Rattle.replica.specs.EnteringViews.{Enters}
+use Rattle.replica.specs.EnteringViews.{EntersView}
 use Rattle.orderer.specs.Flags.{FitsFlags}
-use Rattle.orderer.specs.Fitting.{given, changes_of, FitsEvent, FitsWaiting}
+use Rattle.orderer.specs.Fitting.{given, changes_held, FitsEvent, FitsWaiting}
 use Rattle.orderer.specs.EnteringViews.{IsSelection, MaySignView, SignsView, new_view_of}
 use Rattle.replica.specs.Going.{NothingIsLeft}
 use Rattle.replica.proofs.BegunViews.{Begins, begins, begun_orderer, begun_stands, all_voted, one_active, one_party, one_target, start_of}
@@ -77,7 +77,7 @@ selects_few o start root batches sel =
     omega (arith, few, same)
 
 pub starts_small : (o : OrdererData) (start : ℕ) (root frame : List ℕ) (texts : List (List ℕ)) → SignsView o (new_view_of o start root texts) frame → start < 2 ^ 48
-starts_small o start root frame texts signs = start_small (configuration_of o.received) (new_view_of o start root texts) signs.right
+starts_small o start root frame texts signs = start_small (judging_configuration o.received) (new_view_of o start root texts) signs.right
 
 -- ---- what the new view carries was seen
 
@@ -117,11 +117,11 @@ module _ (decide : SizesDecide) (o : OrdererData) (start : ℕ) (root frame : Li
     pub posted : IsPosted c me (NewView new) [] frame
     posted = signs.signed c known
 
-    alike : AreAlike c (configuration_of o.received)
+    alike : AreAlikeConfigurations c (judging_configuration o.received)
     alike = record { seed = ap (λ m. m.seed) known ∙ sym own.2; faults = ap (λ m. m.faults) known ∙ sym own.3; period = period }
 
     right : may_select c new ≡ true
-    right = (decide c (configuration_of o.received) alike).selected new ∙ signs.right
+    right = (decide c (judging_configuration o.received) alike).selected new ∙ signs.right
 
     pub is_primary : primary c new.view ≡ me
     is_primary = sym (primary_same c o.log new.view faults) ∙ sel.primary ∙ is_me
@@ -142,7 +142,7 @@ module _ (decide : SizesDecide) (o : OrdererData) (start : ℕ) (root frame : Li
         ap (option_and_then (λ (x : NewViewData). then_some (is_later (view c past) (target past) x) x)) brings
         ∙ ap (λ (b : Bool). then_some b new) later
 
-    pub is_seen : FitsChanges c me o.log (changes_of o) past → Each (λ bytes. Once (HasSeen bytes) past) (carried (NewView new))
+    pub is_seen : FitsChanges c me o.log (changes_held o) past → Each (λ bytes. Once (HasSeen bytes) past) (carried (NewView new))
     is_seen x =
         each_append (λ bytes. Once (HasSeen bytes) past) (frames_for o.target o.received.held) (requests_of_all texts)
         (frames_are (λ bytes. Once (HasSeen bytes) past) o.target o.received.held x.received.seen)
@@ -158,7 +158,7 @@ signing r = record r { orderer = record r.orderer { spent = r.orderer.spent + 1 
 module _ (decide : SizesDecide) (r : JoinedData) (start : ℕ) (root frame : List ℕ) (texts : List (List ℕ)) (before said after : List Output) (n : JoinedData)
     (one : AreOne r.orderer r.desk) (own : IsOrderer r.orderer) (is_log : IsLog r.orderer.log) (clients : r.desk.executed.clients ≡ r.desk.membership.clients)
     (sel : IsSelection r.orderer start root texts) (signs : SignsView r.orderer (new_view_of r.orderer start root texts) frame) (says : SaysFrame r.orderer frame before said)
-    (enters : Enters r.orderer.target (start_of (new_view_of r.orderer start root texts)) texts (Some frame) (signing r) said n after) where
+    (enters : EntersView r.orderer.target (start_of (new_view_of r.orderer start root texts)) texts (Some frame) (signing r) said n after) where
   abbrev o : OrdererData
   o = r.orderer
 
@@ -213,9 +213,9 @@ module _ (decide : SizesDecide) (r : JoinedData) (start : ℕ) (root frame : Lis
         new_views_fit c mine s desk o.log (given mine before) its frame (λ i. (rests.0 i).1) rests.1 leads takes seen signed
         (next_leaf_is_own frame o.spent past signs.by_leaf f.changes.leaves) f.fits
 
-    changes : FitsChanges c mine (begun_log o.log its) (changes_of begun) (e ∷ past)
+    changes : FitsChanges c mine (begun_log o.log its) (changes_held begun) (e ∷ past)
     changes =
-        views_are_begun c mine past e o.log (changes_of o) its (Some frame) k.claims mine (o.spent + 1)
+        views_are_begun c mine past e o.log (changes_held o) its (Some frame) k.claims mine (o.spent + 1)
         (outputs_pass c mine s desk (desk_from low desk) o.log (begun_log o.log its) [] (start_due desk its) (given mine before) e f.fits on)
         takes signed.says k.kept (refl, leads, signed) (next_is_spent mine o.spent past frame signs.by_leaf) f.changes
 
@@ -257,11 +257,11 @@ pub begins_so : (decide : SizesDecide) (r : JoinedData) (start : ℕ) (root fram
     → AreOne r.orderer r.desk → IsOrderer r.orderer → IsLog r.orderer.log → r.desk.executed.clients ≡ r.desk.membership.clients
     → IsSelection r.orderer start root texts → SignsView r.orderer (new_view_of r.orderer start root texts) frame
     → signed ≡ (signing r).orderer → bytes ≡ frame → SaysFrame signed bytes before said
-    → view ≡ r.orderer.target → mid ≡ signing r → Enters view (start_of (new_view_of r.orderer start root texts)) texts (Some frame) mid said n after
+    → view ≡ r.orderer.target → mid ≡ signing r → EntersView view (start_of (new_view_of r.orderer start root texts)) texts (Some frame) mid said n after
     → BeginsView r before n after
 begins_so decide r start root frame texts before said after n view bytes signed mid one own is_log clients sel signs same_orderer same_bytes says same_view same enters =
     own_view_begins decide r start root frame texts before said after n one own is_log clients sel signs
     (let k = subst (λ (o : OrdererData). SaysFrame o frame before said) same_orderer (subst (λ (b : List ℕ). SaysFrame signed b before said) same_bytes says) in
     record { output = k.output; sends = k.sends; given_is = k.given_is })
-    (subst (λ (v : ℕ). Enters v (start_of (new_view_of r.orderer start root texts)) texts (Some frame) (signing r) said n after) same_view
-    (subst (λ (m : JoinedData). Enters view (start_of (new_view_of r.orderer start root texts)) texts (Some frame) m said n after) same enters))
+    (subst (λ (v : ℕ). EntersView v (start_of (new_view_of r.orderer start root texts)) texts (Some frame) (signing r) said n after) same_view
+    (subst (λ (m : JoinedData). EntersView view (start_of (new_view_of r.orderer start root texts)) texts (Some frame) m said n after) same enters))

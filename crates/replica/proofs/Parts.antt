@@ -12,7 +12,7 @@ use Rattle.signing.specs.Heard.{heard}
 use Rattle.events.specs.declared.output.Output.{Output}
 use Rattle.state_transfer.specs.declared.place.Place.{Place}
 use Rattle.state_transfer.specs.Places.{page_place}
-use Rattle.state_transfer.specs.Transfer.{TransferData, fitting, digest_of_part, pages_of_part, wanted_at, wanted, with_digests, with_page}
+use Rattle.state_transfer.specs.Transfer.{TransferData, fitting_children, digest_of_part, pages_of_part, wanted_at, wanted, with_digests, with_page}
 use Rattle.protocol.specs.System.Configuration.{Configuration, members}
 use Rattle.protocol.specs.System.Trace.{Entry, Has}
 use Rattle.protocol.specs.System.Trace.Entry.{Got}
@@ -25,7 +25,7 @@ use Rattle.replica_histories.specs.Events as histories
 use Rattle.replica_histories.specs.Events.{IsTaken}
 use Rattle.replica_histories.specs.Fetching.{IsOther}
 use Rattle.replica_histories.specs.Changes.{IsNoChange}
-use Rattle.replica_histories.specs.Transfers.{FitsOpen, MayAsk, IsTold, RestsOnState}
+use Rattle.replica_histories.specs.Transfers.{FitsOpenTransfer, TransferMayAsk, IsTold, RestsOnState}
 use Rattle.replica_histories.proofs.Fetching.{digests_enter, pages_enter, asked_digests_count, asked_pages_count}
 use Rattle.replica_histories.proofs.PartsOwed.{fetches_suffice, other_digests_owe_none, other_pages_owe_none}
 use Rattle.replica_histories.proofs.Transfers.{digests_keep, digests_open}
@@ -36,10 +36,10 @@ use Rattle.replica.specs.State.{JoinedData, AreOne}
 use Rattle.desk.specs.State.{DeskData, OpenData}
 use Rattle.orderer.specs.Fitting.{given, FitsEvent}
 use Rattle.replica.specs.Entering.{event_of, TakesBytes}
-use Rattle.replica.specs.Fetching.{AsksOn, SaysFetch}
+use Rattle.replica.specs.Fetching.{FetchesNextPart, SaysFetch}
 use Rattle.desk.specs.Fetching.{fetch_of, with_transfer, TakesDigests, TakesPage}
 use Rattle.replica.specs.Joined.{JoinedMatchesHistory, me_of}
-use Rattle.orderer.specs.Saying.{Says}
+use Rattle.orderer.specs.Saying.{SaysToOthers}
 use Rattle.desk.specs.Transferring.{TakesDigestsOf, TakesPageOf, AsksPlace}
 use Rattle.desk.specs.DeskOf.{desk_of, RestsAt, IsDeskOf}
 use Rattle.replica.proofs.Beginning.{rests}
@@ -54,7 +54,7 @@ told_below t levels.Root index digest h below = absurd (below refl)
 told_below t levels.Inner index digest h below = let w = and_then_some (λ digests. slice_get digests index) t.part_digests digest h in (w.0, w.1)
 told_below t levels.Page index digest h below =
     let w = and_then_some (λ digests. slice_get digests (index % 32)) (pages_of_part t (index / 32)) digest h in
-    let v = and_then_some (λ inner. fitting inner (slice_index_or t.page_digests (index / 32) None)) (digest_of_part t (index / 32)) w.0 w.1 in
+    let v = and_then_some (λ inner. fitting_children inner (slice_index_or t.page_digests (index / 32) None)) (digest_of_part t (index / 32)) w.0 w.1 in
     let u = and_then_some (λ digests. slice_get digests (index / 32)) t.part_digests v.0 v.1 in
     (u.0, u.1)
 
@@ -70,7 +70,7 @@ pub record Comes (c : Configuration) (r : JoinedData) (past : List Entry) (runs 
   pub is : IsDeskOf c (with_transfer n r.desk)
   pub open_one : Option TransferData
   pub fits : FitsEvent c (me_of r) (event_of c r past runs bytes) r.orderer (record (desk_of c r.desk) { transfer = open_one }) r.desk.waiting [] []
-  pub may : MayAsk c (me_of r) n.transfer r.desk.executed.state.number (Got (me_of r) bytes ∷ past)
+  pub may : TransferMayAsk c (me_of r) n.transfer r.desk.executed.state.number (Got (me_of r) bytes ∷ past)
   pub told : IsTold n.transfer
   pub taken : IsTaken c (me_of r) (event_of c r past runs bytes)
   pub was : TransferData
@@ -82,7 +82,7 @@ pub record Comes (c : Configuration) (r : JoinedData) (past : List Entry) (runs 
 
 -- after the bytes it is open
 abbrev pub IsOpen : (c : Configuration) (r : JoinedData) (past : List Entry) → JoinedMatchesHistory c r past → List ℕ → OpenData → Type 0
-IsOpen c r past runs bytes n = FitsOpen c (me_of r) (Some n.transfer) r.desk.executed.state.number (Got (me_of r) bytes ∷ past)
+IsOpen c r past runs bytes n = FitsOpenTransfer c (me_of r) (Some n.transfer) r.desk.executed.state.number (Got (me_of r) bytes ∷ past)
 
 module _ (r : JoinedData) (one : AreOne r.orderer r.desk) (bytes : List ℕ) (sender : ℕ) (o n : OpenData) (there : r.desk.transfer ≡ Some o) (c : Configuration) (past : List Entry)
     (runs : JoinedMatchesHistory c r past) (known : members c ≡ r.desk.membership) where
@@ -99,7 +99,7 @@ module _ (r : JoinedData) (one : AreOne r.orderer r.desk) (bytes : List ℕ) (se
 
     comes : is_part body ≡ true → t.number ≡ o.transfer.number → new_view_from c body ≡ None → IsNoChange (Some body) → (RestsOnState o.transfer r.desk.executed.state → RestsOnState t r.desk.executed.state) → Counts c me past runs.holds.of_desk.point bytes sender message
         → (open_one : Option TransferData) → histories.Fits c me (event_of c r past runs bytes) (record (desk_of c r.desk) { transfer = open_one }) r.orderer.log [] []
-        → MayAsk c me t r.desk.executed.state.number (Got me bytes ∷ past) → IsTold t → Comes c r past runs bytes n
+        → TransferMayAsk c me t r.desk.executed.state.number (Got me bytes ∷ past) → IsTold t → Comes c r past runs bytes n
     comes part number views changes rests counts open_one fits may told = subst (Comes c r past runs bytes) (sym n_is) (record {
       is = record {
         members_are = runs.is_desk.members_are;
@@ -159,7 +159,7 @@ module _ (r : JoinedData) (one : AreOne r.orderer r.desk) (bytes : List ℕ) (se
     pub digests_stay : IsOpen c r past runs bytes n
     digests_stay = subst (IsOpen c r past runs bytes) (sym n_is_told)
         (digests_open c me o.transfer r.desk.executed.state.number past bytes sender o.transfer.number place meta.digests.items heard_here wants
-        (subst (λ (t : Option TransferData). FitsOpen c me t r.desk.executed.state.number past) open_there runs.holds.of_desk.opened))
+        (subst (λ (t : Option TransferData). FitsOpenTransfer c me t r.desk.executed.state.number past) open_there runs.holds.of_desk.opened))
 
   -- a page is taken
   pub page_comes : (page : Page) (replaced : Taken) → heard r.desk.membership r.desk.me bytes ≡ Some (record { sender = sender; message = PageMessage page.number.0 page.index page.text.items })
@@ -178,14 +178,14 @@ module _ (r : JoinedData) (one : AreOne r.orderer r.desk) (bytes : List ℕ) (se
 module _ (r : JoinedData) (one : AreOne r.orderer r.desk) (bytes : List ℕ) (n : OpenData)
     (comes : (c : Configuration) (past : List Entry) (runs : JoinedMatchesHistory c r past) → members c ≡ r.desk.membership → Comes c r past runs bytes n) where
   -- the fetch is sent
-  fetch_given : (c : Configuration) → members c ≡ r.orderer.endpoint.membership → (m : OpenData) (outs : List Output) → Says r.orderer (fetch_of m.transfer) [] outs → (k : ℕ) → m.transfer.number ≡ k
+  fetch_given : (c : Configuration) → members c ≡ r.orderer.endpoint.membership → (m : OpenData) (outs : List Output) → SaysToOthers r.orderer (fetch_of m.transfer) [] outs → (k : ℕ) → m.transfer.number ≡ k
       → Has (λ e. fetch_sent e ≡ k) (given (me_of r) outs)
   fetch_given c known m outs says k number =
       let said = said_in c r.orderer (fetch_of m.transfer) [] outs known says in
       subst (Has (λ e. fetch_sent e ≡ k)) (sym said.is.is)
       (inl (ap (λ (x : Option Body). option_map_or (λ (b : Body). elim b.message [ FetchMessage n level index ↦ n | _ ↦ 0 ]) x 0) said.posted.says ∙ number))
 
-  asks_for : (m : OpenData) (place : Place) (outs : List Output) → AsksPlace r.desk.executed.state n m (Some place) → Says r.orderer (fetch_of m.transfer) [] outs
+  asks_for : (m : OpenData) (place : Place) (outs : List Output) → AsksPlace r.desk.executed.state n m (Some place) → SaysToOthers r.orderer (fetch_of m.transfer) [] outs
       → TakesBytes bytes r touched.Nothing (record r { desk = with_transfer m r.desk }) outs
   asks_for m place outs asks says = record {
     party = record { endpoint = refl; me = refl; membership = refl };
@@ -208,11 +208,11 @@ module _ (r : JoinedData) (one : AreOne r.orderer r.desk) (bytes : List ℕ) (n 
         );
   }
 
-  said : (m : OpenData) (outs : List Output) → SaysFetch (record r { desk = with_transfer m r.desk }) [] outs → Says r.orderer (fetch_of m.transfer) [] outs
+  said : (m : OpenData) (outs : List Output) → SaysFetch (record r { desk = with_transfer m r.desk }) [] outs → SaysToOthers r.orderer (fetch_of m.transfer) [] outs
   said m outs (inl (none, same)) = absurd cc
-  said m outs (inr (x, is, says)) = subst (λ (y : OpenData). Says r.orderer (fetch_of y.transfer) [] outs) (sym (some_injective m x is)) says
+  said m outs (inr (x, is, says)) = subst (λ (y : OpenData). SaysToOthers r.orderer (fetch_of y.transfer) [] outs) (sym (some_injective m x is)) says
 
-  pub asks_on : (new : JoinedData) (outs : List Output) → AsksOn (record r { desk = with_transfer n r.desk }) [] new outs true → TakesBytes bytes r touched.Nothing new outs
+  pub asks_on : (new : JoinedData) (outs : List Output) → FetchesNextPart (record r { desk = with_transfer n r.desk }) [] new outs true → TakesBytes bytes r touched.Nothing new outs
   asks_on new outs (desk, (x, m, place, there, desk_is, asks), new_is, says) =
       let whole : new ≡ record r { desk = with_transfer m r.desk } = new_is ∙ ap (λ (d : DeskData). record r { desk = d }) desk_is in
       subst (λ (y : JoinedData). TakesBytes bytes r touched.Nothing y outs) (sym whole)
@@ -256,11 +256,11 @@ module _ (r : JoinedData) (one : AreOne r.orderer r.desk) (bytes : List ℕ) (se
       (heard_so r one c past runs bytes (record { sender = sender; message = PageMessage page.number.0 page.index page.text.items }) known hears)
       (of_open c past runs (λ t. IsOther t page.number.0 (page_place page.index) (sha256 page.text.items)) others)) same silent
 
-  module _ (before : List Output) (first : before ≡ []) (new : JoinedData) (asks : AsksOn (record r { desk = desk }) before new outs true) where
+  module _ (before : List Output) (first : before ≡ []) (new : JoinedData) (asks : FetchesNextPart (record r { desk = desk }) before new outs true) where
     -- the transfer takes it, and asks for more after it
     asked : (n : OpenData) → desk ≡ with_transfer n r.desk
         → ((c : Configuration) (past : List Entry) (runs : JoinedMatchesHistory c r past) → members c ≡ r.desk.membership → Comes c r past runs bytes n) → TakesBytes bytes r touched.Nothing new outs
-    asked n desk_is comes = asks_on r one bytes n comes new outs (subst (λ (d : DeskData). AsksOn (record r { desk = d }) [] new outs true) desk_is (subst (λ (os : List Output). AsksOn (record r { desk = desk }) os new outs true) first asks))
+    asked n desk_is comes = asks_on r one bytes n comes new outs (subst (λ (d : DeskData). FetchesNextPart (record r { desk = d }) [] new outs true) desk_is (subst (λ (os : List Output). FetchesNextPart (record r { desk = desk }) os new outs true) first asks))
 
     pub digests_asked : (meta : Meta) → heard r.desk.membership r.desk.me bytes ≡ Some (record { sender = sender; message = MetaMessage meta.number.0 meta.level meta.index meta.digests.items })
         → TakesDigests r.desk meta desk true → TakesBytes bytes r touched.Nothing new outs

@@ -15,7 +15,7 @@ use Rattle.protocol.specs.System.Trace.Entry.{Got}
 use Rattle.protocol.specs.Replica.State.{State}
 use Rattle.replica_histories.proofs.Transfers.{pages_give_back}
 use Rattle.replica_histories.specs.Events.{IsTaken}
-use Rattle.replica_histories.specs.Fetching.{Reaches}
+use Rattle.replica_histories.specs.Fetching.{TransferReachesState}
 use Rattle.replica_histories.specs.Questions.{AnswersInput}
 use Rattle.replica_histories.proofs.PartsOwed.{fetched_suffice}
 use Rattle.desk.specs.declared.open_transfer.Taken.{Taken}
@@ -23,8 +23,8 @@ use Rattle.replica.specs.declared.taking.Touched.TheVariants as touched
 use Rattle.replica.specs.State.{JoinedData, AreOne}
 use Rattle.desk.specs.State.{DeskData, OpenData}
 use Rattle.orderer.specs.Fitting.{FitsEvent}
-use Rattle.replica.specs.Entering.{event_of, IsAnswered, TakesBytes, TakesMessage}
-use Rattle.replica.specs.Fetching.{AsksOn, InstallsFetched}
+use Rattle.replica.specs.Entering.{event_of, InputIsAnswered, TakesBytes, TakesMessage}
+use Rattle.replica.specs.Fetching.{FetchesNextPart, InstallsFetchedState}
 use Rattle.desk.specs.Fetching.{CannotInstall, GivesBack, TakesDigests, TakesPage, with_transfer}
 use Rattle.replica.specs.Joined.{JoinedMatchesHistory, me_of}
 use Rattle.replica.specs.Going.{IsOneParty, IsSameParty}
@@ -56,7 +56,7 @@ pub record Rested (r : JoinedData) (n m : OpenData) (a : JoinedData) (outs : Lis
   pub new_is : a ≡ holding m r
   pub outs_are : outs ≡ []
 
-pub rested_so : (r : JoinedData) (n : OpenData) (a : JoinedData) (outs : List Output) → AsksOn (holding n r) [] a outs false → (m : OpenData) × Rested r n m a outs
+pub rested_so : (r : JoinedData) (n : OpenData) (a : JoinedData) (outs : List Output) → FetchesNextPart (holding n r) [] a outs false → (m : OpenData) × Rested r n m a outs
 rested_so r n a outs (desk, inl (none, same), new_is, given_is) = some_none n _ none
 rested_so r n a outs (desk, inr (o, m, there, desk_is, asks, root), new_is, given_is) = (
   m,
@@ -79,7 +79,7 @@ module _ (r : JoinedData) (one : AreOne r.orderer r.desk) (bytes : List ℕ) (n 
       record { is_open = refl; is = now.0; open_one = k.open_one; fits = k.fits; may = now.1; rests = now.2; root = f.root }
 
   -- The replica owes nothing to the part, if pages of a state that can be installed imply that the number is reached.
-  whole : (c : Configuration) (past : List Entry) (runs : JoinedMatchesHistory c r past) → members c ≡ r.desk.membership → (given : List Entry) (executed : ℕ) → Reaches r.desk.executed.state m.transfer executed
+  whole : (c : Configuration) (past : List Entry) (runs : JoinedMatchesHistory c r past) → members c ≡ r.desk.membership → (given : List Entry) (executed : ℕ) → TransferReachesState r.desk.executed.state m.transfer executed
       → AnswersInput c (me_of r) past (Got (me_of r) bytes) given runs.holds.of_desk.point executed
   whole c past runs known given executed reaches =
       let k = comes c past runs known in
@@ -96,7 +96,7 @@ module _ (r : JoinedData) (one : AreOne r.orderer r.desk) (bytes : List ℕ) (n 
       (λ st is number pages rises. absurd (subst (λ (x : JoinedData). CannotInstall x.desk) f.new_is cannot m refl f.root st (record { state = is; number = number; pages = pages }) rises))
 
   -- it is a state, and the replica installs it
-  pub state_comes : InstallsFetched a mid b outs true → TakesBytes bytes r touched.State b outs
+  pub state_comes : InstallsFetchedState a mid b outs true → TakesBytes bytes r touched.State b outs
   state_comes installs = record {
     party = party;
     begins = λ c past runs known.
@@ -108,8 +108,8 @@ module _ (r : JoinedData) (one : AreOne r.orderer r.desk) (bytes : List ℕ) (n 
         );
   }
     where
-      here : InstallsFetched (holding m r) [] b outs true
-      here = subst (λ (x : JoinedData). InstallsFetched x [] b outs true) f.new_is (subst (λ (os : List Output). InstallsFetched a os b outs true) f.outs_are installs)
+      here : InstallsFetchedState (holding m r) [] b outs true
+      here = subst (λ (x : JoinedData). InstallsFetchedState x [] b outs true) f.new_is (subst (λ (os : List Output). InstallsFetchedState a os b outs true) f.outs_are installs)
 
       reached : b.desk.executed.state.number ≡ m.transfer.number
       reached = number_reached (holding m r) b m [] outs refl here
@@ -118,16 +118,16 @@ module _ (r : JoinedData) (one : AreOne r.orderer r.desk) (bytes : List ℕ) (n 
       party = one_of_same r b (parties_twice r (holding m r) b (same_holding r m) (moved_party (holding m r) b m [] outs refl here))
 
       taken_on : (c : Configuration) (past : List Entry) (runs : JoinedMatchesHistory c r past) → members c ≡ r.desk.membership
-          → IsTaken c (me_of b) (event_of c r past runs bytes) × IsAnswered c (me_of b) (event_of c r past runs bytes) b.desk.executed.state.number
+          → IsTaken c (me_of b) (event_of c r past runs bytes) × InputIsAnswered c (me_of b) (event_of c r past runs bytes) b.desk.executed.state.number
       taken_on c past runs known =
-          subst (λ (k : ℕ). IsTaken c k (event_of c r past runs bytes) × IsAnswered c k (event_of c r past runs bytes) b.desk.executed.state.number) (sym (ap (λ e. e.me) party.endpoint)) (
+          subst (λ (k : ℕ). IsTaken c k (event_of c r past runs bytes) × InputIsAnswered c k (event_of c r past runs bytes) b.desk.executed.state.number) (sym (ap (λ e. e.me) party.endpoint)) (
             (comes c past runs known).taken,
             λ given executed above. whole c past runs known given executed (λ st is number pages rises. let at = reached in omega (arith, at, above)),
           )
 
   -- it is none, and the open transfer stays
   pub none_comes : ((c : Configuration) (past : List Entry) (runs : JoinedMatchesHistory c r past) → members c ≡ r.desk.membership → IsOpen c r past runs bytes n)
-      → InstallsFetched a mid b outs false → TakesBytes bytes r touched.Nothing b outs
+      → InstallsFetchedState a mid b outs false → TakesBytes bytes r touched.Nothing b outs
   none_comes opened (same, none, cannot) =
       subst (λ (x : JoinedData). TakesBytes bytes r touched.Nothing x outs) (sym (same ∙ f.new_is))
       (subst (λ (os : List Output). TakesBytes bytes r touched.Nothing (holding m r) os) (sym (none ∙ f.outs_are)) (record {
@@ -189,7 +189,7 @@ desk_back d e o m back there same (inr (k, x, is_open, e_is, gives)) =
 pub page_back : (r : JoinedData) (one : AreOne r.orderer r.desk) (sender : ReplicaId) (page : Page) (bytes : List ℕ) (o n m : OpenData) (back : Taken) (a b : JoinedData) (d : DeskData) (mid outs : List Output)
     → heard r.desk.membership r.desk.me bytes ≡ Some (record { sender = sender.0; message = PageMessage page.number.0 page.index page.text.items })
     → ((c : Configuration) (past : List Entry) (runs : JoinedMatchesHistory c r past) → members c ≡ r.desk.membership → AnswersInput c (me_of r) past (Got (me_of r) bytes) [] runs.holds.of_desk.point r.desk.executed.state.number)
-    → r.desk.transfer ≡ Some o → TakesPageOf o page n (Some back) → Rested r n m a mid → InstallsFetched a mid b outs false → GivesBack b.desk back d
+    → r.desk.transfer ≡ Some o → TakesPageOf o page n (Some back) → Rested r n m a mid → InstallsFetchedState a mid b outs false → GivesBack b.desk back d
     → TakesBytes bytes r touched.Nothing (record b { desk = d }) outs
 page_back r one sender page bytes o n m back a b d mid outs hears answers there takes f (same, none, cannot) gives =
     subst (λ (x : JoinedData). TakesBytes bytes r touched.Nothing x outs) (sym r_is)
@@ -209,14 +209,14 @@ page_back r one sender page bytes o n m back a b d mid outs hears answers there 
 -- ---- digests
 
 module _ (r : JoinedData) (one : AreOne r.orderer r.desk) (sender : ReplicaId) (meta : Meta) (d : DeskData) (a b : JoinedData) (mid outs : List Output) (takes : TakesDigests r.desk meta d true)
-    (asks : AsksOn (record r { desk = d }) [] a mid false) where
+    (asks : FetchesNextPart (record r { desk = d }) [] a mid false) where
   digests_so : (bytes : List ℕ) → heard r.desk.membership r.desk.me bytes ≡ Some (record { sender = sender.0; message = MetaMessage meta.number.0 meta.level meta.index meta.digests.items })
       → (n : OpenData) × (m : OpenData) × Rested r n m a mid
       × ((c : Configuration) (past : List Entry) (runs : JoinedMatchesHistory c r past) → members c ≡ r.desk.membership → Comes c r past runs bytes n)
       × ((c : Configuration) (past : List Entry) (runs : JoinedMatchesHistory c r past) → members c ≡ r.desk.membership → IsOpen c r past runs bytes n)
   digests_so bytes hears =
       let there = takes.2 in
-      let now = rested_so r takes.1 a mid (subst (λ (x : DeskData). AsksOn (record r { desk = x }) [] a mid false) takes.3 asks) in (
+      let now = rested_so r takes.1 a mid (subst (λ (x : DeskData). FetchesNextPart (record r { desk = x }) [] a mid false) takes.3 asks) in (
         takes.1,
         now.0,
         now.1,
@@ -224,24 +224,24 @@ module _ (r : JoinedData) (one : AreOne r.orderer r.desk) (sender : ReplicaId) (
         λ c past runs known. digests_stay r one bytes sender.0 takes.0 takes.1 there c past runs known meta hears takes.4,
       )
 
-  pub digests_install : InstallsFetched a mid b outs true → TakesMessage sender (MetaMessage meta.number.0 meta.level meta.index meta.digests.items) r touched.State b outs
+  pub digests_install : InstallsFetchedState a mid b outs true → TakesMessage sender (MetaMessage meta.number.0 meta.level meta.index meta.digests.items) r touched.State b outs
   digests_install installs bytes hears = let so = digests_so bytes hears in state_comes r one bytes so.0 so.1 so.3 a b mid outs so.2 installs
 
-  pub digests_end : InstallsFetched a mid b outs false → TakesMessage sender (MetaMessage meta.number.0 meta.level meta.index meta.digests.items) r touched.Nothing b outs
+  pub digests_end : InstallsFetchedState a mid b outs false → TakesMessage sender (MetaMessage meta.number.0 meta.level meta.index meta.digests.items) r touched.Nothing b outs
   digests_end installs bytes hears = let so = digests_so bytes hears in none_comes r one bytes so.0 so.1 so.3 a b mid outs so.2 so.4 installs
 
 -- ---- a page
 
 module _ (r : JoinedData) (one : AreOne r.orderer r.desk) (sender : ReplicaId) (page : Page) (back : Taken) (d : DeskData) (a b : JoinedData) (mid outs : List Output) (takes : TakesPage r.desk page d (Some back))
-    (asks : AsksOn (record r { desk = d }) [] a mid false) where
+    (asks : FetchesNextPart (record r { desk = d }) [] a mid false) where
   page_so : (m : OpenData) × Rested r takes.1 m a mid
-  page_so = rested_so r takes.1 a mid (subst (λ (x : DeskData). AsksOn (record r { desk = x }) [] a mid false) takes.3 asks)
+  page_so = rested_so r takes.1 a mid (subst (λ (x : DeskData). FetchesNextPart (record r { desk = x }) [] a mid false) takes.3 asks)
 
-  pub page_installs : InstallsFetched a mid b outs true → TakesMessage sender (PageMessage page.number.0 page.index page.text.items) r touched.State b outs
+  pub page_installs : InstallsFetchedState a mid b outs true → TakesMessage sender (PageMessage page.number.0 page.index page.text.items) r touched.State b outs
   page_installs installs bytes hears =
       state_comes r one bytes takes.1 page_so.0 (λ c past runs known. page_comes r one bytes sender.0 takes.0 takes.1 takes.2 c past runs known page back hears takes.4) a b mid outs page_so.1 installs
 
-  pub page_ends : (e : DeskData) → InstallsFetched a mid b outs false → GivesBack b.desk back e → TakesMessage sender (PageMessage page.number.0 page.index page.text.items) r touched.Nothing (record b { desk = e }) outs
+  pub page_ends : (e : DeskData) → InstallsFetchedState a mid b outs false → GivesBack b.desk back e → TakesMessage sender (PageMessage page.number.0 page.index page.text.items) r touched.Nothing (record b { desk = e }) outs
   page_ends e installs gives bytes hears =
       page_back r one sender page bytes takes.0 takes.1 page_so.0 back a b e mid outs hears
       (none_owed r one bytes takes.1 page_so.0 (λ c past runs known. page_comes r one bytes sender.0 takes.0 takes.1 takes.2 c past runs known page back hears takes.4) a b mid outs page_so.1 installs.2)

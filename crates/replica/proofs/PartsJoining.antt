@@ -20,13 +20,13 @@ use Rattle.protocol.specs.Replica.State.{Call}
 use Rattle.protocol.specs.Replica.Owed.{IsSaying, BeginsViewWith, BringsChange, HasLatestChange, HasBatch, CanBeginView, AreKeysSpent, StartsAhead}
 use Rattle.claims.specs.ClaimsView.{ClaimsData}
 use Rattle.view_change.specs.ReceivedData.{HeldData}
-use Rattle.replica_histories.specs.Logs.{FitsLog, IsVoted, above_mark}
+use Rattle.replica_histories.specs.Logs.{FitsLog, IsVoted, checkpoints_above}
 use Rattle.replica_histories.specs.Claims.{FitsClaims, WasLogged}
 use Rattle.replica_histories.specs.Received.{FitsReceived}
 use Rattle.replica_histories.specs.Changes.{Changes, FitsChanges, IsBegunUpTo}
 use Rattle.replica_histories.specs.Events as histories
 use Rattle.replica_histories.specs.Numbers as numbers
-use Rattle.replica.specs.Idle.{IsIdle, IsQuiet, LeavesOut, CertifySame}
+use Rattle.replica.specs.Idle.{BringsNothing, OrdersNothing, LeavesOut, CertifySame}
 use Rattle.replica.proofs.IdleEntries.{once_over, once_back, parted}
 use Rattle.wire_format.proofs.Saying.{reads_frames, reads_said}
 use Rattle.wire_format.specs.Spelling.{is_signed}
@@ -42,7 +42,7 @@ use Rattle.desk.specs.State.{DeskData}
 use Rattle.desk.specs.DeskOf.{waiting_calls, desk_of}
 use Rattle.orderer.specs.Flags.{FitsFlags, flagged}
 use Rattle.replica.specs.Numbering.{IsAllNumbered}
-use Rattle.orderer.specs.Fitting.{FitsWaiting, WasSaid, changes_of}
+use Rattle.orderer.specs.Fitting.{FitsWaiting, WasSaid, changes_held}
 use Rattle.orderer.specs.Numbering.{next_number}
 use Rattle.replica.specs.Joined.{joined, me_of}
 use Rattle.replica.specs.Parted.{DeskMatchesHistory, OrdererMatchesHistory, IsUsed}
@@ -119,7 +119,7 @@ module _ (c : Configuration) (me : ℕ) (g h : List Entry) (s : CertifySame c me
       voted = λ v i batch k o x. let y = f.views.voted v i batch k o (prepared_same c me g h v i batch s x) in (y.0, s.commits v i me ∙ y.1);
       later = λ v i x l. let y = f.views.later v i x l in (s.prepares v i x ∙ y.0, s.commits v i x ∙ y.1);
     };
-    checkpoints = λ x. ap (above_mark log.low) (s.checkpoints x) ∙ f.checkpoints x;
+    checkpoints = λ x. ap (checkpoints_above log.low) (s.checkpoints x) ∙ f.checkpoints x;
     latest = f.latest;
   }
 
@@ -157,11 +157,11 @@ saying_sent : (me : ℕ) (message : Message) (frame : List ℕ) (past : List Ent
 saying_sent me message frame past (Sent p text) says is = ap said is ∙ says
 saying_sent me message frame past _ says is = absurd is
 
-pub taken_none : (c : Configuration) (me : ℕ) (e : Entry) (past : List Entry) → IsIdle c me e → taken c past e ≡ None
+pub taken_none : (c : Configuration) (me : ℕ) (e : Entry) (past : List Entry) → BringsNothing c me e → taken c past e ≡ None
 taken_none c me e past idle = ap (option_and_then (λ (new : NewViewData). then_some (is_later (view c past) (target past) new) new)) idle.view
 
 -- an idle entry brings no view change that counts
-idle_brings_none : (c : Configuration) (me : ℕ) (x : ℕ × ViewChangeData) (past : List Entry) (e : Entry) → IsIdle c me e → BringsChange c x past e → ⊥
+idle_brings_none : (c : Configuration) (me : ℕ) (x : ℕ × ViewChangeData) (past : List Entry) (e : Entry) → BringsNothing c me e → BringsChange c x past e → ⊥
 idle_brings_none c me x past e idle b =
     let none = idle.latest past x.0 in
     let is = brings_view c x past e b in
@@ -169,13 +169,13 @@ idle_brings_none c me x past e idle b =
     omega (arith, none, is, newer)
 
 -- and with one more such entry no other new view can be begun
-has_latest_idle : (c : Configuration) (me : ℕ) (past : List Entry) (e : Entry) → IsIdle c me e → CertifySame c me past (e ∷ past) → (x : ℕ × ViewChangeData) → HasLatestChange c me (e ∷ past) x → HasLatestChange c me past x
+has_latest_idle : (c : Configuration) (me : ℕ) (past : List Entry) (e : Entry) → BringsNothing c me e → CertifySame c me past (e ∷ past) → (x : ℕ × ViewChangeData) → HasLatestChange c me (e ∷ past) x → HasLatestChange c me past x
 has_latest_idle c me past e idle s x (inl (other, inl b, latest)) = absurd (idle_brings_none c me x past e idle b)
 has_latest_idle c me past e idle s x (inl (other, inr once, latest)) = inl (other, once, sym (s.latest x.0) ∙ latest)
 has_latest_idle c me past e idle s x (inr (mine, inl says, at)) = absurd (idle.says (ViewChange x.1) says)
 has_latest_idle c me past e idle s x (inr (mine, inr once, at)) = inr (mine, once, sym s.target ∙ at)
 
-pub can_begin_idle : (c : Configuration) (me : ℕ) (past : List Entry) (e : Entry) → IsIdle c me e → CertifySame c me past (e ∷ past) → (new : NewViewData) → CanBeginView c me (e ∷ past) new → CanBeginView c me past new
+pub can_begin_idle : (c : Configuration) (me : ℕ) (past : List Entry) (e : Entry) → BringsNothing c me e → CertifySame c me past (e ∷ past) → (new : NewViewData) → CanBeginView c me (e ∷ past) new → CanBeginView c me past new
 can_begin_idle c me past e idle s new can = record {
   left = subst (λ (v : ℕ). v < target past) s.view (subst (λ (t : ℕ). view c (e ∷ past) < t) s.target can.left);
   view = can.view ∙ s.target;
@@ -194,7 +194,7 @@ pub spent_on : (past : List Entry) (e : Entry) → AreKeysSpent past → AreKeys
 spent_on past e spent leaf l = let k = spent leaf l in (k.0, k.1, inr k.2)
 
 -- no new view starts at an idle entry
-pub idle_starts : (c : Configuration) (me k : ℕ) (past : List Entry) (e : Entry) → IsIdle c me e → Once (StartsAhead c k) (e ∷ past) → Once (StartsAhead c k) past
+pub idle_starts : (c : Configuration) (me k : ℕ) (past : List Entry) (e : Entry) → BringsNothing c me e → Once (StartsAhead c k) (e ∷ past) → Once (StartsAhead c k) past
 idle_starts c me k past e idle (inl h) = absurd (none-some h.0 (sym (taken_none c me e past idle) ∙ h.1))
 idle_starts c me k past e idle (inr h) = h
 
@@ -223,7 +223,7 @@ module _ (c : Configuration) (me : ℕ) (g h : List Entry) (p : LeavesOut c me g
   pub log_parts : (log : LogData) → FitsLog c me log h → FitsLog c me log g
   log_parts log = log_over c me h g (turned c me g h words) log begins_over
 
-  sent_back : (message : Message) (frame : List ℕ) → (IsQuiet message → ⊥) → said frame ≡ Some (record { sender = me; message = message }) → SentBefore frame h → SentBefore frame g
+  sent_back : (message : Message) (frame : List ℕ) → (OrdersNothing message → ⊥) → said frame ≡ Some (record { sender = me; message = message }) → SentBefore frame h → SentBefore frame g
   sent_back message frame loud says k = once_back c me (SendsBytes frame) (λ e g h p x. sends_anywhere frame h g e x)
       (λ e past idle x. loud (idle.says message (saying_sent me message frame past e says x))) g h p k
     where
@@ -247,7 +247,7 @@ module _ (c : Configuration) (me : ℕ) (g h : List Entry) (p : LeavesOut c me g
   leaf_back : (sent : List ℕ) (leaf : ℕ) → leaf_of sent ≡ Some leaf → SentBefore sent h → SentBefore sent g
   leaf_back sent leaf by k = once_back c me (SendsBytes sent) (λ e g h p x. sends_so sent h g e x) (λ e past idle x. none e past idle x (frame_of sent) refl) g h p k
     where
-      unsigned : (m : Message) → IsQuiet m → is_signed m ≡ false
+      unsigned : (m : Message) → OrdersNothing m → is_signed m ≡ false
       unsigned (Request t mode op) q = refl
       unsigned (Reply client t mode number answer) q = refl
       unsigned _ q = absurd q
@@ -256,11 +256,11 @@ module _ (c : Configuration) (me : ℕ) (g h : List Entry) (p : LeavesOut c me g
       seen (Sent p text) past x = inl x
       seen _ past k = absurd k
 
-      none : (e : Entry) (past : List Entry) → IsIdle c me e → SendsBytes sent past e → (o : Option FrameData) → frame_of sent ≡ o → ⊥
+      none : (e : Entry) (past : List Entry) → BringsNothing c me e → SendsBytes sent past e → (o : Option FrameData) → frame_of sent ≡ o → ⊥
       none e past idle x None is = absurd (let bad : None ≡ Some leaf = sym (ap (option_and_then (λ (f : FrameData). leaf_in f.authenticator)) is) ∙ by in cc)
       none e past idle x (Some frame) is =
           let says : said sent ≡ Some frame.body = reads_said sent frame ((reads_frames sent frame).0 is) in
-          let quiet : IsQuiet frame.body.message = idle.seen past sent frame.body (seen e past x) says in
+          let quiet : OrdersNothing frame.body.message = idle.seen past sent frame.body (seen e past x) says in
           absurd (let bad : None ≡ Some leaf = sym (unsigned_no_leaf sent frame.body says (unsigned frame.body.message quiet)) ∙ by in cc)
 
   -- view changes that count do so with and without idle entries
@@ -352,11 +352,11 @@ used_over c me used g h s u = record {
 
 -- if each has a number, none is flagged as without
 none_left : (c : Configuration) (me v : ℕ) (history : List Entry) (entries : List numbers.Waiting) → Each (numbers.IsRightly c me v history) entries
-    → ((call : Call) → Has (λ x. x ≡ call) (numbers.calls_of entries) → numbers.HasNumber c me v history call) → numbers.unnumbered entries ≡ []
+    → ((call : Call) → Has (λ x. x ≡ call) (numbers.calls_of entries) → numbers.CallHasNumber c me v history call) → numbers.unnumbered entries ≡ []
 none_left c me v history [] right all = refl
 none_left c me v history (w ∷ ws) right all = go w.numbered right.0 (none_left c me v history ws right.1 (λ call has. all call (inr has)))
   where
-    go : (b : Bool) → either b (numbers.HasNumber c me v history w.call) (numbers.HasNone c me v history w.call) → numbers.unnumbered ws ≡ [] → cond (not b) (w ∷ numbers.unnumbered ws) (numbers.unnumbered ws) ≡ []
+    go : (b : Bool) → either b (numbers.CallHasNumber c me v history w.call) (numbers.CallHasNoNumber c me v history w.call) → numbers.unnumbered ws ≡ [] → cond (not b) (w ∷ numbers.unnumbered ws) (numbers.unnumbered ws) ≡ []
     go true r rest = rest
     go false r rest = absurd (r (all w.call (inl refl)))
 
@@ -376,7 +376,7 @@ module _ (c : Configuration) (o : OrdererData) (d : DeskData) (h : List Entry) (
   holds = record {
     of_desk = hd.holds;
     of_log = record { fits = fits; prepares = ho.holds.prepares; commits = ho.holds.commits };
-    low = subst (λ (n : ℕ). histories.IsReached c me n d.executed.state.number [] h) fits.low hd.low;
+    low = subst (λ (n : ℕ). histories.LowMarkIsReached c me n d.executed.state.number [] h) fits.low hd.low;
   }
 
   numbered : FitsWaiting c me o d.waiting (desk_of c d) h
@@ -413,7 +413,7 @@ parts_join c o d h one hd ho = record {
   holds = holds c o d h hd ho;
   numbers = numbered c o d h hd ho;
   said = said_over c o.endpoint.me (without_reads h) h (parted c o.endpoint.me h) o.last_checkpoint ho.said;
-  changes = changes_over c o.endpoint.me (without_reads h) h (parted c o.endpoint.me h) o.log (changes_of o) ho.changes;
+  changes = changes_over c o.endpoint.me (without_reads h) h (parted c o.endpoint.me h) o.log (changes_held o) ho.changes;
   all = all c o d h hd ho;
   begun = ho.begun;
 }
@@ -425,14 +425,14 @@ holds_part c r h one are runs = (
   record {
     is_desk = runs.is_desk;
     holds = runs.holds.of_desk;
-    low = subst (λ (n : ℕ). histories.IsReached c me n r.desk.executed.state.number [] h) (sym fits.low) runs.holds.low;
+    low = subst (λ (n : ℕ). histories.LowMarkIsReached c me n r.desk.executed.state.number [] h) (sym fits.low) runs.holds.low;
     flags = λ mine. (r.orderer.used, flags mine);
   },
   record {
     holds = record { fits = log_parts c me g h (parted c me h) r.orderer.log fits; prepares = runs.holds.of_log.prepares; commits = runs.holds.of_log.commits };
     used = λ mine. let f = flags (ap (primary c) s.view ∙ mine) in used_over c me r.orderer.used h g (turned c me g h s) (record { free = f.free; full = f.full });
     said = said_back c me g h (parted c me h) r.orderer.last_checkpoint runs.said;
-    changes = changes_back c me g h (parted c me h) r.orderer.log (changes_of r.orderer) are runs.changes;
+    changes = changes_back c me g h (parted c me h) r.orderer.log (changes_held r.orderer) are runs.changes;
     period = runs.is_desk.period_is ∙ sym one.2;
     begun = runs.begun;
   },

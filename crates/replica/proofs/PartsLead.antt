@@ -21,7 +21,7 @@ use Rattle.desk.specs.Desking.{IsNewDesk}
 use Rattle.orderer.specs.Taking.{IsNewOrderer}
 use Rattle.replica.specs.Inputs.{input_of}
 use Rattle.replica.specs.Joined.{JoinedEventLeads, JoinedFitsHistory}
-use Rattle.replica.specs.Parted.{DeskMatchesHistory, OrdererMatchesHistory, DeskFitsHistory, OrdererFitsHistory, FitBoth, AreTogether, BothLead, BothSendAsMeant, Reacts}
+use Rattle.replica.specs.Parted.{DeskMatchesHistory, OrdererMatchesHistory, DeskFitsHistory, OrdererFitsHistory, FitBoth, AreTogether, BothLead, BothSendAsMeant, PartsReact}
 use Rattle.orderer.specs.Changing.{AreChanges}
 use Rattle.replica.specs.Joined.{joined}
 use Rattle.replica.proofs.Fitting.{fits_new}
@@ -114,7 +114,7 @@ module _ (m n : MemberData) (o later_o : OrdererData) (d later_d : DeskData) (ev
 
 -- both step together
 pub steps : (o later_o : OrdererPart) (d later_d : DeskPart) (x later_x : OrdererData) (y later_y : DeskData) (event : Event) (outs : List Output) → o.holds ≡ Some x → d.holds ≡ Some y → o.member ≡ d.member
-    → IsOrdererPart o → AreOne x y → Reacts x y event outs later_x later_y → later_o ≡ orders o.member later_x → later_d ≡ answers d.member later_y → BothLead o d event outs later_o later_d
+    → IsOrdererPart o → AreOne x y → PartsReact x y event outs later_x later_y → later_o ≡ orders o.member later_x → later_d ≡ answers d.member later_y → BothLead o d event outs later_o later_d
 steps o later_o d later_d x later_x y later_y event outs o_is d_is same are one r now_o now_d =
     subst (λ (p : OrdererPart). BothLead p d event outs later_o later_d) (ap (λ (h : Option OrdererData). let p : OrdererPart = record { member = o.member; holds = h } in p) (sym o_is))
     (subst (λ (q : DeskPart). BothLead (orders o.member x) q event outs later_o later_d) (ap (λ (h : Option DeskData). let q : DeskPart = record { member = d.member; holds = h } in q) (sym d_is))
@@ -123,7 +123,7 @@ steps o later_o d later_d x later_x y later_y event outs o_is d_is same are one 
     (both_lead o.member d.member x later_x y later_y event outs (sym same) (are x o_is).0 (are x o_is).1 one r.one r.changes r.endpoint r.leads))))
 
 pub steps_send : (o : OrdererPart) (d : DeskPart) (x later_x : OrdererData) (y later_y : DeskData) (event : Event) (outs : List Output) → o.holds ≡ Some x → d.holds ≡ Some y → o.member ≡ d.member
-    → IsOrdererPart o → AreOne x y → Reacts x y event outs later_x later_y → BothSendAsMeant o d outs
+    → IsOrdererPart o → AreOne x y → PartsReact x y event outs later_x later_y → BothSendAsMeant o d outs
 steps_send o d x later_x y later_y event outs o_is d_is same are one r =
     subst (λ (p : OrdererPart). BothSendAsMeant p d outs) (ap (λ (h : Option OrdererData). let p : OrdererPart = record { member = o.member; holds = h } in p) (sym o_is))
     (subst (λ (q : DeskPart). BothSendAsMeant (orders o.member x) q outs) (ap (λ (h : Option DeskData). let q : DeskPart = record { member = d.member; holds = h } in q) (sym d_is))

@@ -8,7 +8,7 @@ use Rattle.protocol.specs.Replica.Owed.{IsPromptReplica}
 use Rattle.desk.specs.State.{DeskData}
 use Rattle.replica.specs.Fits as replica_fits
 use Rattle.replica.specs.Parted.{DeskMatchesHistory}
-use Rattle.replica.specs.PartedLaws.{DesksArePrompt, ReplicasArePrompt}
+use Rattle.replica.specs.PartedLaws.{DesksArePrompt, RunningReplicasArePrompt}
 
 running : (c : Configuration) (me : ℕ) (history : List Entry) (o : Option DeskData) → ForSome o (λ x. DeskMatchesHistory c me x history)
     → is_none o ≡ false → IsPromptReplica c me history
@@ -22,6 +22,6 @@ neither : (x y : Bool) → (x || y) ≡ false → y ≡ false
 neither true y h = absurd cc
 neither false y h = h
 
-pub replicas_are_prompt : ReplicasArePrompt
+pub replicas_are_prompt : RunningReplicasArePrompt
 replicas_are_prompt c r history fits runs =
     desks_are_prompt c (replica_fits.me_of r) r.desk history fits.0 (neither (is_none r.orderer.holds) (is_none r.desk.holds) runs)

@@ -28,19 +28,19 @@ use Rattle.replica.specs.declared.taking.Touched.TheVariants as touched
 use Rattle.replica.specs.State.{JoinedData, AreOne}
 use Rattle.replica.specs.Beginning.{CannotBegin}
 use Rattle.replica.specs.Desks.{PartsFitEvent}
-use Rattle.orderer.specs.Fitting.{given, FitsEvent, FitsWaiting, WasSaid, changes_of}
+use Rattle.orderer.specs.Fitting.{given, FitsEvent, FitsWaiting, WasSaid, changes_held}
 use Rattle.desk.specs.Waiting.{count_unnumbered}
 use Rattle.desk.specs.DeskOf.{waiting_calls, desk_of}
 use Rattle.replica.specs.Going.{IsSameParty, IsOneParty, NothingIsLeft}
 use Rattle.replica.specs.Numbering.{IsAllNumbered}
 use Rattle.orderer.specs.Numbering.{next_number}
-use Rattle.replica.specs.NumbersNext.{NumbersWaiting}
+use Rattle.replica.specs.NumbersNext.{NumbersWaitingRequests}
 use Rattle.replica.specs.FollowingUp.{FollowsUp, ExecutesAndNumbers}
 use Rattle.replica.specs.declared.replica.Event.{Event}
 use Rattle.replica.specs.declared.replica.Event.TheVariants as events
 use Rattle.replica.specs.Inputs.{input_of}
 use Rattle.replica.specs.Joined.{JoinedMatchesHistory, JoinedFitsHistory, JoinedStaysRight, me_of}
-use Rattle.replica.specs.Entering.{event_with, IsAnswered, IsTakenBeside, TakesInput}
+use Rattle.replica.specs.Entering.{event_with, InputIsAnswered, IsTakenBeside, TakesInput}
 use Rattle.replica.proofs.Choosing.{begun_same}
 use Rattle.orderer.proofs.Flags.{flags_given}
 use Rattle.replica.proofs.Parties.{same_party, one_of_same, ones_twice}
@@ -93,7 +93,7 @@ module _ (old new : JoinedData) (one : AreOne old.orderer old.desk) (party : IsO
         holds = subst (λ (x : EndpointState). histories.Holds c x.me (desk_of c new.desk) new.orderer.log now) (sym party.endpoint) held;
         numbers = subst (λ (x : EndpointState). FitsWaiting c x.me new.orderer new.desk.waiting (desk_of c new.desk) now) (sym party.endpoint) event.numbers;
         said = subst (λ (x : EndpointState). WasSaid x.me new.orderer.last_checkpoint now) (sym party.endpoint) event.said;
-        changes = subst (λ (x : EndpointState). FitsChanges c x.me new.orderer.log (changes_of new.orderer) now) (sym party.endpoint) event.changes;
+        changes = subst (λ (x : EndpointState). FitsChanges c x.me new.orderer.log (changes_held new.orderer) now) (sym party.endpoint) event.changes;
         all = all;
         begun = begun;
       };
@@ -119,7 +119,7 @@ module _ (old new : JoinedData) (one : AreOne old.orderer old.desk) (party : IsO
 
       -- no new view is left
       none_left : LeavesNoView c (me_of old) now
-      none_left = no_views_are_left c (me_of old) new.orderer.log (changes_of new.orderer) now (point_of (desk_of c new.desk) event.fits.of_desk.states event.fits.of_desk.ran)
+      none_left = no_views_are_left c (me_of old) new.orderer.log (changes_held new.orderer) now (point_of (desk_of c new.desk) event.fits.of_desk.states event.fits.of_desk.ran)
           (steps_leave c (me_of old) s (given (me_of old) outs) (point_of (desk_of c new.desk) event.fits.of_desk.states event.fits.of_desk.ran) event.fits.of_desk.leaves event.fits.of_desk.steps)
           event.fits.of_log event.changes begun
 
@@ -143,14 +143,14 @@ module _ (input : Entry) (old : JoinedData) (one : AreOne old.orderer old.desk) 
   why c s new outs party (inr t) = inr (taken_then c s new party t)
 
   -- an input that is no part, and asks for none, owes no part
-  beside_answered : (c : Configuration) (me : ℕ) (s : Start) (number : ℕ) → IsTakenBeside c me s → IsTaken c me s × IsAnswered c me s number
+  beside_answered : (c : Configuration) (me : ℕ) (s : Start) (number : ℕ) → IsTakenBeside c me s → IsTaken c me s × InputIsAnswered c me s number
   beside_answered c me s number t = (t.0, λ outputs executed above. others_owe_none c me s.before s.input outputs s.old executed t.1)
 
   -- an event that ends with numbers for waiting requests
   ends_numbered : (c : Configuration) (past : List Entry) (mid before new : JoinedData) (x outs : List Output) (f : JoinedFitsHistory c old past) (runs : JoinedMatchesHistory c old past)
-      → IsOneParty old mid → IsSameParty mid before → NumbersWaiting before x new outs → mid.desk.executed.state.number ≤ before.desk.executed.state.number → NothingIsLeft before
+      → IsOneParty old mid → IsSameParty mid before → NumbersWaitingRequests before x new outs → mid.desk.executed.state.number ≤ before.desk.executed.state.number → NothingIsLeft before
       → PartsFitEvent c (event_with c old past runs input) before.orderer before.desk [] x → CannotBegin c mid.orderer
-      → IsTaken c (me_of mid) (event_with c old past runs input) × IsAnswered c (me_of mid) (event_with c old past runs input) mid.desk.executed.state.number
+      → IsTaken c (me_of mid) (event_with c old past runs input) × InputIsAnswered c (me_of mid) (event_with c old past runs input) mid.desk.executed.state.number
       → JoinedFitsHistory c new (after_event (me_of old) input outs past) × AreSentAsMeant c (me_of old) outs
   ends_numbered c past mid before new x outs f runs first then n above rest st begun t =
       let party = ones_twice old mid before first (one_of_same mid before then) in
@@ -169,7 +169,7 @@ module _ (input : Entry) (old : JoinedData) (one : AreOne old.orderer old.desk) 
       (subst (λ (e : EndpointState). AnswersInput c e.me past input (given e.me outs) runs.holds.of_desk.point new.desk.executed.state.number) t.party.endpoint b.1.2) b.2
       (why c (event_with c old past runs input) new outs t.party b.1.3)
 
-  leads_waiting : (mid new : JoinedData) (x outs : List Output) → TakesInput input old touched.Waiting mid x → NumbersWaiting mid x new outs → JoinedStaysRight old input outs new
+  leads_waiting : (mid new : JoinedData) (x outs : List Output) → TakesInput input old touched.Waiting mid x → NumbersWaitingRequests mid x new outs → JoinedStaysRight old input outs new
   leads_waiting mid new x outs t n c past f =
       let runs = f.runs in
       let b = t.begins c past runs (known c past f) in

@@ -26,15 +26,15 @@ use Rattle.replica_histories.specs.Questions.{read_from, read_reply, ordered_fro
 use Rattle.replica_histories.specs.TransfersQuorums.{QuorumsFetched}
 use Rattle.replica_histories.specs.Numbers.{KeepsNumbers}
 use Rattle.replica_histories.specs.Desk.{snapshot_of, point_of}
-use Rattle.replica_histories.specs.Events.{FitsFrames, FitsSnapshots, IsFetched, IsReached}
-use Rattle.replica_histories.specs.Transfers.{FitsOpen}
+use Rattle.replica_histories.specs.Events.{FitsFrames, FitsSnapshots, IsFetchedOrDue, LowMarkIsReached}
+use Rattle.replica_histories.specs.Transfers.{FitsOpenTransfer}
 use Rattle.desk.specs.State.{DeskData}
 use Rattle.desk.specs.DeskOf.{waiting_calls, desk_of}
 use Rattle.protocol.proofs.Words.Posting.{unsigned_have_no_leaf}
 use Rattle.orderer.specs.Flags.{FitsFlags}
 use Rattle.replica.specs.Parted.{DeskMatchesHistory}
 use Rattle.replica_histories.proofs.Resting.{Rests, rests}
-use Rattle.replica.specs.Idle.{IsIdle, IsQuiet, CertifySame}
+use Rattle.replica.specs.Idle.{BringsNothing, OrdersNothing, CertifySame}
 use Rattle.replica.specs.Reads.{is_read_request, is_read_reply}
 use Rattle.protocol.proofs.Words.Linking.{heard_said}
 use Rattle.replica.proofs.IdleEntries.{got_idle, sent_idle, reply_is_quiet}
@@ -42,7 +42,7 @@ use Rattle.replica.proofs.SameWords.{idle_same, same_then, active_same, count_ch
 use Rattle.replica.proofs.PartsJoining.{prepared_same, committed_same, taken_none, idle_starts, can_begin_idle, spent_on, turned}
 
 -- an idle entry numbers nothing
-pub idle_keeps : (c : Configuration) (me v : ℕ) (past : List Entry) (e : Entry) → IsIdle c me e → KeepsNumbers c me v past e
+pub idle_keeps : (c : Configuration) (me v : ℕ) (past : List Entry) (e : Entry) → BringsNothing c me e → KeepsNumbers c me v past e
 idle_keeps c me v past e idle = record {
   batches = λ i. s.logged v i;
   numbered = λ client timestamp. (less client timestamp, more client timestamp);
@@ -85,10 +85,10 @@ module _ (c : Configuration) (me : ℕ) (h : List Entry) (p : Point) (bytes answ
   reply_only : (b : Body) → said answer ≡ Some b → is_read_reply b ≡ true
   reply_only b other = ap is_read_reply (some_injective b (record { sender = me; message = read_reply p.state client timestamp op }) (sym other ∙ frame.says))
 
-  pub got_quiet : IsIdle c me (Got me bytes)
-  got_quiet = got_idle c me me bytes (λ body is. subst (λ (b : Body). IsQuiet b.message) (some_injective (read_from client timestamp op) body (sym (heard_said c me bytes (read_from client timestamp op) hears) ∙ is)) tt)
+  pub got_quiet : BringsNothing c me (Got me bytes)
+  got_quiet = got_idle c me me bytes (λ body is. subst (λ (b : Body). OrdersNothing b.message) (some_injective (read_from client timestamp op) body (sym (heard_said c me bytes (read_from client timestamp op) hears) ∙ is)) tt)
 
-  pub sent_quiet : IsIdle c me (Sent me answer)
+  pub sent_quiet : BringsNothing c me (Sent me answer)
   sent_quiet = sent_idle c me me answer (λ body is. reply_is_quiet body.message body.sender (reply_only body is))
 
   pub same : CertifySame c me h now
@@ -168,7 +168,7 @@ module _ (c : Configuration) (me : ℕ) (h : List Entry) (p : Point) (bytes answ
 module _ (c : Configuration) (me : ℕ) (d : DeskData) (h : List Entry) (hd : DeskMatchesHistory c me d h) where
   -- idle entries: the point stays, except for what ran
   module _ (now : List Entry) (s : CertifySame c me h now) (later : Point) (proceeds : HistoryIsPrompt c me now [] later later)
-      (same_point : later ≡ record hd.holds.point { ran = [] }) (frames : FitsFrames c me (desk_of c d) now) (opened : FitsOpen c me (desk_of c d).transfer d.executed.state.number now)
+      (same_point : later ≡ record hd.holds.point { ran = [] }) (frames : FitsFrames c me (desk_of c d) now) (opened : FitsOpenTransfer c me (desk_of c d).transfer d.executed.state.number now)
       (flags : (v used : ℕ) → FitsFlags c me v used d.waiting d.executed.state (waiting_calls c d.waiting.requests) h → FitsFlags c me v used d.waiting d.executed.state (waiting_calls c d.waiting.requests) now)
       (started : (k : ℕ) → Once (StartsAhead c k) now → Once (StartsAhead c k) h) where
     over : CertifySame c me now h
@@ -180,11 +180,11 @@ module _ (c : Configuration) (me : ℕ) (d : DeskData) (h : List Entry) (hd : De
         (hd.holds.fetches k root (inl (subst (λ (n : ℕ). is_quorum c n ≡ true) (count_checkpoints_same c h now s.checkpoints (record { number = k; digest = root })) q)) above)
     fetched k root (inr start) above = subst (λ (n : ℕ). k ≤ n) (sym s.fetching) (hd.holds.fetches k root (inr (started k start)) above)
 
-    reached : IsReached c me (low c me h) d.executed.state.number [] h → IsReached c me (low c me now) d.executed.state.number [] now
+    reached : LowMarkIsReached c me (low c me h) d.executed.state.number [] h → LowMarkIsReached c me (low c me now) d.executed.state.number [] now
     reached (inl below) = inl (subst (λ (n : ℕ). n ≤ d.executed.state.number) (sym s.low) below)
     reached (inr (got, none)) = inr (there got, λ v batch k. none v batch (committed_same c me h now v (suc d.executed.state.number) batch s k))
       where
-        there : IsFetched (low c me h) [] h → IsFetched (low c me now) [] now
+        there : IsFetchedOrDue (low c me h) [] h → IsFetchedOrDue (low c me now) [] now
         there (inl k) = inl (subst (λ (n : ℕ). n ≤ fetching now) (sym s.low) (subst (λ (n : ℕ). low c me h ≤ n) (sym s.fetching) k))
         there (inr k) = absurd k
 

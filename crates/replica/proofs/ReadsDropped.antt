@@ -20,7 +20,7 @@ use Rattle.protocol.specs.Replica.Owed.{StartsAhead, Owes, HistoryIsPrompt, IsNu
 use Rattle.replica_histories.specs.Questions.{read_from, ordered_from}
 use Rattle.replica_histories.specs.TransfersQuorums.{QuorumsFetched}
 use Rattle.replica_histories.proofs.Resting.{Rests, rests}
-use Rattle.replica.specs.Idle.{IsIdle, CertifySame}
+use Rattle.replica.specs.Idle.{BringsNothing, CertifySame}
 use Rattle.replica.specs.Reads.{is_read_request}
 use Rattle.protocol.proofs.Words.Moving.{no_reason}
 use Rattle.protocol.proofs.Words.Linking.{heard_said}
@@ -52,7 +52,7 @@ module _ (c : Configuration) (me : ℕ) (h : List Entry) (p : Point) (bytes : Li
       go None r = refl
       go (Some body) r = ap (λ (x : Option Call). option_map_or (with_waiting p.state p.waiting) x p.waiting) (no_call c body.sender body.message (r body refl))
 
-  pub got_quiet : IsIdle c me (Got me bytes)
+  pub got_quiet : BringsNothing c me (Got me bytes)
   got_quiet = got_idle c me me bytes (λ body is. read_is_quiet body.message body.sender (says body is))
 
   pub same : CertifySame c me h now

@@ -21,13 +21,13 @@ use Rattle.protocol.proofs.Words.Options.{some_injective}
 use Rattle.replica_histories.specs.Desk.{Desk}
 use Rattle.replica_histories.specs.Events.{FitsFrames}
 use Rattle.replica_histories.specs.Questions.{read_from, read_reply}
-use Rattle.replica_histories.specs.Transfers.{FitsOpen}
+use Rattle.replica_histories.specs.Transfers.{FitsOpenTransfer}
 use Rattle.replica_histories.specs.TransfersQuorums.{QuorumsFetched}
 use Rattle.replica_histories.proofs.Transfers.{open_stays, asks_none}
 use Rattle.replica.specs.State.{DeskPart, IsDeskPart}
 use Rattle.desk.specs.State.{DeskData}
 use Rattle.orderer.specs.Flags.{FitsFlags}
-use Rattle.replica.specs.Idle.{IsIdle}
+use Rattle.replica.specs.Idle.{BringsNothing}
 use Rattle.replica.specs.Parted.{DeskMatchesHistory, ReadLeads, ReadSendsAsMeant}
 use Rattle.replica.specs.Reads.{is_read_request}
 use Rattle.desk.specs.Reading.{AnswersRead, HearsNoRead, AnswersBytes}
@@ -63,11 +63,11 @@ module _ (c : Configuration) (me : ℕ) (d : DeskData) (h : List Entry) (bytes :
   fetched : QuorumsFetched c p.state.number h
   fetched = subst (λ (s : State). QuorumsFetched c s.number h) (sym state_is) hd.holds.fetches
 
-  flags_on : (v used : ℕ) (past : List Entry) (e : Entry) → IsIdle c me e → FitsFlags c me v used d.waiting d.executed.state (waiting_calls c d.waiting.requests) past
+  flags_on : (v used : ℕ) (past : List Entry) (e : Entry) → BringsNothing c me e → FitsFlags c me v used d.waiting d.executed.state (waiting_calls c d.waiting.requests) past
       → FitsFlags c me v used d.waiting d.executed.state (waiting_calls c d.waiting.requests) (e ∷ past)
   flags_on v used past e idle = flags_stay c me v used d.waiting d.executed.state (waiting_calls c d.waiting.requests) past e (idle_keeps c me v past e idle)
 
-  opened : FitsOpen c me (desk_of c d).transfer d.executed.state.number got
+  opened : FitsOpenTransfer c me (desk_of c d).transfer d.executed.state.number got
   opened = open_stays c me (desk_of c d).transfer d.executed.state.number h (Got me bytes) refl tt hd.holds.opened
 
   -- the point, except for what ran
@@ -81,10 +81,10 @@ module _ (c : Configuration) (me : ℕ) (d : DeskData) (h : List Entry) (bytes :
 
   module _ (client t : ℕ) (op : Operation) (answer : List ℕ) (hears : heard (members c) me bytes ≡ Some (read_from client t op)) (is_read : is_read_only op ≡ true)
       (frame : IsPosted c me (read_reply p.state client t op) (client ∷ []) answer) where
-    got_quiet : IsIdle c me (Got me bytes)
+    got_quiet : BringsNothing c me (Got me bytes)
     got_quiet = beside.got_quiet c me h p bytes answer client t op hd.holds.proceeds fetched hears is_read frame
 
-    sent_quiet : IsIdle c me (Sent me answer)
+    sent_quiet : BringsNothing c me (Sent me answer)
     sent_quiet = beside.sent_quiet c me h p bytes answer client t op hd.holds.proceeds fetched hears is_read frame
 
     pub answered : Left c me d h (Sent me answer ∷ got)

@@ -27,10 +27,10 @@ use Rattle.replica_histories.specs.Desk.{Desk}
 use Rattle.replica_histories.specs.Logs.{FitsLog}
 use Rattle.replica_histories.specs.Events as histories
 use Rattle.replica_histories.specs.Events.{Start, IsTaken}
-use Rattle.replica_histories.specs.Inputs.{Enters, IsBesideLog, again_for, asked}
+use Rattle.replica_histories.specs.Inputs.{BytesEnter, IsBesideLog, again_for, replies_again}
 use Rattle.replica_histories.proofs.Counting.{requests_count, others_drop}
 use Rattle.replica_histories.proofs.Entering.{inputs_fit}
-use Rattle.replica_histories.specs.Changes.{FitsChanges, Passes, IsNoBatch, IsNoChange}
+use Rattle.replica_histories.specs.Changes.{FitsChanges, LogPassesEntry, IsNoBatch, IsNoChange}
 use Rattle.replica_histories.proofs.ChangesPassing.{inputs_enter}
 use Rattle.replica_histories.proofs.ChangesKept.{heard_keep, others_bring_none}
 use Rattle.replica_histories.proofs.Questions.{new_requests_owe_none}
@@ -43,12 +43,12 @@ use Rattle.replica.specs.declared.taking.Touched.TheVariants as touched
 use Rattle.orderer.specs.State.{OrdererData}
 use Rattle.replica.specs.State.{JoinedData, AreOne}
 use Rattle.desk.specs.State.{DeskData}
-use Rattle.desk.specs.Waiting.{WaitingData, frames_of, is_begun, is_of, request_of, with_request, without}
+use Rattle.desk.specs.Waiting.{WaitingData, frames_waiting, is_begun, is_of, request_of, with_request, without_client}
 use Rattle.orderer.specs.Flags.{FitsFlags}
 use Rattle.replica.specs.Desks.{PartsFitEvent}
-use Rattle.orderer.specs.Fitting.{FitsWaiting, FitsEvent, given, changes_of}
+use Rattle.orderer.specs.Fitting.{FitsWaiting, FitsEvent, given, changes_held}
 use Rattle.replica.proofs.Desking.{PaysAgain}
-use Rattle.desk.specs.Desking.{HasReply, Waits}
+use Rattle.desk.specs.Desking.{HasReply, RequestWaits}
 use Rattle.desk.specs.Arriving.{IsBehind, IsPast, IsWaitingAlready, IsNewer}
 use Rattle.desk.specs.DeskOf.{waiting_call, waiting_calls, desk_of, IsDeskOf}
 use Rattle.replica.specs.Joined.{JoinedMatchesHistory, me_of}
@@ -95,8 +95,8 @@ module _ (c : Configuration) (me : ℕ) (bytes : List ℕ) (k t : ℕ) (op : Ope
       let o = heard_was_opened (members c) me bytes (body_of k t op) h in
       ap (option_and_then (call_in c)) (reads_said bytes o.frame o.opens.spelled ∙ ap Some o.body_is) ∙ call_is
 
-  asked_is : (st : State) → asked st (heard (members c) me bytes) ≡ again_for k t (kept_of st k)
-  asked_is st = ap (asked st) h ∙ go (nat_le 256 (256 + k)) (le-leb 256 (256 + k) (omega arith))
+  asked_is : (st : State) → replies_again st (heard (members c) me bytes) ≡ again_for k t (kept_of st k)
+  asked_is st = ap (replies_again st) h ∙ go (nat_le 256 (256 + k)) (le-leb 256 (256 + k) (omega arith))
     where
       go : (b : Bool) → b ≡ true → cond b (again_for (256 + k - 256) t (kept_of st (256 + k - 256))) [] ≡ again_for k t (kept_of st k)
       go true e = ap (λ (n : ℕ). again_for n t (kept_of st n)) (back k)
@@ -106,7 +106,7 @@ module _ (c : Configuration) (me : ℕ) (bytes : List ℕ) (k t : ℕ) (op : Ope
   enters : (log : LogData) (past : List Entry) (desk new : Desk) → FitsLog c me log past → new.state ≡ desk.state → new.snapshots ≡ desk.snapshots → new.transfer ≡ desk.transfer
       → new.waiting ≡ with_waiting desk.state desk.waiting (call_for k t op)
       → ((frame : List ℕ) → Has (λ x. x ≡ frame) new.frames → Has (λ x. x ≡ frame) desk.frames ⊎ (frame ≡ bytes))
-      → Enters c me bytes desk new log log (again_for k t (kept_of desk.state k))
+      → BytesEnter c me bytes desk new log log (again_for k t (kept_of desk.state k))
   enters log past desk new fits state snapshots transfer waiting frames = record {
     takes = others_drop c me log past bytes fits (subst IsBesideLog (sym h) tt);
     state = state;
@@ -168,12 +168,12 @@ module _ (old : JoinedData) (client : ClientId) (timestamp : Timestamp) (bytes :
         (record { here = refl; none = free; sends = refl }) runs.numbers
 
     -- the view-change data stay
-    changes : Passes c (me_of old) past input old.orderer.log old.orderer.log → FitsChanges c (me_of old) old.orderer.log (changes_of old.orderer) (input ∷ past)
+    changes : LogPassesEntry c (me_of old) past input old.orderer.log old.orderer.log → FitsChanges c (me_of old) old.orderer.log (changes_held old.orderer) (input ∷ past)
     changes = changes_kept old one c past runs bytes old.orderer.log (same_log old.orderer.log) refl
         (λ passes. heard_keep c (me_of old) past bytes free (subst IsNoBatch (sym h) tt) (λ s other. others_bring_none c (me_of old) s past bytes (subst IsNoChange (sym h) tt) other))
 
     -- the kept reply is due
-    stands : (d : DeskData) → d.me ≡ old.desk.me → IsDeskOf c d → Enters c (me_of old) bytes (desk_of c old.desk) (desk_of c d) old.orderer.log old.orderer.log due
+    stands : (d : DeskData) → d.me ≡ old.desk.me → IsDeskOf c d → BytesEnter c (me_of old) bytes (desk_of c old.desk) (desk_of c d) old.orderer.log old.orderer.log due
         → FitsWaiting c (me_of old) old.orderer d.waiting (desk_of c d) (input ∷ past)
         → PartsFitEvent c start old.orderer d due []
     stands d me is e counted = record {
@@ -297,13 +297,13 @@ module _ (old : JoinedData) (client : ClientId) (timestamp : Timestamp) (bytes :
       given_again : (c : Configuration) (past : List Entry) (runs : JoinedMatchesHistory c old past) (known : members c ≡ old.desk.membership)
           → AnswersInput c (me_of old) past (Got (me_of old) bytes) (given (me_of old) outs) runs.holds.of_desk.point old.desk.executed.state.number
       given_again c past runs known =
-          resending_suffices c (me_of old) (desk_of c old.desk) old.orderer.log past (Got (me_of old) bytes) (given (me_of old) outs) (changes_of old.orderer) (call_for k t op) old.desk.executed.state.number runs.holds runs.changes (h c past runs known)
+          resending_suffices c (me_of old) (desk_of c old.desk) old.orderer.log past (Got (me_of old) bytes) (given (me_of old) outs) (changes_held old.orderer) (call_for k t op) old.desk.executed.state.number runs.holds runs.changes (h c past runs known)
           (all_goes c old.orderer outs (known ∙ one.1) runs.holds.of_log.fits.own old.desk.executed.state.number again.active again.inactive)
 
   -- a newer request waits
-  module _ (outs : List Output) (desk : DeskData) (none : due ≡ []) (silent : outs ≡ []) (newer : IsNewer old.desk k t) (waits : Waits client timestamp bytes old.desk desk) where
+  module _ (outs : List Output) (desk : DeskData) (none : due ≡ []) (silent : outs ≡ []) (newer : IsNewer old.desk k t) (waits : RequestWaits client timestamp bytes old.desk desk) where
     abbrev more : WaitingData
-    more = with_request client timestamp waits.0 (without k old.desk.waiting)
+    more = with_request client timestamp waits.0 (without_client k old.desk.waiting)
 
     abbrev r : WaitingRequest
     r = record { client = client; timestamp = timestamp; frame = waits.0; numbered = is_begun old.desk.waiting.begun k t }
@@ -333,10 +333,10 @@ module _ (old : JoinedData) (client : ClientId) (timestamp : Timestamp) (bytes :
         differ = differ_replaced k old.desk.waiting.requests r refl runs.is_desk.differ;
       }
 
-      frames_are : (frame : List ℕ) → Has (λ x. x ≡ frame) (frames_of more) → Has (λ x. x ≡ frame) (frames_of old.desk.waiting) ⊎ (frame ≡ bytes)
+      frames_are : (frame : List ℕ) → Has (λ x. x ≡ frame) (frames_waiting more) → Has (λ x. x ≡ frame) (frames_waiting old.desk.waiting) ⊎ (frame ≡ bytes)
       frames_are frame x = go (frames_replaced (λ x. not (is_of k x)) old.desk.waiting.requests r frame x)
         where
-          go : Has (λ x. x ≡ frame) (frames_of old.desk.waiting) ⊎ (frame ≡ r.frame.items) → Has (λ x. x ≡ frame) (frames_of old.desk.waiting) ⊎ (frame ≡ bytes)
+          go : Has (λ x. x ≡ frame) (frames_waiting old.desk.waiting) ⊎ (frame ≡ r.frame.items) → Has (λ x. x ≡ frame) (frames_waiting old.desk.waiting) ⊎ (frame ≡ bytes)
           go (inl y) = inl y
           go (inr y) = inr (y ∙ waits.1)
 
@@ -406,6 +406,6 @@ request_again old client timestamp bytes new outs one same none is says op hears
     subst (λ (r : JoinedData). TakesBytes bytes old touched.Nothing r outs) (sym same) (takes_again old client timestamp bytes one op hears outs none is says)
 
 pub request_new : (old : JoinedData) (client : ClientId) (timestamp : Timestamp) (bytes : List ℕ) (desk : DeskData) (outs : List Output) → AreOne old.orderer old.desk
-    → Silent old client timestamp → outs ≡ [] → IsNewer old.desk client.number timestamp.0 → Waits client timestamp bytes old.desk desk
+    → Silent old client timestamp → outs ≡ [] → IsNewer old.desk client.number timestamp.0 → RequestWaits client timestamp bytes old.desk desk
     → TakesRequest client timestamp bytes old touched.Waiting (record old { desk = desk }) outs
 request_new old client timestamp bytes desk outs one none silent newer waits op hears = takes_new old client timestamp bytes one op hears outs desk none silent newer waits

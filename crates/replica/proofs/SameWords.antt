@@ -14,7 +14,7 @@ use Rattle.protocol.specs.Replica.Selection.{is_quorum}
 use Rattle.protocol.specs.Replica.Certificates.{brought, view, view_after, target, taken, is_later, is_active_in, new_view_in, change_sent, checkpoint_in, installed_at, count_checkpoints, says_checkpoint, is_stable, stable_at, started_at, low, is_in_marks, counts_at, checkpoints_of, with_checkpoint, batch_begun, batch_from, begun_proposal, entry_proposal, proposal, logged, prepare_from, prepare_of, commit_from, commit_of, vote_in, change_taken, change_at, latest_change}
 use Rattle.protocol.specs.Replica.Transfers.{fetch_sent, fetching, asked_last}
 use Rattle.protocol.proofs.Words.Options.{or_else_alone}
-use Rattle.replica.specs.Idle.{IsIdle, CertifySame, WordsStay}
+use Rattle.replica.specs.Idle.{BringsNothing, CertifySame, WordsStay}
 use Rattle.replica.specs.Idle.LeavesOut.{none, both, beside}
 
 pub count_checkpoints_same : (c : Configuration) (g h : List Entry) → ((s : ℕ) → checkpoints_of c h s ≡ checkpoints_of c g s) → (mark : CheckpointEntry) → count_checkpoints c h mark ≡ count_checkpoints c g mark
@@ -122,7 +122,7 @@ max_none n m h = omega arith
 none_max : (n m : ℕ) → m ≡ 0 → max m n ≡ n
 none_max n m h = omega arith
 
-module _ (c : Configuration) (me : ℕ) (e : Entry) (idle : IsIdle c me e) (h : List Entry) where
+module _ (c : Configuration) (me : ℕ) (e : Entry) (idle : BringsNothing c me e) (h : List Entry) where
   taken_none : taken c h e ≡ None
   taken_none = ap (option_and_then (λ (new : NewViewData). then_some (is_later (view c h) (target h) new) new)) idle.view
 

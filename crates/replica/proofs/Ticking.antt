@@ -12,12 +12,12 @@ use Rattle.protocol.specs.Replica.Owed.{HasToMove}
 use Rattle.protocol.proofs.Words.Options.{some_injective}
 use Rattle.posting.specs.Endpoint.{EndpointState}
 use Rattle.view_change.specs.Laws.{ChangesAreJudged}
-use Rattle.replica_histories.specs.Changes.{FitsChanges, Passes}
+use Rattle.replica_histories.specs.Changes.{FitsChanges, LogPassesEntry}
 use Rattle.replica_histories.specs.Desk.{snapshot_of}
-use Rattle.replica_histories.specs.Questions.{AnswersInput, MovesOn}
+use Rattle.replica_histories.specs.Questions.{AnswersInput, OwesViewChange}
 use Rattle.replica_histories.specs.Inputs.{again_due}
 use Rattle.replica_histories.specs.Views.{entries_of}
-use Rattle.replica_histories.specs.Transfers.{FitsOpen}
+use Rattle.replica_histories.specs.Transfers.{FitsOpenTransfer}
 use Rattle.replica_histories.specs.Events as histories
 use Rattle.replica_histories.specs.Events.{Start, after_outputs}
 use Rattle.replica_histories.proofs.ChangesKept.{silent_keep}
@@ -37,7 +37,7 @@ use Rattle.replica.specs.Beginning.{MayBegin, HasNoView}
 use Rattle.replica.specs.Changing.{ChangesView, HasReason, IsDue, IsNotDue, LeavesView}
 use Rattle.replica.specs.Desks.{PartsFitEvent}
 use Rattle.orderer.specs.Changing.{IsUnsayable, aimed_view, change_for}
-use Rattle.orderer.specs.Fitting.{given, FitsEvent, changes_of}
+use Rattle.orderer.specs.Fitting.{given, FitsEvent, changes_held}
 use Rattle.replica.specs.Entering.{event_with, IsLeftToDo, TakesTick}
 use Rattle.replica.specs.Fetching.{SaysFetch}
 use Rattle.replica.specs.Joined.{JoinedMatchesHistory, me_of}
@@ -71,8 +71,8 @@ module _ (r : JoinedData) (one : AreOne r.orderer r.desk) where
     entered = ticks_fit c me (desk_of c r.desk) o.log past runs.holds
 
     -- the view-change data stay
-    held : FitsChanges c me o.log (changes_of o) (tick ∷ past)
-    held = changes_stay c me past tick o.log o.log (changes_of o) o.claims
+    held : FitsChanges c me o.log (changes_held o) (tick ∷ past)
+    held = changes_stay c me past tick o.log o.log (changes_held o) o.claims
         (inputs_enter c me (desk_of c r.desk) (desk_of c r.desk) o.log o.log (again_due (desk_of c r.desk).transfer) past tick runs.holds entered)
         (record { view = refl; active = refl }) (silent_keep c me past tick tt)
         (claims_are_above c me o.log past o.claims runs.holds.of_log.fits runs.changes.claims) runs.changes
@@ -99,7 +99,7 @@ module _ (r : JoinedData) (one : AreOne r.orderer r.desk) where
         (subst (λ (t : Option TransferData). FitsEvent c me start o (desk_of c r.desk) r.desk.waiting (again_due t) []) closed begins)
     goes_on outs known (inr (x, there, says)) =
         let again = ticks_may_ask c me x.transfer r.desk.executed.state.number r.desk.executed.state past
-        (subst (λ (t : Option TransferData). FitsOpen c me t r.desk.executed.state.number past) (open_is x there)
+        (subst (λ (t : Option TransferData). FitsOpenTransfer c me t r.desk.executed.state.number past) (open_is x there)
         runs.holds.of_desk.opened) in
         asks_again c start o (desk_of c r.desk) r.desk.waiting [] outs x.transfer known says [] (open_is x there) again.0 again.1
         (subst (λ (t : Option TransferData). FitsEvent c me start o (desk_of c r.desk) r.desk.waiting (again_due t) []) (open_is x there) begins)
@@ -131,7 +131,7 @@ module _ (r : JoinedData) (one : AreOne r.orderer r.desk) where
     times v (inr (taken, joins)) = absurd taken.2
 
     -- none is where none is due
-    no_move : IsNotDue r → (outputs : List Entry) → MovesOn c me past tick outputs point
+    no_move : IsNotDue r → (outputs : List Entry) → OwesViewChange c me past tick outputs point
     no_move (inl (none, active)) outputs vc bytes reason may within says = absurd (go (times vc.view reason).0)
       where
         go : (point.waiting ≢ []) ⊎ (view c past < target past) → ⊥
@@ -151,10 +151,10 @@ module _ (r : JoinedData) (one : AreOne r.orderer r.desk) where
 
     -- nor if it can't be sent
     unsaid_move : (v : ℕ) → JudgesAlike o → ChangesAreJudged → members c ≡ r.desk.membership → IsDue r v → IsUnsayable o (change_for v (entries_of r.desk.snapshots) o) → (outputs : List Entry)
-        → MovesOn c me past tick outputs point
-    unsaid_move v alike judge known due unsaid outputs vc bytes reason may within says = inr (all_are_spent c me o.log (changes_of o) past spent runs.changes)
+        → OwesViewChange c me past tick outputs point
+    unsaid_move v alike judge known due unsaid outputs vc bytes reason may within says = inr (all_are_spent c me o.log (changes_held o) past spent runs.changes)
       where
-        passes : Passes c me past tick o.log o.log
+        passes : LogPassesEntry c me past tick o.log o.log
         passes = inputs_enter c me (desk_of c r.desk) (desk_of c r.desk) o.log o.log (again_due (desk_of c r.desk).transfer) past tick runs.holds entered
 
         kept : map snapshot_of (kept_states o.log.low point.snapshots) ≡ r.desk.snapshots
@@ -167,7 +167,7 @@ module _ (r : JoinedData) (one : AreOne r.orderer r.desk) where
             unsaid vc bytes (view_due v vc.view due reason) may within says
 
     -- what a tick asks for
-    answers : (outputs : List Entry) (executed : ℕ) → MovesOn c me past tick outputs point → AnswersInput c me past tick outputs point executed
+    answers : (outputs : List Entry) (executed : ℕ) → OwesViewChange c me past tick outputs point → AnswersInput c me past tick outputs point executed
     answers outputs executed moves = let parts = others_owe_no_part c me past tick outputs point executed refl in (parts.0, parts.1, parts.2, parts.3, parts.4, moves)
 
     -- if nothing more is to be done

@@ -24,7 +24,7 @@ use Rattle.replica_histories.specs.Desk.{Desk, desk_from}
 use Rattle.replica_histories.specs.Events as histories
 use Rattle.replica_histories.specs.Events.{Start, after_outputs}
 use Rattle.replica_histories.specs.Views.{begun_log, start_due, with_batches}
-use Rattle.replica_histories.specs.Changes.{AddsBatches, BeginsClaims, FitsChanges, IsOwnFrame, Passes, SpendsLeaves}
+use Rattle.replica_histories.specs.Changes.{AddsBatches, BeginsClaims, FitsChanges, IsOwnFrame, LogPassesEntry, SpendsLeaves}
 use Rattle.replica_histories.proofs.Batches.{begun_active, begun_batch, begun_low, begun_view, stays}
 use Rattle.replica_histories.proofs.Beginning.{start_small}
 use Rattle.replica_histories.proofs.ChangesMade.{views_are_begun}
@@ -38,15 +38,15 @@ use Rattle.desk.specs.State.{OpenData, DeskData}
 use Rattle.desk.specs.Waiting.{WaitingData, with_view}
 use Rattle.orderer.specs.Flags.{FitsFlags}
 use Rattle.replica.specs.Desks.{PartsFitEvent}
-use Rattle.orderer.specs.Fitting.{FitsEvent, FitsWaiting, WasSaid, changes_of, given}
+use Rattle.orderer.specs.Fitting.{FitsEvent, FitsWaiting, WasSaid, changes_held, given}
 use Rattle.desk.specs.Desking.{desk_above}
 use Rattle.replica.specs.Fetching.{SaysFetch}
 use Rattle.desk.specs.Fetching.{aimed_at, aiming, fetch_of}
-use Rattle.orderer.specs.Going.{IsVoted, IsVotedAll}
+use Rattle.orderer.specs.Going.{NoVoteIsDue, IsVotedAll}
 use Rattle.replica.specs.Going.{IsOneParty}
-use Rattle.orderer.specs.Saying.{Says}
+use Rattle.orderer.specs.Saying.{SaysToOthers}
 use Rattle.orderer.specs.EnteringViews.{SaysVotesOf, entering}
-use Rattle.replica.specs.EnteringViews.{Enters, FetchesStart}
+use Rattle.replica.specs.EnteringViews.{EntersView, FetchesStart}
 use Rattle.desk.specs.Begun.{AreBegun}
 use Rattle.desk.specs.DeskOf.{desk_of, IsDeskOf}
 use Rattle.replica.proofs.EnteringViews.{begun_desk, begun_is}
@@ -90,7 +90,7 @@ pub record Entered (new : NewViewData) (own : Option (List ℕ)) (r : JoinedData
   pub votes : SaysVotesOf new.start (new.start + length new.batches) fetched.orderer said orderer after
   pub new_is : n ≡ record fetched { orderer = orderer }
 
-pub entered : (new : NewViewData) (own : Option (List ℕ)) (r : JoinedData) (before : List Output) (n : JoinedData) (after : List Output) → Enters new.view (start_in new) new.batches own r before n after → Entered new own r before n after
+pub entered : (new : NewViewData) (own : Option (List ℕ)) (r : JoinedData) (before : List Output) (n : JoinedData) (after : List Output) → EntersView new.view (start_in new) new.batches own r before n after → Entered new own r before n after
 entered new own r before n after x = record {
   calls = x.noted.calls;
   are = x.noted.are;
@@ -176,7 +176,7 @@ module _ (c : Configuration) (s : Start) (r n : JoinedData) (new : NewViewData) 
     is = aims_desk c s r.orderer r.desk r.desk.waiting (start_in new) before after is;
     fits = subst (λ (m : ℕ). FitsEvent c m s r.orderer (desk_of c aimed.desk) r.desk.waiting [] after) (sym mine)
         (start_aims c s r.orderer r.desk r.desk.waiting new before after [] known once ahead
-        (subst (λ (k : OpenData). Says r.orderer (fetch_of k.transfer) before after) (sym (some_injective (aim_of (start_in new) r.desk) o there)) says)
+        (subst (λ (k : OpenData). SaysToOthers r.orderer (fetch_of k.transfer) before after) (sym (some_injective (aim_of (start_in new) r.desk) o there)) says)
         (with_due true (lt-ltb (aimed_at r.desk) new.start ahead)));
   }
 
@@ -196,7 +196,7 @@ module _ (c : Configuration) (s : Start) (r n : JoinedData) (new : NewViewData) 
 -- ---- no vote is left
 
 -- the log asks for no vote of a number without a batch
-pub unlogged_voted : (m : LogData) (i : ℕ) → logs.logged_batch m i ≡ None → IsVoted m i
+pub unlogged_voted : (m : LogData) (i : ℕ) → logs.logged_batch m i ≡ None → NoVoteIsDue m i
 unlogged_voted m i none = (
   none_chosen (m.active && not (m.me == logs.primary m m.view) && is_none (logs.prepare_of m i m.me)) (logs.logged_digest m i) digest,
   none_chosen (m.active && logs.is_prepared m i && is_none (logs.commit_of m i m.me)) (logs.logged_digest m i) digest,
@@ -210,7 +210,7 @@ unlogged_voted m i none = (
     digest = go (logs.is_in_marks m i) none
 
 -- if a view begins, it asks only for votes of the new view's numbers
-begun_votes : (log : LogData) (new : NewViewData) (i : ℕ) → IsLog log → new.start < 2 ^ 48 → ((new.start < i) × (i ≤ new.start + length new.batches)) ⊎ IsVoted (begun_log log new) i
+begun_votes : (log : LogData) (new : NewViewData) (i : ℕ) → IsLog log → new.start < 2 ^ 48 → ((new.start < i) × (i ≤ new.start + length new.batches)) ⊎ NoVoteIsDue (begun_log log new) i
 begun_votes log new i is small = go (nat_lt new.start i) (nat_le i (new.start + length new.batches)) refl refl
   where
     nothing : (new.start < i → new.start + length new.batches < i) → (b : Bool) → logs.is_in_marks (begun_log log new) i ≡ b → logs.logged_batch (begun_log log new) i ≡ None
@@ -222,21 +222,21 @@ begun_votes log new i is small = go (nat_lt new.start i) (nat_le i (new.start + 
         let past = out above in
         begun_batch log new is small i w above ∙ slice_get_past new.batches (i - suc new.start) (omega (arith, past, above))
 
-    none : (new.start < i → new.start + length new.batches < i) → IsVoted (begun_log log new) i
+    none : (new.start < i → new.start + length new.batches < i) → NoVoteIsDue (begun_log log new) i
     none out = unlogged_voted (begun_log log new) i (nothing out (logs.is_in_marks (begun_log log new) i) refl)
 
-    go : (a b : Bool) → nat_lt new.start i ≡ a → nat_le i (new.start + length new.batches) ≡ b → ((new.start < i) × (i ≤ new.start + length new.batches)) ⊎ IsVoted (begun_log log new) i
+    go : (a b : Bool) → nat_lt new.start i ≡ a → nat_le i (new.start + length new.batches) ≡ b → ((new.start < i) × (i ≤ new.start + length new.batches)) ⊎ NoVoteIsDue (begun_log log new) i
     go true true h k = inl (ltb-true new.start i h, leb-true i (new.start + length new.batches) k)
     go true false h k = inr (none (λ above. leb-false i (new.start + length new.batches) k))
     go false b h k = inr (none (λ above. let under = ltb-false new.start i h in absurd (omega (arith, above, under))))
 
 pub entered_voted : (new : NewViewData) (own : Option (List ℕ)) (r : JoinedData) (before : List Output) (n : JoinedData) (after : List Output) → IsLog r.orderer.log → new.start < 2 ^ 48 → Entered new own r before n after → IsVotedAll n.orderer.log
-entered_voted new own r before n after is small x i = subst (λ (y : JoinedData). IsVoted y.orderer.log i) (sym x.new_is) (x.votes.voted i (pick (begun_votes r.orderer.log new i is small)))
+entered_voted new own r before n after is small x i = subst (λ (y : JoinedData). NoVoteIsDue y.orderer.log i) (sym x.new_is) (x.votes.voted i (pick (begun_votes r.orderer.log new i is small)))
   where
-    pick : ((new.start < i) × (i ≤ new.start + length new.batches)) ⊎ IsVoted (begun_log r.orderer.log new) i → ((new.start < i) × (i ≤ new.start + length new.batches)) ⊎ IsVoted x.fetched.orderer.log i
+    pick : ((new.start < i) × (i ≤ new.start + length new.batches)) ⊎ NoVoteIsDue (begun_log r.orderer.log new) i → ((new.start < i) × (i ≤ new.start + length new.batches)) ⊎ NoVoteIsDue x.fetched.orderer.log i
     pick (inl within) = inl within
     pick (inr voted) =
-        inr (subst (λ (o : OrdererData). IsVoted o.log i)
+        inr (subst (λ (o : OrdererData). NoVoteIsDue o.log i)
         (sym (fetched_so (start_in new) (begun_parts new own x.claims x.calls r) x.fetched before x.said x.fetches).orderer) voted)
 
 -- and the replica is active
@@ -253,9 +253,9 @@ module _ (c : Configuration) (s : Start) (r : JoinedData) (new : NewViewData) (o
     (one : AreOne r.orderer r.desk) (clients : r.desk.executed.clients ≡ r.desk.membership.clients) (is : IsDeskOf c r.desk)
     (at : after_outputs s (given r.orderer.endpoint.me before) ≡ e ∷ past) (meant : AreSentAsMeant c r.orderer.endpoint.me before)
     (fits : histories.Fits c r.orderer.endpoint.me s (desk_from (begun_log r.orderer.log new).low (desk_of c r.desk)) (begun_log r.orderer.log new) (start_due (desk_of c r.desk) new) (given r.orderer.endpoint.me before))
-    (passes : Passes c r.orderer.endpoint.me past e r.orderer.log (begun_log r.orderer.log new)) (t : taken c past e ≡ Some new) (brings : brought c e ≡ Some (record { sender = sender; message = NewView new }))
+    (passes : LogPassesEntry c r.orderer.endpoint.me past e r.orderer.log (begun_log r.orderer.log new)) (t : taken c past e ≡ Some new) (brings : brought c e ≡ Some (record { sender = sender; message = NewView new }))
     (frame : IsOwnFrame c r.orderer.endpoint.me e new own) (spends : SpendsLeaves r.orderer.spent r.orderer.spent past e) (was_said : WasSaid r.orderer.endpoint.me r.orderer.last_checkpoint past)
-    (changes : FitsChanges c r.orderer.endpoint.me r.orderer.log (changes_of r.orderer) past) where
+    (changes : FitsChanges c r.orderer.endpoint.me r.orderer.log (changes_held r.orderer) past) where
   abbrev me : ℕ
   me = r.orderer.endpoint.me
 
@@ -286,8 +286,8 @@ module _ (c : Configuration) (s : Start) (r : JoinedData) (new : NewViewData) (o
       fits = fits;
       numbers = subst (FitsWaiting c me o w later) (sym at) numbers;
       said = subst (WasSaid me o.last_checkpoint) (sym at) (said_on me r.orderer.last_checkpoint past e was_said);
-      changes = subst (FitsChanges c me o.log (changes_of o)) (sym at)
-          (views_are_begun c me past e log (changes_of r.orderer) new own x.claims sender r.orderer.spent passes t brings x.begins frame spends changes);
+      changes = subst (FitsChanges c me o.log (changes_held o)) (sym at)
+          (views_are_begun c me past e log (changes_held r.orderer) new own x.claims sender r.orderer.spent passes t brings x.begins frame spends changes);
       meant = meant;
     }
 

@@ -11,7 +11,7 @@ use Rattle.replica.specs.State.{JoinedData}
 use Rattle.replica.specs.Desks.{PartsFitEvent}
 use Rattle.orderer.specs.Changing.{IsJoinedBy, IsUnsayable, aimed_view, change_for}
 use Rattle.orderer.specs.Going.{IsVotedAll}
-use Rattle.replica.specs.Going.{IsExecuted, IsOneParty}
+use Rattle.replica.specs.Going.{AllIsExecuted, IsOneParty}
 
 -- ---- why the replica leaves a view
 
@@ -45,7 +45,7 @@ pub record LeavesView (v : ℕ) (old : JoinedData) (before : List Output) (new :
     pub target : new.orderer.target ≡ v
     pub inactive : new.orderer.log.active ≡ false
     pub voted : IsVotedAll new.orderer.log
-    pub executed : IsExecuted old.orderer.log old.desk → IsExecuted new.orderer.log new.desk
+    pub executed : AllIsExecuted old.orderer.log old.desk → AllIsExecuted new.orderer.log new.desk
 
 -- It does so, or the view change can't be sent, and nothing changes.
 abbrev pub ChangesView : ℕ → JoinedData → List Output → JoinedData → List Output → Bool → Type 0

@@ -13,21 +13,21 @@ use Rattle.replica_histories.specs.Outputs.{checkpoint_due}
 use Rattle.replica.specs.State.{JoinedData}
 use Rattle.desk.specs.State.{DeskData}
 use Rattle.replica.specs.Desks.{PartsFitEvent}
-use Rattle.desk.specs.Desking.{is_due, newest_entry}
+use Rattle.desk.specs.Desking.{checkpoint_is_due, newest_entry}
 use Rattle.replica.specs.Marking.{MovesMarks}
 use Rattle.desk.specs.Fetching.{aimed_at, aiming}
 use Rattle.orderer.specs.Going.{CommitsNoMore, IsVotedAll}
 use Rattle.replica.specs.Going.{IsSameParty}
-use Rattle.orderer.specs.Saying.{Says}
+use Rattle.orderer.specs.Saying.{SaysToOthers}
 
 -- The marks move to a checkpoint if it is stable; else nothing changes.
-abbrev pub Settles : CheckpointEntry → JoinedData → JoinedData → Bool → Type 0
-Settles entry old new true = (logs.is_stable old.orderer.log entry ≡ true) × MovesMarks entry.number old new
-Settles entry old new false = (logs.is_stable old.orderer.log entry ≡ false) × (new ≡ old)
+abbrev pub SettlesMarks : CheckpointEntry → JoinedData → JoinedData → Bool → Type 0
+SettlesMarks entry old new true = (logs.is_stable old.orderer.log entry ≡ true) × MovesMarks entry.number old new
+SettlesMarks entry old new false = (logs.is_stable old.orderer.log entry ≡ false) × (new ≡ old)
 
 -- if the executed state is to have a checkpoint, it is the newest kept state
 abbrev pub IsDueKept : DeskData → Type 0
-IsDueKept d = is_due d ≡ true
+IsDueKept d = checkpoint_is_due d ≡ true
     → newest_entry d.snapshots
     ≡ Some (record { number = d.executed.state.number; digest = root_of d.executed.state })
 
@@ -51,4 +51,4 @@ StartsTransferIfBehind entry old before new after =
     ⊎ (entry.number ≤ aimed_at old.desk)) × (new ≡ old) × (after ≡ before))
     ⊎ ((nat_le (2 * old.orderer.log.faults + 1) (logs.count_checkpoints old.orderer.log entry) ≡ true)
     × (aimed_at old.desk < entry.number) × (new ≡ record old { desk = aiming entry old.desk })
-    × Says old.orderer (FetchMessage entry.number levels.Root 0) before after)
+    × SaysToOthers old.orderer (FetchMessage entry.number levels.Root 0) before after)

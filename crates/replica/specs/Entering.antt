@@ -43,8 +43,8 @@ abbrev pub IsTakenBeside : Configuration → ℕ → Start → Type 0
 IsTakenBeside c me s = IsTaken c me s × (brings_question c me s.input ≡ false)
 
 -- The event answers its input, whatever its outputs, if it ends at this executed number or above.
-abbrev pub IsAnswered : Configuration → ℕ → Start → ℕ → Type 0
-IsAnswered c me s number =
+abbrev pub InputIsAnswered : Configuration → ℕ → Start → ℕ → Type 0
+InputIsAnswered c me s number =
     (outputs : List Entry) (executed : ℕ) → number ≤ executed
     → AnswersInput c me s.before s.input outputs s.old executed
 
@@ -69,7 +69,7 @@ IsLeftToDo c s touched.Nothing r outs = NothingIsLeft r × IsAllNumbered r
 IsLeftToDo c s touched.Waiting r outs = NothingIsLeft r × IsTakenAlone c (me_of r) s
 IsLeftToDo c s (touched.Row number) r outs = IsVotedBut number.0 r.orderer.log × IsTakenBeside c (me_of r) s
 IsLeftToDo c s touched.State r outs = IsVotedAll r.orderer.log × IsTaken c (me_of r) s
-    × IsAnswered c (me_of r) s r.desk.executed.state.number
+    × InputIsAnswered c (me_of r) s r.desk.executed.state.number
 IsLeftToDo c s touched.View r outs = IsVotedAll r.orderer.log × IsTakenAnswered c r s
 
 -- In an event with this input, what fits the past fits the event with these outputs. No new view is left that the

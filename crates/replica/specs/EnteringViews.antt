@@ -20,7 +20,7 @@ FetchesStart entry old before new after =
     ⊎ ((entry.number ≤ aimed_at old.desk) × (new ≡ old) × (after ≡ before))
 
 -- The replica enters the view by a new view with this start and these batches, step by step.
-pub record Enters (view : ℕ) (start : CheckpointEntry) (texts : List (List ℕ)) (own : Option (List ℕ))
+pub record EntersView (view : ℕ) (start : CheckpointEntry) (texts : List (List ℕ)) (own : Option (List ℕ))
     (old : JoinedData) (before : List Output) (new : JoinedData) (after : List Output) : Type 0 where
   pub desk : DeskData
   pub noted : NotesBegun texts old.desk desk

@@ -30,16 +30,16 @@ FitIsKept old before new after =
     → PartsFitEvent c s new.orderer new.desk [] after
 
 -- no batch is committed for the next number
-abbrev pub IsExecuted : LogData → DeskData → Type 0
-IsExecuted log d = logs.committed_batch log (suc d.executed.state.number) ≡ None
+abbrev pub AllIsExecuted : LogData → DeskData → Type 0
+AllIsExecuted log d = logs.committed_batch log (suc d.executed.state.number) ≡ None
 
 -- no message is left to send, and no batch to execute
 abbrev pub NothingIsLeft : JoinedData → Type 0
-NothingIsLeft r = IsVotedAll r.orderer.log × IsExecuted r.orderer.log r.desk
+NothingIsLeft r = IsVotedAll r.orderer.log × AllIsExecuted r.orderer.log r.desk
 
 -- If the log asks for no vote, the replica executes the next batch and sends its checkpoint; or no batch is committed,
 -- and nothing changes.
-pub record ExecutesNext (old : JoinedData) (before : List Output) (new : JoinedData) (after : List Output) : Type 0
+pub record ExecutesNextBatch (old : JoinedData) (before : List Output) (new : JoinedData) (after : List Output) : Type 0
   where
     pub proceeds : IsVotedAll old.orderer.log → FitIsKept old before new after
     pub party : IsSameParty old new
@@ -51,8 +51,8 @@ pub record ExecutesNext (old : JoinedData) (before : List Output) (new : JoinedD
     pub waiting : count_unnumbered new.desk.waiting ≤ count_unnumbered old.desk.waiting
 
 abbrev pub ExecutesTurn : JoinedData → List Output → JoinedData → List Output → Bool → Type 0
-ExecutesTurn old before new after true = ExecutesNext old before new after
-ExecutesTurn old before new after false = (new ≡ old) × (after ≡ before) × IsExecuted old.orderer.log old.desk
+ExecutesTurn old before new after true = ExecutesNextBatch old before new after
+ExecutesTurn old before new after false = (new ≡ old) × (after ≡ before) × AllIsExecuted old.orderer.log old.desk
 
 -- If the log asks for no vote, the replica executes the committed batches, one after another.
 pub record ExecutesAll (old : JoinedData) (before : List Output) (new : JoinedData) (after : List Output) : Type 0

@@ -11,11 +11,11 @@ use Rattle.protocol.specs.Replica.Owed.{IsSaying}
 use Rattle.protocol.specs.System.Reads.{without_reads}
 
 -- requests and replies order nothing
-abbrev pub IsQuiet : Message → Type 0
-IsQuiet message = elim message [ Request t mode op ↦ ⊤ | Reply client t mode number answer ↦ ⊤ | _ ↦ ⊥ ]
+abbrev pub OrdersNothing : Message → Type 0
+OrdersNothing message = elim message [ Request t mode op ↦ ⊤ | Reply client t mode number answer ↦ ⊤ | _ ↦ ⊥ ]
 
 -- nothing that the entry brings counts
-pub record IsIdle (c : Configuration) (me : ℕ) (e : Entry) : Type 0 where
+pub record BringsNothing (c : Configuration) (me : ℕ) (e : Entry) : Type 0 where
   pub view : new_view_in c e ≡ None
   pub change : change_sent e ≡ 0
   pub checkpoint : checkpoint_in c e ≡ None
@@ -26,15 +26,15 @@ pub record IsIdle (c : Configuration) (me : ℕ) (e : Entry) : Type 0 where
   pub fetch : fetch_sent e ≡ 0
   pub asked : (past : List Entry) → asked_last (e ∷ past) ≡ asked_last past
   pub latest : (past : List Entry) (s : ℕ) → change_at c past e s ≡ 0
-  pub says : (message : Message) → IsSaying me message e → IsQuiet message
+  pub says : (message : Message) → IsSaying me message e → OrdersNothing message
   pub seen : (past : List Entry) (frame : List ℕ) (body : Body) → HasSeen frame past e → said frame ≡ Some body
-      → IsQuiet body.message
+      → OrdersNothing body.message
 
 -- the first history is the second without some idle entries
 pub data LeavesOut (c : Configuration) (me : ℕ) : List Entry → List Entry → Type 0 where
   none : LeavesOut c me [] []
   both : (e : Entry) (g h : List Entry) → LeavesOut c me g h → LeavesOut c me (e ∷ g) (e ∷ h)
-  beside : (e : Entry) (g h : List Entry) → IsIdle c me e → LeavesOut c me g h → LeavesOut c me g (e ∷ h)
+  beside : (e : Entry) (g h : List Entry) → BringsNothing c me e → LeavesOut c me g h → LeavesOut c me g (e ∷ h)
 
 -- both histories certify the same
 pub record CertifySame (c : Configuration) (me : ℕ) (g h : List Entry) : Type 0 where

@@ -14,7 +14,7 @@ use Rattle.desk.specs.DeskOf.{desk_of, IsDeskOf}
 use Rattle.orderer.specs.State.{OrdererData}
 use Rattle.desk.specs.State.{DeskData}
 use Rattle.replica.specs.Beginning.{CannotBegin}
-use Rattle.orderer.specs.Fitting.{FitsWaiting, WasSaid, changes_of}
+use Rattle.orderer.specs.Fitting.{FitsWaiting, WasSaid, changes_held}
 use Rattle.replica.specs.Numbering.{IsAllNumbered}
 
 -- a replica of these parts
@@ -31,7 +31,7 @@ pub record JoinedMatchesHistory (c : Configuration) (r : JoinedData) (history : 
   pub holds : histories.Holds c (me_of r) (desk_of c r.desk) r.orderer.log history
   pub numbers : FitsWaiting c (me_of r) r.orderer r.desk.waiting (desk_of c r.desk) history
   pub said : WasSaid (me_of r) r.orderer.last_checkpoint history
-  pub changes : FitsChanges c (me_of r) r.orderer.log (changes_of r.orderer) history
+  pub changes : FitsChanges c (me_of r) r.orderer.log (changes_held r.orderer) history
   pub all : IsAllNumbered r
   pub begun : CannotBegin c r.orderer
 

@@ -5,14 +5,14 @@ use Rattle.wire_format.specs.Spelling.{IsCarried, is_ordered_request, pieces_spe
 use Rattle.events.specs.declared.output.Output.{Output}
 use Rattle.replica.specs.State.{JoinedData}
 use Rattle.desk.specs.Waiting.{texts, unnumbered, with_numbered, count_unnumbered}
-use Rattle.orderer.specs.Saying.{SaysBatch}
+use Rattle.orderer.specs.Saying.{SaysOwnBatch}
 use Rattle.replica.specs.Going.{IsSameParty, FitIsKept, NothingIsLeft}
 use Rattle.replica.specs.Numbering.{IsAllNumbered}
 
 -- The primary assigns this number to the oldest requests without one, in a batch that it multicasts.
 pub record NumbersNext (number : ℕ) (old : JoinedData) (before : List Output) (new : JoinedData)
     (after : List Output) : Type 0 where
-  pub says : SaysBatch number (pieces_spelling (texts (unnumbered old.desk.waiting))) old.orderer before new.orderer
+  pub says : SaysOwnBatch number (pieces_spelling (texts (unnumbered old.desk.waiting))) old.orderer before new.orderer
       after
   pub waits : new.desk ≡ record old.desk {
     waiting = with_numbered (length (unnumbered old.desk.waiting)) old.desk.waiting;
@@ -35,7 +35,7 @@ NumbersTurn old before new after false = (new ≡ old) × (after ≡ before) × 
 
 -- The primary assigns the free numbers to waiting requests, and goes on with each. Nothing is left to send, to execute
 -- or to assign.
-pub record NumbersWaiting (old : JoinedData) (before : List Output) (new : JoinedData)
+pub record NumbersWaitingRequests (old : JoinedData) (before : List Output) (new : JoinedData)
     (after : List Output) : Type 0 where
   pub proceeds : NothingIsLeft old → FitIsKept old before new after
   pub party : IsSameParty old new

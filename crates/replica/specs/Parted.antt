@@ -19,7 +19,7 @@ use Rattle.orderer.specs.State.{OrdererData}
 use Rattle.desk.specs.State.{DeskData}
 use Rattle.orderer.specs.Flags.{FitsFlags}
 use Rattle.replica.specs.Beginning.{CannotBegin}
-use Rattle.orderer.specs.Fitting.{WasSaid, changes_of}
+use Rattle.orderer.specs.Fitting.{WasSaid, changes_held}
 use Rattle.replica.specs.Inputs.{input_of}
 use Rattle.replica.specs.Joined.{JoinedEventLeads, joined}
 use Rattle.orderer.specs.Changing.{AreChanges}
@@ -36,7 +36,7 @@ HasFlags c me d history = (used : ℕ)
 pub record DeskMatchesHistory (c : Configuration) (me : ℕ) (d : DeskData) (history : List Entry) : Type 0 where
   pub is_desk : IsDeskOf c d
   pub holds : histories.HoldsDesk c me (desk_of c d) history
-  pub low : histories.IsReached c me (low c me history) d.executed.state.number [] history
+  pub low : histories.LowMarkIsReached c me (low c me history) d.executed.state.number [] history
   pub flags : primary c (view c history) ≡ me → HasFlags c me d history
 
 -- Each number above the low mark up to `used` has a batch, and none above it has one.
@@ -49,7 +49,7 @@ pub record OrdererMatchesHistory (c : Configuration) (me : ℕ) (o : OrdererData
   pub holds : histories.HoldsLog c me o.log history
   pub used : primary c (view c history) ≡ me → IsUsed c me (view c history) o.used history
   pub said : WasSaid me o.last_checkpoint history
-  pub changes : FitsChanges c me o.log (changes_of o) history
+  pub changes : FitsChanges c me o.log (changes_held o) history
   pub period : c.period ≡ o.received.sizes.period
   pub begun : CannotBegin c o
 
@@ -123,7 +123,7 @@ OrdererStops o stopped =
 -- ---- of private functions
 
 -- the outputs of both in an event, when they are joined
-pub record Reacts (o : OrdererData) (d : DeskData) (event : Event) (outs : List Output) (later_o : OrdererData)
+pub record PartsReact (o : OrdererData) (d : DeskData) (event : Event) (outs : List Output) (later_o : OrdererData)
     (later_d : DeskData) : Type 0 where
   pub leads : JoinedEventLeads (joined o d) event outs (joined later_o later_d)
   pub one : AreOne later_o later_d

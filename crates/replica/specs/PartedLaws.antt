@@ -34,7 +34,7 @@ DesksArePrompt =
     → is_none d.holds ≡ false → IsPromptReplica c me history
 
 -- and so is one of which neither part has stopped.
-abbrev pub ReplicasArePrompt : Type 0
-ReplicasArePrompt =
+abbrev pub RunningReplicasArePrompt : Type 0
+RunningReplicasArePrompt =
     (c : Configuration) (r : ReplicaData) (history : List Entry) → replica_fits.Fits c r history
     → has_stopped r ≡ false → IsPromptReplica c (replica_fits.me_of r) history

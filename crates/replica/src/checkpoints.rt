@@ -3,7 +3,7 @@
 ghost use Rattle.std.specs.Prelude.{◌≡◌, ◌^◌, ◌<◌, [], IfOk, OnOk};
 ghost use Rattle.wire_format.specs.Messages.{checkpoint};
 ghost use Rattle.wire_format.specs.Views.{checkpoint_entry_data};
-ghost use Rattle.replica.specs.Checkpoints.{StartsTransferIfBehind, IsDueKept, SaysDueCheckpoint, Settles};
+ghost use Rattle.replica.specs.Checkpoints.{StartsTransferIfBehind, IsDueKept, SaysDueCheckpoint, SettlesMarks};
 ghost use Rattle.replica.specs.Marking.{MovesMarks};
 ghost use Rattle.replica.specs.Entering.{TakesMessage};
 
@@ -68,7 +68,7 @@ impl Joined {
     // counted last can have become stable.
     fn try_stabilize(&mut self, entry: &CheckpointEntry) -> bool
         requires { entry.now.number.0 < 2 ^ 48 }
-        ensures settles { Settles (checkpoint_entry_data entry.now) self.old self.new result }
+        ensures settles { SettlesMarks (checkpoint_entry_data entry.now) self.old self.new result }
         ensures endpoint { self.new.orderer.endpoint ≡ self.old.orderer.endpoint }
     {
         if !self.orderer.is_stable(entry) {

@@ -5,7 +5,7 @@ ghost use Rattle.wire_format.specs.Lists.{Each};
 ghost use Rattle.wire_format.specs.Spelling.{IsBatch};
 ghost use Rattle.wire_format.specs.Views.{checkpoint_entry_data};
 ghost use Rattle.view_change.specs.Sets.{texts_of};
-ghost use Rattle.replica.specs.EnteringViews.{Enters, FetchesStart};
+ghost use Rattle.replica.specs.EnteringViews.{EntersView, FetchesStart};
 
 use crate::joined::Joined;
 use events::{Outputs, Stop};
@@ -28,7 +28,7 @@ impl Joined {
         requires start { selection.start.0 < 2 ^ 48 }
         requires few { length selection.batches.items ≤ 32 }
         requires batches { Each (IsBatch 0) (texts_of selection.batches.items) }
-        ensures ok { OnOk result (Enters view.0 (record { number = selection.start.0; digest = selection.root })
+        ensures ok { OnOk result (EntersView view.0 (record { number = selection.start.0; digest = selection.root })
             (texts_of selection.batches.items) (option_map (λ frame. frame.items) own)
             self.old outputs.old.items self.new outputs.new.items) }
         ensures endpoint { self.new.orderer.endpoint ≡ self.old.orderer.endpoint }

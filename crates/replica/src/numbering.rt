@@ -7,7 +7,7 @@ ghost use Rattle.desk.specs.Waiting.{unnumbered};
 ghost use Rattle.replica.specs.Entering.{TakesRequest};
 ghost use Rattle.replica.specs.Numbering.{AllAgain, IsNextFree};
 ghost use Rattle.orderer.specs.Numbering.{next_number};
-ghost use Rattle.replica.specs.NumbersNext.{NumbersNext, NumbersTurn, NumbersWaiting};
+ghost use Rattle.replica.specs.NumbersNext.{NumbersNext, NumbersTurn, NumbersWaitingRequests};
 
 use crate::joined::Joined;
 use crate::taking::Touched;
@@ -72,7 +72,7 @@ impl Joined {
         outputs: &mut Outputs,
     ) -> Result<(), Stop>
         ensures ok { OnOk result
-            (NumbersWaiting self.old outputs.old.items self.new outputs.new.items) }
+            (NumbersWaitingRequests self.old outputs.old.items self.new outputs.new.items) }
         ensures endpoint { self.new.orderer.endpoint ≡ self.old.orderer.endpoint }
     {
         for _ in 0..self.desk.count_unnumbered() {

@@ -1,7 +1,7 @@
 //! Laws of a replica in two parts: entries beside ordering count for nothing, and the parts are the whole.
 
 ghost use Rattle.replica.specs.Idle.{ReadsAreIdle, WordsStay};
-ghost use Rattle.replica.specs.PartedLaws.{DesksArePrompt, HoldsPart, PartsJoin, ReplicasArePrompt};
+ghost use Rattle.replica.specs.PartedLaws.{DesksArePrompt, HoldsPart, PartsJoin, RunningReplicasArePrompt};
 ghost use Rattle.replica.specs.Reads.{MarkedAreReplies, MarkedAreRequests, RepliesAreMarked};
 
 /// If bytes with the marks of a read, or of a reply to one, say anything, they say that. Each reply to a read has its
@@ -27,5 +27,5 @@ pub fn parts_are_whole()
 /// A replica that has not stopped does all that it owes, to the end of the history that it fits.
 pub fn running_replicas_are_prompt()
     ensures desks { DesksArePrompt }
-    ensures replicas { ReplicasArePrompt }
+    ensures replicas { RunningReplicasArePrompt }
 {}

@@ -8,7 +8,7 @@ ghost use Rattle.wire_format.specs.Messages.{pre_prepare, prepare, commit};
 ghost use Rattle.wire_format.specs.Spelling.{IsBatch};
 ghost use Rattle.wire_format.specs.Views.{message_data};
 ghost use Rattle.signing.specs.Heard.{heard};
-ghost use Rattle.read_only.specs.Hearing.{HearsNoRead};
+ghost use Rattle.read_only.specs.Hearing.{NobodyHearsRead};
 ghost use Rattle.replica.specs.Entering.{TakesBytes, TakesMessage};
 
 use crate::joined::Joined;
@@ -76,7 +76,7 @@ impl Joined {
     ) -> Result<Touched, Stop>
         requires first { outputs.old.items ≡ [] }
         requires kind { has_type_of_requests bytes.now ≡ true }
-        requires unmarked { HearsNoRead bytes.now }
+        requires unmarked { NobodyHearsRead bytes.now }
         ensures ok { IfOk result (λ touched. TakesBytes bytes.now self.old
             touched self.new outputs.new.items) }
         ensures endpoint { self.new.orderer.endpoint ≡ self.old.orderer.endpoint }

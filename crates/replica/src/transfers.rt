@@ -4,7 +4,7 @@ ghost use Rattle.std.specs.Prelude.{◌≡◌, ◌≤◌, [], IfOk, OnOk};
 ghost use Rattle.wire_format.specs.Messages.{fetch, meta, page};
 ghost use Rattle.wire_format.specs.Spelling.{last_index};
 ghost use Rattle.replica.specs.Entering.{TakesMessage};
-ghost use Rattle.replica.specs.Fetching.{AsksOn, InstallsFetched, SaysFetch};
+ghost use Rattle.replica.specs.Fetching.{FetchesNextPart, InstallsFetchedState, SaysFetch};
 ghost use Rattle.desk.specs.Transferring.{MayBeSaid};
 
 use crate::joined::Joined;
@@ -105,7 +105,7 @@ impl Joined {
 
     // Asks for the next part, if one is still to be fetched. Returns whether.
     fn ask_next(&mut self, alloc: Global, outputs: &mut Outputs) -> Result<bool, Stop>
-        ensures ok { IfOk result (AsksOn self.old outputs.old.items self.new outputs.new.items) }
+        ensures ok { IfOk result (FetchesNextPart self.old outputs.old.items self.new outputs.new.items) }
         ensures endpoint { self.new.orderer.endpoint ≡ self.old.orderer.endpoint }
     {
         if !self.desk.has_next_part()? {
@@ -118,7 +118,7 @@ impl Joined {
     // Installs the fetched state, keeps it as a checkpoint, and moves the marks up to it. Returns whether it is a
     // state.
     fn install(&mut self, outputs: &mut Outputs) -> Result<bool, Stop>
-        ensures ok { IfOk result (InstallsFetched self.old outputs.old.items self.new outputs.new.items) }
+        ensures ok { IfOk result (InstallsFetchedState self.old outputs.old.items self.new outputs.new.items) }
         ensures endpoint { self.new.orderer.endpoint ≡ self.old.orderer.endpoint }
     {
         let Some(entry) = self.desk.install()? else {

@@ -8,7 +8,7 @@ use Rattle.wire_format.specs.Words.{carried, requests_of}
 use Rattle.wire_format.specs.Lists.{Each}
 use Rattle.ordering.specs.Log as logs
 use Rattle.ordering.specs.Log.{LogData}
-use Rattle.ordering.specs.Votes.{vote_of}
+use Rattle.ordering.specs.Votes.{voted_digest}
 use Rattle.protocol.specs.System.Configuration.{Configuration, primary, is_number}
 use Rattle.protocol.specs.System.Trace.{Entry, Once, Always}
 use Rattle.protocol.specs.System.Trace.Entry.{Invoke, Got, Sent}
@@ -20,7 +20,7 @@ use Rattle.protocol.proofs.Words.Temporal.{once_weaker, once_stays}
 use Rattle.protocol.proofs.Words.Elements.{each_weaker}
 use Rattle.protocol.proofs.Agreement.Voting.{RightAt, once_right, Logs, logged_stays, batch_is}
 use Rattle.replica_histories.specs.Desk.{Desk, point_of}
-use Rattle.replica_histories.specs.Logs.{above_mark, Takes}
+use Rattle.replica_histories.specs.Logs.{checkpoints_above, LogTakesBody}
 use Rattle.replica_histories.specs.Events.{Start, after_outputs, Fits}
 use Rattle.replica_histories.specs.Outputs.{PreparesGoAgain, CommitsGoAgain, BatchesGoAgain, CheckpointsGoAgain}
 use Rattle.replica_histories.proofs.Words.{passed, given_not, marks_are, primary_same}
@@ -51,9 +51,9 @@ prepares_go_again c me s desk log due outputs i digest bytes is_active there non
     past = after_outputs s outputs
 
     within : logs.is_in_marks log i ≡ true
-    within = (passed (logs.is_in_marks log i) (vote_of (logs.row_of log i).prepares me) digest there).0
+    within = (passed (logs.is_in_marks log i) (voted_digest (logs.row_of log i).prepares me) digest there).0
 
-    takes : Takes c me (Some (record { sender = me; message = Prepare log.view i digest })) log log
+    takes : LogTakesBody c me (Some (record { sender = me; message = Prepare log.view i digest })) log log
     takes = takes_nothing c me _ log f.of_log.is_log (λ j k h. refl)
         (λ j x k h. none_there (logs.prepare_of log j x) (prepare_from c x log.view j (record { sender = me; message = Prepare log.view i digest })) ((me == x) && (log.view == log.view) && (i == j) && not (x == primary c log.view)) digest refl h
         (λ e none.
@@ -86,9 +86,9 @@ commits_go_again c me s desk log due outputs i digest bytes is_active there none
     past = after_outputs s outputs
 
     within : logs.is_in_marks log i ≡ true
-    within = (passed (logs.is_in_marks log i) (vote_of (logs.row_of log i).commits me) digest there).0
+    within = (passed (logs.is_in_marks log i) (voted_digest (logs.row_of log i).commits me) digest there).0
 
-    takes : Takes c me (Some (record { sender = me; message = Commit log.view i digest })) log log
+    takes : LogTakesBody c me (Some (record { sender = me; message = Commit log.view i digest })) log log
     takes = takes_nothing c me _ log f.of_log.is_log (λ j k h. refl) (λ j x k h. refl)
         (λ j x k h. none_there (logs.commit_of log j x) (commit_from x log.view j (record { sender = me; message = Commit log.view i digest })) ((me == x) && (log.view == log.view) && (i == j)) digest refl h
         (λ e none.
@@ -201,7 +201,7 @@ batches_go_again c me s desk log due outputs i batch bytes is_active own there b
     proposed : Proposed c me batch past
     proposed = batch_proposed c me log.view i batch past (point_of desk f.of_desk.states f.of_desk.ran) (leaves_now c me s desk log due outputs f) primary_is (not_begun c log.view i batch past below) logs_it
 
-    takes : Takes c me (Some (record { sender = me; message = PrePrepare log.view i batch })) log log
+    takes : LogTakesBody c me (Some (record { sender = me; message = PrePrepare log.view i batch })) log log
     takes = takes_nothing c me _ log f.of_log.is_log
         (λ j k h. none_there (logs.logged_batch log j) (batch_from c me log.view j (record { sender = me; message = PrePrepare log.view i batch }))
         ((log.view == log.view) && (i == j) && (me == primary c log.view) && are_genuine c me batch) batch refl h
@@ -259,7 +259,7 @@ checkpoints_go_again c me s desk log outputs k root bytes once none posted f =
         numbered true is = of (me == x) refl is
         numbered false is = refl
 
-    takes : Takes c me (Some (record { sender = me; message = Checkpoint k root })) log log
+    takes : LogTakesBody c me (Some (record { sender = me; message = Checkpoint k root })) log log
     takes = takes_nothing c me _ log f.of_log.is_log (λ j e h. refl) (λ j x e h. refl) (λ j x e h. refl)
         (λ x. sym (behind_above log.low x (checkpoint_from (record { sender = me; message = Checkpoint k root })) (checkpoints_of c past x) (logs.checkpoints_of log x) (latest_of c past x) (f.of_log.latest x) (f.of_log.checkpoints x))
-        ∙ ap (above_mark log.low) (adds_nothing x) ∙ f.of_log.checkpoints x)
+        ∙ ap (checkpoints_above log.low) (adds_nothing x) ∙ f.of_log.checkpoints x)

@@ -6,7 +6,7 @@ use Rattle.sha2.specs.Sha256.{sha256}
 use Rattle.quorum.specs.Quorum.{count_below}
 use Rattle.quorum.specs.Votes.{has_digest}
 use Rattle.quorum.proofs.Counting.{count_same}
-use Rattle.ordering.specs.Votes.{vote_of}
+use Rattle.ordering.specs.Votes.{voted_digest}
 use Rattle.ordering.specs.Log as logs
 use Rattle.ordering.specs.Log.{LogData}
 use Rattle.ordering.proofs.Moving.{cuts_keep}
@@ -48,16 +48,16 @@ has_committed r = cond (has_votes r.faults (2 * r.faults) r.prepares r.batch && 
 prepare_read : (m : LogData) (i : ℕ) → logs.due_prepare m i ≡ asks_prepare (reading m i)
 prepare_read m i = go (logs.is_in_marks m i)
   where
-    go : (b : Bool) → cond (m.active && not (m.me == m.view % (3 * m.faults + 1)) && is_none (cond b (vote_of (logs.row_of m i).prepares m.me) None)) (cond b (logs.digest_of (logs.row_of m i)) None) None
-        ≡ cond (m.active && not (m.me == m.view % (3 * m.faults + 1)) && is_none (cond b (vote_of (logs.row_of m i).prepares m.me) None)) (option_map sha256 (cond b (logs.row_of m i).batch None)) None
+    go : (b : Bool) → cond (m.active && not (m.me == m.view % (3 * m.faults + 1)) && is_none (cond b (voted_digest (logs.row_of m i).prepares m.me) None)) (cond b (logs.digest_of (logs.row_of m i)) None) None
+        ≡ cond (m.active && not (m.me == m.view % (3 * m.faults + 1)) && is_none (cond b (voted_digest (logs.row_of m i).prepares m.me) None)) (option_map sha256 (cond b (logs.row_of m i).batch None)) None
     go true = refl
     go false = refl
 
 commit_read : (m : LogData) (i : ℕ) → logs.due_commit m i ≡ asks_commit (reading m i)
 commit_read m i = go (logs.is_in_marks m i)
   where
-    go : (b : Bool) → cond (m.active && (b && logs.is_row_prepared m.faults (logs.replicas m) (logs.row_of m i)) && is_none (cond b (vote_of (logs.row_of m i).commits m.me) None)) (cond b (logs.digest_of (logs.row_of m i)) None) None
-        ≡ cond (m.active && has_votes m.faults (2 * m.faults) (λ s. cond b (vote_of (logs.row_of m i).prepares s) None) (cond b (logs.row_of m i).batch None) && is_none (cond b (vote_of (logs.row_of m i).commits m.me) None))
+    go : (b : Bool) → cond (m.active && (b && logs.is_row_prepared m.faults (logs.replicas m) (logs.row_of m i)) && is_none (cond b (voted_digest (logs.row_of m i).commits m.me) None)) (cond b (logs.digest_of (logs.row_of m i)) None) None
+        ≡ cond (m.active && has_votes m.faults (2 * m.faults) (λ s. cond b (voted_digest (logs.row_of m i).prepares s) None) (cond b (logs.row_of m i).batch None) && is_none (cond b (voted_digest (logs.row_of m i).commits m.me) None))
         (option_map sha256 (cond b (logs.row_of m i).batch None)) None
     go true = refl
     go false = refl
@@ -66,13 +66,13 @@ committed_read : (m : LogData) (i : ℕ) → logs.committed_batch m i ≡ has_co
 committed_read m i = go (logs.is_in_marks m i)
   where
     both : (o : Option (List ℕ)) → option_map_or (logs.is_digest_committed m.faults (logs.replicas m) m.me (logs.row_of m i).commits) (option_map sha256 o) false
-        ≡ (has_votes m.faults (2 * m.faults + 1) (vote_of (logs.row_of m i).commits) o && has_own m.me (vote_of (logs.row_of m i).commits) o)
+        ≡ (has_votes m.faults (2 * m.faults + 1) (voted_digest (logs.row_of m i).commits) o && has_own m.me (voted_digest (logs.row_of m i).commits) o)
     both None = refl
     both (Some batch) = refl
 
     go : (b : Bool) → cond b (cond (logs.is_row_committed m.faults (logs.replicas m) m.me (logs.row_of m i)) (logs.row_of m i).batch (logs.row_of m i).decided) None
-        ≡ cond (has_votes m.faults (2 * m.faults) (λ s. cond b (vote_of (logs.row_of m i).prepares s) None) (cond b (logs.row_of m i).batch None)
-        && (has_votes m.faults (2 * m.faults + 1) (λ s. cond b (vote_of (logs.row_of m i).commits s) None) (cond b (logs.row_of m i).batch None) && has_own m.me (λ s. cond b (vote_of (logs.row_of m i).commits s) None) (cond b (logs.row_of m i).batch None)))
+        ≡ cond (has_votes m.faults (2 * m.faults) (λ s. cond b (voted_digest (logs.row_of m i).prepares s) None) (cond b (logs.row_of m i).batch None)
+        && (has_votes m.faults (2 * m.faults + 1) (λ s. cond b (voted_digest (logs.row_of m i).commits s) None) (cond b (logs.row_of m i).batch None) && has_own m.me (λ s. cond b (voted_digest (logs.row_of m i).commits s) None) (cond b (logs.row_of m i).batch None)))
         (cond b (logs.row_of m i).batch None) (cond b (logs.row_of m i).decided None)
     go true = ap (λ (t : Bool). cond (logs.is_row_prepared m.faults (logs.replicas m) (logs.row_of m i) && t) (logs.row_of m i).batch (logs.row_of m i).decided) (both (logs.row_of m i).batch)
     go false = refl

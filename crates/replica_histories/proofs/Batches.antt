@@ -12,7 +12,7 @@ use Rattle.ordering.proofs.Keeping.{in_span, batch_kept, log_entered}
 use Rattle.ordering.proofs.Reading.{batches_are_logged}
 use Rattle.ordering.proofs.Moving.{cuts_keep}
 use Rattle.ordering.proofs.Viewing.{committed_stay}
-use Rattle.replica_histories.specs.Logs.{Stays}
+use Rattle.replica_histories.specs.Logs.{LogStays}
 use Rattle.replica_histories.specs.Views.{with_batches, begun_log}
 use Rattle.replica_histories.proofs.Words.{marks_stay}
 use Rattle.replica_histories.proofs.Cutting.{cut_low, cut_same, cut_at, cut_is_log}
@@ -23,10 +23,10 @@ abbrev pub with_one : LogData → ℕ → List ℕ → LogData
 with_one m k batch = cond (logs.is_in_marks m k) (logs.with_batch m k batch) m
 
 -- it leaves all but the row
-stays_one : (m : LogData) (k : ℕ) (batch : List ℕ) → IsLog m → Stays m (with_one m k batch)
+stays_one : (m : LogData) (k : ℕ) (batch : List ℕ) → IsLog m → LogStays m (with_one m k batch)
 stays_one m k batch is = go (logs.is_in_marks m k) refl
   where
-    go : (b : Bool) → logs.is_in_marks m k ≡ b → Stays m (cond b (logs.with_batch m k batch) m)
+    go : (b : Bool) → logs.is_in_marks m k ≡ b → LogStays m (cond b (logs.with_batch m k batch) m)
     go true w = record {
       is_log = batch_kept m (logs.place m k) batch (logs.with_batch m k batch).rows (in_span m k w) is refl;
       me = refl;
@@ -69,7 +69,7 @@ one_decided m k i batch is within = go (logs.is_in_marks m k) refl
 
 -- ---- several, from a number on
 
-stays_on : (a b d : LogData) → Stays a b → Stays b d → Stays a d
+stays_on : (a b d : LogData) → LogStays a b → LogStays b d → LogStays a d
 stays_on a b d s t = record {
   is_log = t.is_log;
   me = t.me ∙ s.me;
@@ -81,7 +81,7 @@ stays_on a b d s t = record {
   checkpoints = t.checkpoints ∙ s.checkpoints;
 }
 
-pub batches_stay : (m : LogData) (k : ℕ) (batches : List (List ℕ)) → IsLog m → Stays m (with_batches m k batches)
+pub batches_stay : (m : LogData) (k : ℕ) (batches : List (List ℕ)) → IsLog m → LogStays m (with_batches m k batches)
 batches_stay m k [] is = record { is_log = is; me = refl; faults = refl; span = refl; view = refl; active = refl; low = refl; checkpoints = refl }
 batches_stay m k (batch ∷ batches) is =
     let one = stays_one m k batch is in
@@ -106,7 +106,7 @@ pub batches_there : (m : LogData) (k i : ℕ) (batches : List (List ℕ)) → Is
 batches_there m k i [] is w l = refl
 batches_there m k i (batch ∷ batches) is w l = go (k == i) refl (batches_there (with_one m k batch) (suc k) i batches (stays_one m k batch is).is_log)
   where
-    one : Stays m (with_one m k batch)
+    one : LogStays m (with_one m k batch)
     one = stays_one m k batch is
 
     go : (b : Bool) → (k == i) ≡ b
@@ -156,7 +156,7 @@ module _ (log : LogData) (new : NewViewData) (is : IsLog log) (small : new.start
   cut_is : IsLog cut
   cut_is = cut_is_log in_view new.start in_view_is_log small
 
-  pub stays : Stays cut (begun_log log new)
+  pub stays : LogStays cut (begun_log log new)
   stays = batches_stay cut (suc new.start) new.batches cut_is
 
   pub begun_is_log : IsLog (begun_log log new)

@@ -24,7 +24,7 @@ use Rattle.protocol.proofs.Words.Lists.{some_below, passes_change, change_there}
 use Rattle.protocol.proofs.Words.Bounds.{bounded}
 use Rattle.protocol.proofs.Agreement.Marks.{Takes, takes, selects, selected_in, proposes}
 use Rattle.protocol.proofs.Agreement.Executing.{commit_stays, committed_later}
-use Rattle.replica_histories.specs.Logs.{above_mark, AreLatest, IsVoted, IsWithin, FitsViews, FitsLog}
+use Rattle.replica_histories.specs.Logs.{checkpoints_above, AreLatest, IsVoted, MayBeLogged, FitsViews, FitsLog}
 use Rattle.replica_histories.specs.Views.{begun_log}
 use Rattle.replica_histories.proofs.Words.{apart, passed, given_not, marks_same}
 use Rattle.replica_histories.proofs.Latest.{above_higher}
@@ -267,7 +267,7 @@ module _ (c : Configuration) (me : ℕ) (log : LogData) (past : List Entry) (e :
         earlier v (inl l) = subst (λ (n : ℕ). v < n) (begun_view log new f.is_log new_small) l
         earlier v (inr a) = absurd (apart begun.active (begun_active log new f.is_log new_small) a)
 
-    within : (v i : ℕ) (batch : List ℕ) → logged c me (e ∷ past) v i ≡ Some batch → IsWithin begun v i
+    within : (v i : ℕ) (batch : List ℕ) → logged c me (e ∷ past) v i ≡ Some batch → MayBeLogged begun v i
     within v i batch h = go (logged_cases v i batch h)
       where
         is_view : begun.view ≡ new.view
@@ -281,7 +281,7 @@ module _ (c : Configuration) (me : ℕ) (log : LogData) (past : List Entry) (e :
             let p = and_parts (nat_lt begun.low i && nat_le i (begun.low + begun.span)) (nat_lt i (2 ^ 48)) w in
             (leb-true i (begun.low + begun.span) (and_parts (nat_lt begun.low i) (nat_le i (begun.low + begun.span)) p.0).1, ltb-true i (2 ^ 48) p.1)
 
-        go : (logged c me past v i ≡ Some batch) ⊎ ((v ≡ new.view) × (logs.is_in_marks begun i ≡ true)) → IsWithin begun v i
+        go : (logged c me past v i ≡ Some batch) ⊎ ((v ≡ new.view) × (logs.is_in_marks begun i ≡ true)) → MayBeLogged begun v i
         go (inl k) =
             let w = f.within v i batch k in
             let most = w.view in
@@ -308,11 +308,11 @@ module _ (c : Configuration) (me : ℕ) (log : LogData) (past : List Entry) (e :
         go (inl k) = absurd (given_not (logged c me past new.view i) batch k (none_logged i))
         go (inr k) = let over = above_low begun i k.1 in absurd (omega arith)
 
-    checks : (s : ℕ) → above_mark begun.low (checkpoints_of c (e ∷ past) s) ≡ above_mark begun.low (logs.checkpoints_of begun s)
+    checks : (s : ℕ) → checkpoints_above begun.low (checkpoints_of c (e ∷ past) s) ≡ checkpoints_above begun.low (logs.checkpoints_of begun s)
     checks s =
-        ap (above_mark begun.low) (still_checkpoints c me past e q s)
-        ∙ sym (above_higher log.low begun.low (checkpoints_of c past s) begun_high) ∙ ap (above_mark begun.low) (f.checkpoints s) ∙ above_higher log.low begun.low (logs.checkpoints_of log s) begun_high
-        ∙ ap (λ (xs : List (List CheckpointEntry)). above_mark begun.low (slice_index_or xs s [])) (sym (begun_checkpoints log new f.is_log new_small))
+        ap (checkpoints_above begun.low) (still_checkpoints c me past e q s)
+        ∙ sym (above_higher log.low begun.low (checkpoints_of c past s) begun_high) ∙ ap (checkpoints_above begun.low) (f.checkpoints s) ∙ above_higher log.low begun.low (logs.checkpoints_of log s) begun_high
+        ∙ ap (λ (xs : List (List CheckpointEntry)). checkpoints_above begun.low (slice_index_or xs s [])) (sym (begun_checkpoints log new f.is_log new_small))
 
     pub begun_fits : FitsLog c me begun (e ∷ past)
     begun_fits = record {

@@ -8,7 +8,7 @@ use Rattle.quorum.specs.Quorum.{count_below}
 use Rattle.quorum.specs.Votes.{has_digest}
 use Rattle.quorum.proofs.Counting.{count_same}
 use Rattle.ordering.specs.declared.votes.Vote.{Vote}
-use Rattle.ordering.specs.Votes.{vote_of, voters}
+use Rattle.ordering.specs.Votes.{voted_digest, voters}
 use Rattle.ordering.specs.Log as logs
 use Rattle.ordering.specs.Log.{LogData}
 use Rattle.protocol.specs.System.Configuration.{Configuration, replicas}
@@ -60,11 +60,11 @@ same_turned c me later past v i same = record { logged = sym same.logged; prepar
 -- ---- counts
 
 -- a count in the log, over as many replicas as the configuration has
-counted : (c : Configuration) (log : LogData) (n : ℕ → ℕ) (digest : List ℕ) (votes : List Vote) (read : ℕ → Option (List ℕ)) → log.faults ≡ c.faults → ((s : ℕ) → read s ≡ vote_of votes s)
+counted : (c : Configuration) (log : LogData) (n : ℕ → ℕ) (digest : List ℕ) (votes : List Vote) (read : ℕ → Option (List ℕ)) → log.faults ≡ c.faults → ((s : ℕ) → read s ≡ voted_digest votes s)
     → nat_le (n log.faults) (voters (logs.replicas log) digest votes) ≡ nat_le (n c.faults) (count_below (λ s. has_digest digest (read s)) (replicas c))
 counted c log n digest votes read e same =
-    ap (λ (f : ℕ). nat_le (n f) (count_below (λ s. has_digest digest (vote_of votes s)) (3 * f + 1))) e
-    ∙ ap (nat_le (n c.faults)) (sym (count_same (λ s. has_digest digest (read s)) (λ s. has_digest digest (vote_of votes s)) (λ s. ap (has_digest digest) (same s)) (replicas c)))
+    ap (λ (f : ℕ). nat_le (n f) (count_below (λ s. has_digest digest (voted_digest votes s)) (3 * f + 1))) e
+    ∙ ap (nat_le (n c.faults)) (sym (count_same (λ s. has_digest digest (read s)) (λ s. has_digest digest (voted_digest votes s)) (λ s. ap (has_digest digest) (same s)) (replicas c)))
 
 -- ---- prepared
 
@@ -97,11 +97,11 @@ pub prepared_is : (log : LogData) (i : ℕ) (batch : List ℕ) → PreparedIn lo
 prepared_is log i batch p = and_from (logs.is_in_marks log i) (logs.is_row_prepared log.faults (logs.replicas log) (logs.row_of log i)) p.within (prepared_row log i batch p)
 
 prepare_read : (c : Configuration) (me : ℕ) (log : LogData) (past : List Entry) (i s : ℕ) → FitsLog c me log past → logs.is_in_marks log i ≡ true
-    → prepare_of c me past log.view i s ≡ vote_of (logs.row_of log i).prepares s
+    → prepare_of c me past log.view i s ≡ voted_digest (logs.row_of log i).prepares s
 prepare_read c me log past i s f k = f.prepares i s k ∙ rw k refl
 
 commit_read : (c : Configuration) (me : ℕ) (log : LogData) (past : List Entry) (i s : ℕ) → FitsLog c me log past → logs.is_in_marks log i ≡ true
-    → commit_of c me past log.view i s ≡ vote_of (logs.row_of log i).commits s
+    → commit_of c me past log.view i s ≡ voted_digest (logs.row_of log i).commits s
 commit_read c me log past i s f k = f.commits i s k ∙ rw k refl
 
 pub prepared_here : (c : Configuration) (me : ℕ) (log : LogData) (past : List Entry) (i : ℕ) (batch : List ℕ) → FitsLog c me log past → PreparedIn log i batch → Prepared c me past log.view i batch
@@ -138,7 +138,7 @@ row_committed_here c me log past i batch f within is batch_is = record {
   prepared = prepared_here c me log past i batch f p;
   commits = leb-true (2 * c.faults + 1) (count_below (λ s. has_digest (sha256 batch) (commit_of c me past log.view i s)) (replicas c))
       (sym (counted c log (λ n. 2 * n + 1) (sha256 batch) (logs.row_of log i).commits (commit_of c me past log.view i) f.faults (λ s. commit_read c me log past i s f within)) ∙ votes.0);
-  own = commit_read c me log past i me f within ∙ subst (λ (x : ℕ). vote_of (logs.row_of log i).commits x ≡ Some (sha256 batch)) f.own (has_digest_is (sha256 batch) _ votes.1);
+  own = commit_read c me log past i me f within ∙ subst (λ (x : ℕ). voted_digest (logs.row_of log i).commits x ≡ Some (sha256 batch)) f.own (has_digest_is (sha256 batch) _ votes.1);
 }
   where
     row : (logs.is_row_prepared log.faults (logs.replicas log) (logs.row_of log i) ≡ true)
@@ -146,8 +146,8 @@ row_committed_here c me log past i batch f within is batch_is = record {
     row = and_parts (logs.is_row_prepared log.faults (logs.replicas log) (logs.row_of log i))
         (option_map_or (logs.is_digest_committed log.faults (logs.replicas log) log.me (logs.row_of log i).commits) (logs.digest_of (logs.row_of log i)) false) is
 
-    votes : (nat_le (2 * log.faults + 1) (voters (logs.replicas log) (sha256 batch) (logs.row_of log i).commits) ≡ true) × (has_digest (sha256 batch) (vote_of (logs.row_of log i).commits log.me) ≡ true)
-    votes = and_parts (nat_le (2 * log.faults + 1) (voters (logs.replicas log) (sha256 batch) (logs.row_of log i).commits)) (has_digest (sha256 batch) (vote_of (logs.row_of log i).commits log.me))
+    votes : (nat_le (2 * log.faults + 1) (voters (logs.replicas log) (sha256 batch) (logs.row_of log i).commits) ≡ true) × (has_digest (sha256 batch) (voted_digest (logs.row_of log i).commits log.me) ≡ true)
+    votes = and_parts (nat_le (2 * log.faults + 1) (voters (logs.replicas log) (sha256 batch) (logs.row_of log i).commits)) (has_digest (sha256 batch) (voted_digest (logs.row_of log i).commits log.me))
         (subst (λ (o : Option (List ℕ)). option_map_or (logs.is_digest_committed log.faults (logs.replicas log) log.me (logs.row_of log i).commits) (option_map sha256 o) false ≡ true) batch_is row.1)
 
     p : PreparedIn log i batch
@@ -180,9 +180,9 @@ committed_in_view c me log past i batch f above k = rw (p.within, is) p.row
         counted c log (λ n. 2 * n + 1) (sha256 batch) (logs.row_of log i).commits (commit_of c me past log.view i) f.faults (λ s. commit_read c me log past i s f p.within)
         ∙ le-leb (2 * c.faults + 1) (count_below (λ s. has_digest (sha256 batch) (commit_of c me past log.view i s)) (replicas c)) k.commits
 
-    own : has_digest (sha256 batch) (vote_of (logs.row_of log i).commits log.me) ≡ true
-    own = given_digest (sha256 batch) (vote_of (logs.row_of log i).commits log.me)
-        (subst (λ (x : ℕ). vote_of (logs.row_of log i).commits x ≡ Some (sha256 batch)) (sym f.own) (sym (commit_read c me log past i me f p.within) ∙ k.own))
+    own : has_digest (sha256 batch) (voted_digest (logs.row_of log i).commits log.me) ≡ true
+    own = given_digest (sha256 batch) (voted_digest (logs.row_of log i).commits log.me)
+        (subst (λ (x : ℕ). voted_digest (logs.row_of log i).commits x ≡ Some (sha256 batch)) (sym f.own) (sym (commit_read c me log past i me f p.within) ∙ k.own))
 
     votes : option_map_or (logs.is_digest_committed log.faults (logs.replicas log) log.me (logs.row_of log i).commits) (logs.digest_of (logs.row_of log i)) false ≡ true
     votes = rw (p.row) (and_from _ _ count own)

@@ -20,13 +20,13 @@ use Rattle.protocol.proofs.Words.Options.{some_injective}
 use Rattle.protocol.proofs.Words.Elements.{each_has, has_weaker}
 use Rattle.protocol.proofs.Agreement.Marks.{view_grows, takes}
 use Rattle.protocol.proofs.Agreement.Voting.{logged_stays}
-use Rattle.claims.specs.ClaimsView.{claim_of, IsAmong}
-use Rattle.claims.specs.Recording.{with_logged, with_all, above_mark, IsLoggedAs, Adds}
-use Rattle.view_change.specs.ReceivedData.{HeldData, held_of, refusal_of, with_held}
-use Rattle.replica_histories.specs.Logs.{Stays}
+use Rattle.claims.specs.ClaimsView.{claim_of, IsAmongTexts}
+use Rattle.claims.specs.Recording.{with_logged, with_all, above_mark, IsLoggedAs, AddsClaims}
+use Rattle.view_change.specs.ReceivedData.{HeldData, held_of, view_change_refusal, with_held}
+use Rattle.replica_histories.specs.Logs.{LogStays}
 use Rattle.replica_histories.specs.Claims.{WasLogged}
 use Rattle.replica_histories.specs.Views.{begun_log}
-use Rattle.replica_histories.specs.Changes.{IsOwnView, Passes, CutsClaims, claims_from, texts_from, IsOwnFrame, ChangesAreSent, ChangesAreTaken, ViewsAreBegun}
+use Rattle.replica_histories.specs.Changes.{IsOwnView, LogPassesEntry, CutsClaims, claims_from, texts_in_marks, IsOwnFrame, ChangesAreSent, ChangesAreTaken, ViewsAreBegun}
 use Rattle.replica_histories.proofs.Words.{apart, given_not, marks_are, marks_stay}
 use Rattle.replica_histories.proofs.Logging.{none_taken}
 use Rattle.replica_histories.proofs.OwnCheckpoints.{none_later}
@@ -91,7 +91,7 @@ changes_are_taken c me past log x s vc bytes p hears refused f = record {
   target = (let was = f.target in omega arith);
   claims = claims_pass c me past e log log x.claims x.claims [] [] p (no_commit_adds c me past e (λ v i. still_commit c me past e q v i me)) (no_batch_adds c me past e (same_logged c me past e q none))
       cuts.prepared cuts.logged (λ text has. inl has) f.claims;
-  received = received_takes c me s bytes past x.held vc signed.0 (subst (λ (v : ℕ). refusal_of c v x.held (s, vc) ≡ None) (sym p.fits.view) refused) (subst (λ (n : ℕ). s < n) (sym f.places) signed.2) f.received;
+  received = received_takes c me s bytes past x.held vc signed.0 (subst (λ (v : ℕ). view_change_refusal c v x.held (s, vc) ≡ None) (sym p.fits.view) refused) (subst (λ (n : ℕ). s < n) (sym f.places) signed.2) f.received;
   places = length-set x.held s (Some h) ∙ f.places;
   begun = λ new once at. f.begun new (begun_before c past e new none once) at;
   begun_by = begun_by_stays c past e log.view log.view x.begun refl f.begun_by;
@@ -176,7 +176,7 @@ module _ (m : LogData) (v : ℕ) where
     is : slice_get batches (number - i) ≡ Some text
     inside : logs.is_in_marks m number ≡ true
 
-  text_there : (i : ℕ) (batches : List (List ℕ)) (text : List ℕ) → IsAmong (texts_from m i batches) text → IsThere i batches text
+  text_there : (i : ℕ) (batches : List (List ℕ)) (text : List ℕ) → IsAmongTexts (texts_in_marks m i batches) text → IsThere i batches text
   text_there i [] text h = absurd h
   text_there i (b ∷ batches) text h = go (logs.is_in_marks m i) refl h (text_there (suc i) batches text)
     where
@@ -185,7 +185,7 @@ module _ (m : LogData) (v : ℕ) where
           let over = r.above in
           record { number = r.number; above = omega arith; is = ap (slice_get (b ∷ batches)) (next_place i r.number over) ∙ r.is; inside = r.inside }
 
-      go : (t : Bool) → logs.is_in_marks m i ≡ t → IsAmong (cond t (b ∷ texts_from m (suc i) batches) (texts_from m (suc i) batches)) text → (IsAmong (texts_from m (suc i) batches) text → IsThere (suc i) batches text) → IsThere i (b ∷ batches) text
+      go : (t : Bool) → logs.is_in_marks m i ≡ t → IsAmongTexts (cond t (b ∷ texts_in_marks m (suc i) batches) (texts_in_marks m (suc i) batches)) text → (IsAmongTexts (texts_in_marks m (suc i) batches) text → IsThere (suc i) batches text) → IsThere i (b ∷ batches) text
       go true w (inl same) rest = record { number = i; above = omega arith; is = ap (slice_get (b ∷ batches)) (no_place i) ∙ ap Some same; inside = w }
       go true w (inr k) rest = later (rest k)
       go false w k rest = later (rest k)
@@ -198,14 +198,14 @@ taken_at_most c new [] h = absurd h
 taken_at_most c new (e ∷ past) (inl h) = let is = (takes c 0 past e new h).view_is in omega arith
 taken_at_most c new (e ∷ past) (inr h) = let most = taken_at_most c new past h in let grows = view_grows c e past in omega arith
 
-module _ (c : Configuration) (me : ℕ) (past : List Entry) (e : Entry) (log : LogData) (new : NewViewData) (p : Passes c me past e log (begun_log log new)) (t : taken c past e ≡ Some new) (q : Still c me past e) where
+module _ (c : Configuration) (me : ℕ) (past : List Entry) (e : Entry) (log : LogData) (new : NewViewData) (p : LogPassesEntry c me past e log (begun_log log new)) (t : taken c past e ≡ Some new) (q : Still c me past e) where
   abbrev cut_log : LogData
   cut_log = logs.cut_to (logs.entered log new.view) new.start
 
   small : new.start < 2 ^ 48
   small = new_small c me log past e new p.fits q t
 
-  keeps : Stays cut_log (begun_log log new)
+  keeps : LogStays cut_log (begun_log log new)
   keeps = stays log new p.fits.is_log small
 
   marks_behind : (i : ℕ) → is_in_marks c (low c me (e ∷ past)) i ≡ logs.is_in_marks cut_log i
@@ -222,7 +222,7 @@ module _ (c : Configuration) (me : ℕ) (past : List Entry) (e : Entry) (log : L
       let above : new.start < i = omega arith in
       (logged_here c me log past e new p.fits q t i (in_begun i w) ∙ begun_batch log new p.fits.is_log small i (in_begun i w) above, above)
 
-  batches_add : Adds (IsLoggedAs c me past) (IsLoggedAs c me (e ∷ past)) (is_in_marks c (low c me (e ∷ past))) (claims_from cut_log new.view (suc new.start) new.batches)
+  batches_add : AddsClaims (IsLoggedAs c me past) (IsLoggedAs c me (e ∷ past)) (is_in_marks c (low c me (e ∷ past))) (claims_from cut_log new.view (suc new.start) new.batches)
   batches_add = record {
     stays = λ v i digest h. (h.0, logged_stays c me v i h.0 e past h.1, h.2);
     new = each_claim cut_log new.view (λ claim. IsLoggedAs c me (e ∷ past) claim.view claim.number claim.digest × (is_in_marks c (low c me (e ∷ past)) claim.number ≡ true)) (suc new.start) new.batches
@@ -242,7 +242,7 @@ module _ (c : Configuration) (me : ℕ) (past : List Entry) (e : Entry) (log : L
           (λ claim same. (ap (λ (y : Claim). y.view) same ∙ sym k.0, ap (λ (y : Claim). y.number) same, ap (λ (y : Claim). y.digest) same ∙ h.2))
           (claims_from cut_log new.view (suc new.start) new.batches) (has_claim cut_log new.view (suc new.start) i new.batches h.0 here.1 is inside))
 
-  text_logged : (text : List ℕ) → IsAmong (texts_from cut_log (suc new.start) new.batches) text → WasLogged c me (e ∷ past) text
+  text_logged : (text : List ℕ) → IsAmongTexts (texts_in_marks cut_log (suc new.start) new.batches) text → WasLogged c me (e ∷ past) text
   text_logged text h = let r = text_there cut_log new.view (suc new.start) new.batches text h in (new.view, r.number, (begun_here r.number r.inside).0 ∙ r.is)
 
 pub views_are_begun : ViewsAreBegun
@@ -275,11 +275,11 @@ views_are_begun c me past e log x new frame claims s spent p t brings begins own
     low_same : (begun_log log new).low ≡ (logs.cut_to (logs.entered log new.view) new.start).low
     low_same = (keeps c me past e log new p t q).low
 
-    texts : (text : List ℕ) → IsAmong claims.texts text → IsAmong x.claims.texts text ⊎ WasLogged c me (e ∷ past) text
-    texts text has = pick (each_has (λ y. IsAmong begins.mid.texts y ⊎ IsAmong (texts_from (cut_log c me past e log new p t q) (suc new.start) new.batches) y) claims.texts text begins.adds.texts has)
+    texts : (text : List ℕ) → IsAmongTexts claims.texts text → IsAmongTexts x.claims.texts text ⊎ WasLogged c me (e ∷ past) text
+    texts text has = pick (each_has (λ y. IsAmongTexts begins.mid.texts y ⊎ IsAmongTexts (texts_in_marks (cut_log c me past e log new p t q) (suc new.start) new.batches) y) claims.texts text begins.adds.texts has)
       where
-        pick : IsAmong begins.mid.texts text ⊎ IsAmong (texts_from (cut_log c me past e log new p t q) (suc new.start) new.batches) text → IsAmong x.claims.texts text ⊎ WasLogged c me (e ∷ past) text
-        pick (inl k) = inl (each_has (IsAmong x.claims.texts) begins.mid.texts text begins.cuts.texts k)
+        pick : IsAmongTexts begins.mid.texts text ⊎ IsAmongTexts (texts_in_marks (cut_log c me past e log new p t q) (suc new.start) new.batches) text → IsAmongTexts x.claims.texts text ⊎ WasLogged c me (e ∷ past) text
+        pick (inl k) = inl (each_has (IsAmongTexts x.claims.texts) begins.mid.texts text begins.cuts.texts k)
         pick (inr k) = inr (text_logged c me past e log new p t q text k)
 
     begun : (other : NewViewData) → Once (λ past e. taken c past e ≡ Some other) (e ∷ past) → other.view ≡ (begun_log log new).view → other.start + length other.batches ≤ new.start + length new.batches

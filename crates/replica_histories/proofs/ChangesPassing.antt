@@ -21,15 +21,15 @@ use Rattle.protocol.proofs.Words.Options.{some_injective, or_else_alone, or_else
 use Rattle.protocol.proofs.Words.Elements.{each_has, each_where}
 use Rattle.protocol.proofs.Words.Plain.{Plain, said_plain, taken_none, plain_target, plain_low}
 use Rattle.protocol.proofs.Words.Linking.{heard_said, signed_said}
-use Rattle.claims.specs.ClaimsView.{ClaimsData, claim_of, IsAmong}
-use Rattle.claims.specs.Recording.{with_prepared, with_logged, with_all, above_mark, IsLoggedAs, Adds}
+use Rattle.claims.specs.ClaimsView.{ClaimsData, claim_of, IsAmongTexts}
+use Rattle.claims.specs.Recording.{with_prepared, with_logged, with_all, above_mark, IsLoggedAs, AddsClaims}
 use Rattle.view_change.specs.ReceivedData.{HeldData, held_of}
 use Rattle.protocol.proofs.Words.Reacting.{proceeds_leaves}
 use Rattle.replica_histories.specs.Desk.{point_of}
 use Rattle.replica_histories.specs.Events.{start_at}
 use Rattle.replica_histories.specs.Claims.{SaidCommit, WasLogged, FitsClaims}
 use Rattle.replica_histories.specs.Numbers.{is_pre_prepare}
-use Rattle.replica_histories.specs.Changes.{Changes, HasOwnChange, IsOwnView, IsBegunUpTo, FitsChanges, IsSameView, KeepsViews, Passes, CutsClaims, OutputsPass, InputsEnter, ClaimsAreAbove, ChangesBegin, ChangesStay, CommitsAreClaimed, BatchesAreClaimed}
+use Rattle.replica_histories.specs.Changes.{Changes, HasOwnChange, IsOwnView, IsBegunUpTo, FitsChanges, IsSameView, KeepsViews, LogPassesEntry, CutsClaims, OutputsPass, InputsEnter, ClaimsAreAbove, ChangesBegin, ChangesStay, CommitsAreClaimed, BatchesAreClaimed}
 use Rattle.replica_histories.proofs.Words.{passed, given_not, marks_are}
 use Rattle.replica_histories.proofs.Certified.{is_prepared_in}
 use Rattle.replica_histories.proofs.Logging.{none_taken}
@@ -80,19 +80,19 @@ pub claims_are_above : ClaimsAreAbove
 claims_are_above c me log history claims f fits = record {
   prepared = all_kept (λ (x : Claim). nat_lt log.low x.number) claims.prepared (λ x has. at x.number (fits.prepared.listed x has).1);
   logged = all_kept (λ (x : Claim). nat_lt log.low x.number) claims.logged (λ x has. at x.number (fits.logged.listed x has).1);
-  texts = each_where (IsAmong claims.texts) claims.texts (λ text has. has);
+  texts = each_where (IsAmongTexts claims.texts) claims.texts (λ text has. has);
 }
   where
     at : (i : ℕ) → is_in_marks c (low c me history) i ≡ true → nat_lt log.low i ≡ true
     at i k = subst (λ (h : ℕ). nat_lt h i ≡ true) f.low (over_low c (low c me history) i k)
 
 -- claims grow at an entry
-pub claims_pass : (c : Configuration) (me : ℕ) (past : List Entry) (e : Entry) (log after : LogData) (claims new : ClaimsData) (commits batches : List Claim) → Passes c me past e log after
-    → Adds (SaidCommit c me past) (SaidCommit c me (e ∷ past)) (is_in_marks c (low c me (e ∷ past))) commits
-    → Adds (IsLoggedAs c me past) (IsLoggedAs c me (e ∷ past)) (is_in_marks c (low c me (e ∷ past))) batches
+pub claims_pass : (c : Configuration) (me : ℕ) (past : List Entry) (e : Entry) (log after : LogData) (claims new : ClaimsData) (commits batches : List Claim) → LogPassesEntry c me past e log after
+    → AddsClaims (SaidCommit c me past) (SaidCommit c me (e ∷ past)) (is_in_marks c (low c me (e ∷ past))) commits
+    → AddsClaims (IsLoggedAs c me past) (IsLoggedAs c me (e ∷ past)) (is_in_marks c (low c me (e ∷ past))) batches
     → new.prepared ≡ with_all with_prepared commits (above_mark after.low claims.prepared)
     → new.logged ≡ with_all with_logged batches (above_mark after.low claims.logged)
-    → ((text : List ℕ) → IsAmong new.texts text → IsAmong claims.texts text ⊎ WasLogged c me (e ∷ past) text)
+    → ((text : List ℕ) → IsAmongTexts new.texts text → IsAmongTexts claims.texts text ⊎ WasLogged c me (e ∷ past) text)
     → FitsClaims c me past claims → FitsClaims c me (e ∷ past) new
 claims_pass c me past e log after claims new commits batches p says logs_it prepared logged texts f =
     claims_grow c me log past e p.old p.new claims new commits batches p.fits p.leaves p.goes says logs_it
@@ -146,13 +146,13 @@ changes_begin c me = record {
 }
 
 -- with whatever own checkpoint is the latest then
-pub changes_noted : (c : Configuration) (me : ℕ) (past : List Entry) (e : Entry) (log after : LogData) (x : Changes) (claims : ClaimsData) (last : Option CheckpointEntry) → Passes c me past e log after → IsSameView log after
+pub changes_noted : (c : Configuration) (me : ℕ) (past : List Entry) (e : Entry) (log after : LogData) (x : Changes) (claims : ClaimsData) (last : Option CheckpointEntry) → LogPassesEntry c me past e log after → IsSameView log after
     → KeepsViews c me past e → latest_checkpoint c me (e ∷ past) ≡ last → CutsClaims after.low x.claims claims → FitsChanges c me log x past
     → FitsChanges c me after (record x { claims = claims; last_checkpoint = last }) (e ∷ past)
 changes_noted c me past e log after x claims last p same k latest cuts f = record {
   target = k.target ∙ f.target;
   claims = claims_pass c me past e log after x.claims claims [] [] p (no_commit_adds c me past e k.commits) (no_batch_adds c me past e k.logged) cuts.prepared cuts.logged
-      (λ text has. inl (each_has (IsAmong x.claims.texts) claims.texts text cuts.texts has)) f.claims;
+      (λ text has. inl (each_has (IsAmongTexts x.claims.texts) claims.texts text cuts.texts has)) f.claims;
   received = received_stays c me past e x.held k.changes f.received;
   places = f.places;
   begun = λ new once at. f.begun new (begun_before c past e new k.none once) (at ∙ same.view);
@@ -327,9 +327,9 @@ batches_are_claimed c me past e log x claims s i text p inside free brings adds 
         differs (inl d) v k = d (sym v)
         differs (inr d) v k = d (sym k)
 
-    texts : (t : List ℕ) → IsAmong claims.texts t → IsAmong x.claims.texts t ⊎ WasLogged c me (e ∷ past) t
-    texts t has = pick (each_has (IsAmong (text ∷ x.claims.texts)) claims.texts t adds.texts has)
+    texts : (t : List ℕ) → IsAmongTexts claims.texts t → IsAmongTexts x.claims.texts t ⊎ WasLogged c me (e ∷ past) t
+    texts t has = pick (each_has (IsAmongTexts (text ∷ x.claims.texts)) claims.texts t adds.texts has)
       where
-        pick : IsAmong (text ∷ x.claims.texts) t → IsAmong x.claims.texts t ⊎ WasLogged c me (e ∷ past) t
+        pick : IsAmongTexts (text ∷ x.claims.texts) t → IsAmongTexts x.claims.texts t ⊎ WasLogged c me (e ∷ past) t
         pick (inl same) = inr (log.view, i, here ∙ ap Some same)
         pick (inr k) = inl k

@@ -24,9 +24,9 @@ use Rattle.protocol.proofs.Agreement.Executing.{commit_stays, committed_later}
 use Rattle.protocol.proofs.Words.Posting.{leaf_signs_once}
 use Rattle.protocol.proofs.Words.Elements.{each_where}
 use Rattle.replica_histories.specs.Desk.{Desk, snapshot_of, point_of}
-use Rattle.replica_histories.specs.Logs.{above_mark, FitsLog, IsVoted}
-use Rattle.replica_histories.specs.Events.{Start, after_outputs, IsReached, IsFetched, Fits}
-use Rattle.replica_histories.specs.Views.{entry_of, entries_of, ViewChangesFit, ViewChangesGoAgain, NewViewsGoAgain, ViewChangesCount}
+use Rattle.replica_histories.specs.Logs.{checkpoints_above, FitsLog, IsVoted}
+use Rattle.replica_histories.specs.Events.{Start, after_outputs, LowMarkIsReached, IsFetchedOrDue, Fits}
+use Rattle.replica_histories.specs.Views.{checkpoint_entry_of, entries_of, ViewChangesFit, ViewChangesGoAgain, NewViewsGoAgain, ViewChangesCount}
 use Rattle.replica_histories.proofs.Certified.{active, prepared_there}
 use Rattle.replica_histories.proofs.Settling.{own_commit, voted_goes}
 use Rattle.replica_histories.proofs.Logging.{none_taken, view_quiet, proposal_quiet, begun_quiet}
@@ -119,18 +119,18 @@ module _ (c : Configuration) (me : ℕ) (log : LogData) (past : List Entry) (e :
         voted = λ v i batch w when p. later v i (voted v i batch w when (same_prepared c me past e q none v i batch p));
         later = λ v i s l. let n = f.views.later v i s l in (still_prepare c me past e q v i s ∙ n.0, still_commit c me past e q v i s ∙ n.1);
       };
-      checkpoints = λ s. ap (above_mark log.low) (still_checkpoints c me past e q s) ∙ f.checkpoints s;
+      checkpoints = λ s. ap (checkpoints_above log.low) (still_checkpoints c me past e q s) ∙ f.checkpoints s;
       latest = f.latest;
     }
 
 -- ---- the low mark is reached
 
-pub fetched_later : (mark : ℕ) (due : List Message) (e : Entry) (past : List Entry) → IsFetched mark due past → IsFetched mark due (e ∷ past)
+pub fetched_later : (mark : ℕ) (due : List Message) (e : Entry) (past : List Entry) → IsFetchedOrDue mark due past → IsFetchedOrDue mark due (e ∷ past)
 fetched_later mark due e past (inl l) = inl (omega arith)
 fetched_later mark due e past (inr h) = inr h
 
 pub same_reached : (c : Configuration) (me : ℕ) (past : List Entry) (e : Entry) (q : Still c me past e) (none : taken c past e ≡ None) (mark number : ℕ) (due : List Message)
-    → IsReached c me mark number due past → IsReached c me mark number due (e ∷ past)
+    → LowMarkIsReached c me mark number due past → LowMarkIsReached c me mark number due (e ∷ past)
 same_reached c me past e q none mark number due (inl l) = inl l
 same_reached c me past e q none mark number due (inr h) = inr (fetched_later mark due e past h.0, λ v batch k. h.1 v batch (same_committed c me past e q none v (suc number) batch k))
 
@@ -140,7 +140,7 @@ turned_mapped : (xs ys : List State) → map checkpoint_of (reverse_aux xs ys) �
 turned_mapped [] ys = refl
 turned_mapped (x ∷ xs) ys = turned_mapped xs (x ∷ ys)
 
-entries_mapped : (xs : List State) → map entry_of (map snapshot_of xs) ≡ map checkpoint_of xs
+entries_mapped : (xs : List State) → map checkpoint_entry_of (map snapshot_of xs) ≡ map checkpoint_of xs
 entries_mapped [] = refl
 entries_mapped (x ∷ xs) = ap (λ (ys : List CheckpointEntry). checkpoint_of x ∷ ys) (entries_mapped xs)
 

@@ -17,7 +17,7 @@ use Rattle.protocol.specs.System.Trace.Entry.{Invoke, Got, Executed, Installed, 
 use Rattle.protocol.specs.Replica.Selection.{is_quorum}
 use Rattle.protocol.specs.Replica.Certificates.{brought, checkpoint_from, checkpoint_in, with_checkpoint, checkpoints_of, says_checkpoint, count_checkpoints, is_stable, stable_at, low}
 use Rattle.protocol.specs.Replica.State.{State, execute, root_of}
-use Rattle.protocol.specs.Replica.RightReplica.{Point, Executes, IsStep, HistoryReaches, May, Moves, MaySay, MayCheckpoint}
+use Rattle.protocol.specs.Replica.RightReplica.{Point, Executes, IsStep, HistoryReaches, May, MovesPoint, MaySay, MayCheckpoint}
 use Rattle.protocol.specs.Replica.Owed.{IsSaying}
 use Rattle.protocol.proofs.Words.Options.{some_injective, and_then_some, then_some_gives}
 use Rattle.protocol.proofs.Words.Temporal.{once_weaker}
@@ -26,7 +26,7 @@ use Rattle.protocol.proofs.Words.Linking.{Speaks}
 use Rattle.protocol.proofs.Agreement.Marks.{low_grows}
 use Rattle.protocol.proofs.Agreement.Voting.{Brings}
 use Rattle.protocol.proofs.Agreement.States.{is_checkpoint, checking}
-use Rattle.replica_histories.specs.Logs.{above_mark, AreLatest}
+use Rattle.replica_histories.specs.Logs.{checkpoints_above, AreLatest}
 use Rattle.replica_histories.specs.Marks.{StableAreLow, StableAreCut}
 use Rattle.replica_histories.proofs.Words.{apart}
 use Rattle.replica_histories.proofs.Latest.{none_latest, behind_latest, same_entry, behind_says, behind_passed, says_above, IsPassed, passed_behind}
@@ -56,7 +56,7 @@ stable_more c me held more m grows h =
     (le-leb (2 * c.faults + 1) (count_below (λ s. says_checkpoint m (more s)) (replicas c)) (omega arith)) (grows me p.1)
 
 -- for a number above the mark the checkpoints above the mark decide
-pub stable_above : (c : Configuration) (me low : ℕ) (held other : ℕ → List CheckpointEntry) (m : CheckpointEntry) → low < m.number → ((s : ℕ) → above_mark low (held s) ≡ above_mark low (other s))
+pub stable_above : (c : Configuration) (me low : ℕ) (held other : ℕ → List CheckpointEntry) (m : CheckpointEntry) → low < m.number → ((s : ℕ) → checkpoints_above low (held s) ≡ checkpoints_above low (other s))
     → is_stable_by c me held m ≡ is_stable_by c me other m
 stable_above c me low held other m l same =
     ap (λ (n : ℕ). is_quorum c n && says_checkpoint m (held me)) (count_same (λ s. says_checkpoint m (held s)) (λ s. says_checkpoint m (other s)) says_same (replicas c))
@@ -111,7 +111,7 @@ stable_are_low c me (e ∷ past) m h = go (stable_before c me m e past h) (stabl
 
 -- a checkpoint that is stable in a log with the same checkpoints above its mark
 pub log_stable : (c : Configuration) (me : ℕ) (log : LogData) (history : List Entry) (m : CheckpointEntry) → log.faults ≡ c.faults → log.me ≡ me → log.low < m.number
-    → ((s : ℕ) → above_mark log.low (checkpoints_of c history s) ≡ above_mark log.low (logs.checkpoints_of log s)) → is_stable c me history m ≡ logs.is_stable log m
+    → ((s : ℕ) → checkpoints_above log.low (checkpoints_of c history s) ≡ checkpoints_above log.low (logs.checkpoints_of log s)) → is_stable c me history m ≡ logs.is_stable log m
 log_stable c me log history m faults own l same =
     stable_above c me log.low (checkpoints_of c history) (logs.checkpoints_of log) m l same
     ∙ ap (λ (x : ℕ). is_stable_by c x (logs.checkpoints_of log) m) (sym own)
@@ -119,7 +119,7 @@ log_stable c me log history m faults own l same =
 
 -- the log counts as the history does above the mark
 pub quorum_counted : (c : Configuration) (log : LogData) (history : List Entry) (m : CheckpointEntry) → log.faults ≡ c.faults → log.low < m.number
-    → ((s : ℕ) → above_mark log.low (checkpoints_of c history s) ≡ above_mark log.low (logs.checkpoints_of log s)) → is_quorum c (count_checkpoints c history m) ≡ nat_le (2 * log.faults + 1) (logs.count_checkpoints log m)
+    → ((s : ℕ) → checkpoints_above log.low (checkpoints_of c history s) ≡ checkpoints_above log.low (logs.checkpoints_of log s)) → is_quorum c (count_checkpoints c history m) ≡ nat_le (2 * log.faults + 1) (logs.count_checkpoints log m)
 quorum_counted c log history m faults l same =
     ap (is_quorum c) (count_same (λ s. says_checkpoint m (checkpoints_of c history s)) (λ s. says_checkpoint m (logs.checkpoints_of log s)) says_same (replicas c))
     ∙ ap (λ (f : ℕ). nat_le (2 * f + 1) (count_below (λ s. says_checkpoint m (logs.checkpoints_of log s)) (3 * f + 1))) (sym faults)
@@ -173,7 +173,7 @@ own_said c me m history point leaves h =
 -- ---- of executed states
 
 -- a snapshot is never removed from the point
-snapshots_stay : (c : Configuration) (me : ℕ) (P : State → Type 0) (past : List Entry) (e : Entry) (old new : Point) → May c me past old e → Moves c me past old e new → Has P old.snapshots → Has P new.snapshots
+snapshots_stay : (c : Configuration) (me : ℕ) (P : State → Type 0) (past : List Entry) (e : Entry) (old new : Point) → May c me past old e → MovesPoint c me past old e new → Has P old.snapshots → Has P new.snapshots
 snapshots_stay c me P past (Executed p k batch) old new may moves h = subst (λ (q : Point). Has P q.snapshots) (sym moves) (go ((execute c old.state batch).number % c.period == 0))
   where
     go : (b : Bool) → Has P (cond b (execute c old.state batch ∷ old.snapshots) old.snapshots)
@@ -204,14 +204,14 @@ said_may c me k root (e ∷ past) point leaves (inr h) = checkpoint_stays c me k
 
 -- ---- an executed number is at most the state's
 
-state_grows : (c : Configuration) (me : ℕ) (past : List Entry) (e : Entry) (old new : Point) → May c me past old e → Moves c me past old e new → old.state.number ≤ new.state.number
+state_grows : (c : Configuration) (me : ℕ) (past : List Entry) (e : Entry) (old new : Point) → May c me past old e → MovesPoint c me past old e new → old.state.number ≤ new.state.number
 state_grows c me past (Executed p k batch) old new may moves = let n = ap (λ (q : Point). q.state.number) moves ∙ executed_number c old.state batch in omega arith
 state_grows c me past (Installed p k root) old new may moves = let n = moves.number in let above = may.0 in omega arith
 state_grows c me past (Invoke x y z) old new may moves = absurd may
 state_grows c me past (Accepted x y z) old new may moves = absurd may
 state_grows c me past _ old new may moves = let same = ap (λ (q : Point). q.state.number) moves in omega arith
 
-executes_it : (c : Configuration) (me k : ℕ) (past : List Entry) (e : Entry) (old new : Point) → May c me past old e → Moves c me past old e new → Executes k past e → k ≤ new.state.number
+executes_it : (c : Configuration) (me k : ℕ) (past : List Entry) (e : Entry) (old new : Point) → May c me past old e → MovesPoint c me past old e new → Executes k past e → k ≤ new.state.number
 executes_it c me k past (Executed p i batch) old new may moves h = let n = ap (λ (q : Point). q.state.number) moves ∙ executed_number c old.state batch in let next = may.next in let same = h in omega arith
 executes_it c me k past _ old new may moves h = absurd h
 

@@ -27,8 +27,8 @@ use Rattle.protocol.specs.Replica.State.{State, Call, kept_of, last_time}
 use Rattle.protocol.specs.Replica.RightReplica.{Point}
 use Rattle.protocol.specs.Replica.Owed.{IsNoOlder, has_number}
 use Rattle.protocol.proofs.Agreement.States.{checking}
-use Rattle.replica_histories.specs.Logs.{above_mark, FitsLog, Takes}
-use Rattle.replica_histories.specs.Inputs.{BatchesCount, PreparesCount, CommitsCount, CheckpointsCount, RequestsCount, BatchesDrop, PreparesDrop, CommitsDrop, CheckpointsDrop, EarlyCheckpointsDrop, IsBesideLog, OthersDrop}
+use Rattle.replica_histories.specs.Logs.{checkpoints_above, FitsLog, LogTakesBody}
+use Rattle.replica_histories.specs.Inputs.{BatchesCount, PreparesAreCounted, CommitsAreCounted, CheckpointsCount, RequestsCount, BatchesDrop, PreparesDrop, CommitsDrop, CheckpointsDrop, EarlyCheckpointsDrop, IsBesideLog, OthersDrop}
 use Rattle.replica_histories.proofs.Words.{apart, mapped, given_not, batch_read, primary_same}
 use Rattle.replica_histories.proofs.Latest.{inserts_same, says_above, number_above, says_number, above_with, listed_passed, passed_adds_nothing, put_or_passed}
 use Rattle.replica_histories.proofs.Taking.{takes_no_more, takes_nothing, none_there, prepare_taken, commit_taken, batch_taken}
@@ -96,7 +96,7 @@ batches_count c me log past point s v i batch bytes f h none genuine = (
     reads_it c me log past bytes (record { sender = s; message = PrePrepare log.view i batch }) i (batch_from c me log.view i) f hears p.active p.within ∙ given,
     f.batches i p.within ∙ free,
   ),
-  subst (λ (o : Option Body). Takes c me o log (logs.with_batch log i batch)) (sym hears) (batch_taken c me s i batch log f.is_log p.active p.within primary_is genuine free),
+  subst (λ (o : Option Body). LogTakesBody c me o log (logs.with_batch log i batch)) (sym hears) (batch_taken c me s i batch log f.is_log p.active p.within primary_is genuine free),
 )
   where
     faults : (ordering_fault log (s == logs.primary log v) v i ≡ None) × (fault_beside (logs.logged_digest log i) (sha256 batch) ≡ None)
@@ -118,7 +118,7 @@ batches_count c me log past point s v i batch bytes f h none genuine = (
     given = rw (eq-eqb log.view log.view refl, eq-eqb i i refl, primary_is, genuine) refl
 
 pub batches_drop : BatchesDrop
-batches_drop c me log past s v i batch bytes f h faulty = subst (λ (o : Option Body). Takes c me o log log) (sym h) (takes_no_more c me _ log f.is_log
+batches_drop c me log past s v i batch bytes f h faulty = subst (λ (o : Option Body). LogTakesBody c me o log log) (sym h) (takes_no_more c me _ log f.is_log
     (λ j active k none. none_there (logs.logged_batch log j) (batch_from c me log.view j (record { sender = s; message = PrePrepare v i batch })) ((v == log.view) && (i == j) && (s == primary c log.view) && are_genuine c me batch) batch refl none
     (λ e free.
     let a = and_parts ((v == log.view) && (i == j) && (s == primary c log.view)) (are_genuine c me batch) e in
@@ -147,13 +147,13 @@ known c me log past bytes body f h is =
     let o = heard_was_opened (members c) me bytes body h in
     ap (λ (n : ℕ). nat_lt body.sender (3 * n + 1)) f.faults ∙ sym is ∙ subst (λ (b : Body). has_sender (members c) b ≡ true) o.body_is o.opens.sender
 
-pub prepares_count : PreparesCount
+pub prepares_count : PreparesAreCounted
 prepares_count c me log past point s v i digest bytes vote f h none sender same = (
   subst (λ (x : ℕ). (vote_in c me past (Got me bytes) (prepare_from c s x i) x i ≡ Some digest) × (prepare_of c me past x i s ≡ None)) (sym p.view) (
     reads_it c me log past bytes (record { sender = s; message = Prepare log.view i digest }) i (prepare_from c s log.view i) f hears p.active p.within ∙ given,
     f.prepares i s p.within ∙ beside_none (logs.prepare_of log i s) digest faults.1,
   ),
-  subst (λ (o : Option Body). Takes c me o log (logs.with_prepare log i vote)) (sym hears) (prepare_taken c me s i digest vote log f.is_log p.active p.within (ltb-true s (logs.replicas log) sends.0) backup sender same),
+  subst (λ (o : Option Body). LogTakesBody c me o log (logs.with_prepare log i vote)) (sym hears) (prepare_taken c me s i digest vote log f.is_log p.active p.within (ltb-true s (logs.replicas log) sends.0) backup sender same),
 )
   where
     faults : (ordering_fault log (nat_lt s (logs.replicas log) && not (s == logs.primary log v)) v i ≡ None) × (fault_beside (logs.prepare_of log i s) digest ≡ None)
@@ -175,7 +175,7 @@ prepares_count c me log past point s v i digest bytes vote f h none sender same 
     given = rw (eq-eqb s s refl, eq-eqb log.view log.view refl, eq-eqb i i refl, backup) refl
 
 pub prepares_drop : PreparesDrop
-prepares_drop c me log past s v i digest bytes fault f h faulty = subst (λ (o : Option Body). Takes c me o log log) (sym h) (takes_no_more c me _ log f.is_log
+prepares_drop c me log past s v i digest bytes fault f h faulty = subst (λ (o : Option Body). LogTakesBody c me o log log) (sym h) (takes_no_more c me _ log f.is_log
     (λ j active k none. refl)
     (λ j x active k none. none_there (logs.prepare_of log j x) (prepare_from c x log.view j (record { sender = s; message = Prepare v i digest })) ((s == x) && (v == log.view) && (i == j) && not (x == primary c log.view)) digest refl none
     (λ e free.
@@ -196,13 +196,13 @@ prepares_drop c me log past s v i digest bytes fault f h faulty = subst (λ (o :
         let none : prepare_fault log s log.view i digest ≡ None = rw (speaks, free) refl in
         given_not (prepare_fault log s v i digest) fault faulty (subst (λ (x : ℕ). prepare_fault log s x i digest ≡ None) (sym view) none)
 
-pub commits_count : CommitsCount
+pub commits_count : CommitsAreCounted
 commits_count c me log past point s v i digest bytes vote f h none sender same = (
   subst (λ (x : ℕ). (vote_in c me past (Got me bytes) (commit_from s x i) x i ≡ Some digest) × (commit_of c me past x i s ≡ None)) (sym p.view) (
     reads_it c me log past bytes (record { sender = s; message = Commit log.view i digest }) i (commit_from s log.view i) f hears p.active p.within ∙ given,
     f.commits i s p.within ∙ beside_none (logs.commit_of log i s) digest faults.1,
   ),
-  subst (λ (o : Option Body). Takes c me o log (logs.with_commit log i vote)) (sym hears) (commit_taken c me s i digest vote log f.is_log p.active p.within (ltb-true s (logs.replicas log) p.sends) sender same),
+  subst (λ (o : Option Body). LogTakesBody c me o log (logs.with_commit log i vote)) (sym hears) (commit_taken c me s i digest vote log f.is_log p.active p.within (ltb-true s (logs.replicas log) p.sends) sender same),
 )
   where
     faults : (ordering_fault log (nat_lt s (logs.replicas log)) v i ≡ None) × (fault_beside (logs.commit_of log i s) digest ≡ None)
@@ -218,7 +218,7 @@ commits_count c me log past point s v i digest bytes vote f h none sender same =
     given = rw (eq-eqb s s refl, eq-eqb log.view log.view refl, eq-eqb i i refl) refl
 
 pub commits_drop : CommitsDrop
-commits_drop c me log past s v i digest bytes fault f h faulty = subst (λ (o : Option Body). Takes c me o log log) (sym h) (takes_no_more c me _ log f.is_log
+commits_drop c me log past s v i digest bytes fault f h faulty = subst (λ (o : Option Body). LogTakesBody c me o log log) (sym h) (takes_no_more c me _ log f.is_log
     (λ j active k none. refl) (λ j x active k none. refl)
     (λ j x active k none. none_there (logs.commit_of log j x) (commit_from x log.view j (record { sender = s; message = Commit v i digest })) ((s == x) && (v == log.view) && (i == j)) digest refl none
     (λ e free.
@@ -258,11 +258,11 @@ others_drop c me log past bytes f beside = go (heard (members c) me bytes) besid
     no_checkpoint sender (Checkpoint k root) b = absurd b
     no_checkpoint sender _ b = refl
 
-    go : (o : Option Body) → IsBesideLog o → Takes c me o log log
+    go : (o : Option Body) → IsBesideLog o → LogTakesBody c me o log log
     go None b = takes_nothing c me None log f.is_log (λ j k none. refl) (λ j x k none. refl) (λ j x k none. refl) (λ x. refl)
     go (Some body) b = takes_nothing c me (Some body) log f.is_log (λ j k none. no_proposal log.view j body.sender body.message b) (λ j x k none. no_prepare log.view j x body.sender body.message b)
         (λ j x k none. no_commit log.view j x body.sender body.message b)
-        (λ x. ap (λ (o : Option (ℕ × CheckpointEntry)). above_mark log.low (with_checkpoint x o (logs.checkpoints_of log x))) (no_checkpoint body.sender body.message b))
+        (λ x. ap (λ (o : Option (ℕ × CheckpointEntry)). checkpoints_above log.low (with_checkpoint x o (logs.checkpoints_of log x))) (no_checkpoint body.sender body.message b))
 
 -- ---- checkpoints
 
@@ -323,22 +323,22 @@ checkpoints_count c me log past point s entry bytes f h none says = (
 
 -- a checkpoint that adds nothing above the mark
 adds_nothing : (c : Configuration) (me : ℕ) (log : LogData) (s : ℕ) (entry : CheckpointEntry) → IsLog log
-    → (is_number entry.number ≡ true → above_mark log.low (take 3 (insert_checkpoint entry (logs.checkpoints_of log s))) ≡ above_mark log.low (logs.checkpoints_of log s))
-    → Takes c me (Some (record { sender = s; message = Checkpoint entry.number entry.digest })) log log
+    → (is_number entry.number ≡ true → checkpoints_above log.low (take 3 (insert_checkpoint entry (logs.checkpoints_of log s))) ≡ checkpoints_above log.low (logs.checkpoints_of log s))
+    → LogTakesBody c me (Some (record { sender = s; message = Checkpoint entry.number entry.digest })) log log
 adds_nothing c me log s entry is same = takes_nothing c me _ log is (λ j k none. refl) (λ j x k none. refl) (λ j x k none. refl) (λ x. numbered x (is_number entry.number) refl)
   where
     of : (x : ℕ) (b : Bool) → (s == x) ≡ b → is_number entry.number ≡ true
-        → above_mark log.low (cond b (take 3 (insert_checkpoint entry (logs.checkpoints_of log x))) (logs.checkpoints_of log x)) ≡ above_mark log.low (logs.checkpoints_of log x)
-    of x true own is = subst (λ (y : ℕ). above_mark log.low (take 3 (insert_checkpoint entry (logs.checkpoints_of log y))) ≡ above_mark log.low (logs.checkpoints_of log y)) (eqb-true s x own) (same is)
+        → checkpoints_above log.low (cond b (take 3 (insert_checkpoint entry (logs.checkpoints_of log x))) (logs.checkpoints_of log x)) ≡ checkpoints_above log.low (logs.checkpoints_of log x)
+    of x true own is = subst (λ (y : ℕ). checkpoints_above log.low (take 3 (insert_checkpoint entry (logs.checkpoints_of log y))) ≡ checkpoints_above log.low (logs.checkpoints_of log y)) (eqb-true s x own) (same is)
     of x false own is = refl
 
     numbered : (x : ℕ) (b : Bool) → is_number entry.number ≡ b
-        → above_mark log.low (with_checkpoint x (then_some b (let y : ℕ × CheckpointEntry = (s, entry) in y)) (logs.checkpoints_of log x)) ≡ above_mark log.low (logs.checkpoints_of log x)
+        → checkpoints_above log.low (with_checkpoint x (then_some b (let y : ℕ × CheckpointEntry = (s, entry) in y)) (logs.checkpoints_of log x)) ≡ checkpoints_above log.low (logs.checkpoints_of log x)
     numbered x true is = of x (s == x) refl is
     numbered x false is = refl
 
 pub checkpoints_drop : CheckpointsDrop
-checkpoints_drop c me log past s entry bytes fault f h faulty = subst (λ (o : Option Body). Takes c me o log log) (sym h) (adds_nothing c me log s entry f.is_log same)
+checkpoints_drop c me log past s entry bytes fault f h faulty = subst (λ (o : Option Body). LogTakesBody c me o log log) (sym h) (adds_nothing c me log s entry f.is_log same)
   where
     passed_by : (root : List ℕ) → root_at (logs.checkpoints_of log s) entry.number ≡ Some root → take 3 (insert_checkpoint entry (logs.checkpoints_of log s)) ≡ logs.checkpoints_of log s
     passed_by root there =
@@ -346,23 +346,23 @@ checkpoints_drop c me log past s entry bytes fault f h faulty = subst (λ (o : O
         passed_adds_nothing 3 entry (logs.checkpoints_of log s) (f.latest s).few
         (listed_passed 3 entry.number (logs.checkpoints_of log s) (f.latest s).few (f.latest s).descend (found (λ x. x.number == entry.number) (logs.checkpoints_of log s) m.0 m.1))
 
-    same : is_number entry.number ≡ true → above_mark log.low (take 3 (insert_checkpoint entry (logs.checkpoints_of log s))) ≡ above_mark log.low (logs.checkpoints_of log s)
+    same : is_number entry.number ≡ true → checkpoints_above log.low (take 3 (insert_checkpoint entry (logs.checkpoints_of log s))) ≡ checkpoints_above log.low (logs.checkpoints_of log s)
     same is = go (nat_le (logs.replicas log) s) (nat_lt log.low entry.number) (nat_lt entry.number (2 ^ 48)) (root_at (logs.checkpoints_of log s) entry.number) refl refl refl refl faulty
       where
         go : (a b d : Bool) (o : Option (List ℕ)) → nat_le (logs.replicas log) s ≡ a → nat_lt log.low entry.number ≡ b → nat_lt entry.number (2 ^ 48) ≡ d → root_at (logs.checkpoints_of log s) entry.number ≡ o
             → cond a (Some UnknownSender) (cond (not (b && d)) (Some OutOfMarks) (fault_beside o entry.digest)) ≡ Some fault
-            → above_mark log.low (take 3 (insert_checkpoint entry (logs.checkpoints_of log s))) ≡ above_mark log.low (logs.checkpoints_of log s)
+            → checkpoints_above log.low (take 3 (insert_checkpoint entry (logs.checkpoints_of log s))) ≡ checkpoints_above log.low (logs.checkpoints_of log s)
         go true b d o x y z w none =
             absurd (apart (nat_lt s (logs.replicas log)) (known c me log past bytes (checking s entry.number entry.digest) f h refl) (le-ltb s (logs.replicas log) (leb-true (logs.replicas log) s x)))
-        go false false d o x y z w none = above_with log.low entry (logs.checkpoints_of log s) (f.latest s) ∙ ap (λ (b : Bool). cond b (take 3 (insert_checkpoint entry (above_mark log.low (logs.checkpoints_of log s)))) (above_mark log.low (logs.checkpoints_of log s))) y
+        go false false d o x y z w none = above_with log.low entry (logs.checkpoints_of log s) (f.latest s) ∙ ap (λ (b : Bool). cond b (take 3 (insert_checkpoint entry (checkpoints_above log.low (logs.checkpoints_of log s)))) (checkpoints_above log.low (logs.checkpoints_of log s))) y
         go false true false o x y z w none = absurd (apart (is_number entry.number) is z)
         go false true true None x y z w none = absurd cc
-        go false true true (Some root) x y z w none = ap (above_mark log.low) (passed_by root w)
+        go false true true (Some root) x y z w none = ap (checkpoints_above log.low) (passed_by root w)
 
 pub early_checkpoints_drop : EarlyCheckpointsDrop
 early_checkpoints_drop c me log past s entry bytes f h says = (
   ap (λ (xs : List (List CheckpointEntry)). let m : LogData = record log { checkpoints = xs } in m) (ap (slice_set log.checkpoints s) (ap (take 3) (sym (inserts_same entry (logs.checkpoints_of log s))) ∙ same) ∙ set-get_or log.checkpoints s []),
-  subst (λ (o : Option Body). Takes c me o log log) (sym h) (adds_nothing c me log s entry f.is_log (λ is. ap (above_mark log.low) same)),
+  subst (λ (o : Option Body). LogTakesBody c me o log log) (sym h) (adds_nothing c me log s entry f.is_log (λ is. ap (checkpoints_above log.low) same)),
 )
   where
     is_known : s < logs.replicas log

@@ -21,8 +21,8 @@ use Rattle.protocol.specs.Replica.Certificates.{brought, taken, new_view_from, c
 use Rattle.protocol.specs.Replica.Owed.{IsSaying}
 use Rattle.protocol.proofs.Words.Options.{or_else_alone}
 use Rattle.protocol.proofs.Agreement.States.{checking}
-use Rattle.replica_histories.specs.Logs.{above_mark, AreLatest, IsWithin, FitsViews, FitsLog, IsVoted}
-use Rattle.replica_histories.specs.Events.{IsReached}
+use Rattle.replica_histories.specs.Logs.{checkpoints_above, AreLatest, MayBeLogged, FitsViews, FitsLog, IsVoted}
+use Rattle.replica_histories.specs.Events.{LowMarkIsReached}
 use Rattle.replica_histories.specs.Marks.{checked_log, IsVotedTo, BringsCheckpoint, MarksMove, InstallationsMove}
 use Rattle.replica_histories.proofs.Words.{passed}
 use Rattle.replica_histories.proofs.Certified.{Same, same_turned, prepared_back, committed_back, logged_within}
@@ -125,7 +125,7 @@ module _ (c : Configuration) (me : ℕ) (log : LogData) (past : List Entry) (e :
   commit_next v i s = (same v i).commit s
 
   module _ (is : IsLog counted) (up : log.low ≤ mark) (small : mark < 2 ^ 48) (low_is : low c me (e ∷ past) ≡ mark) (voted : (i : ℕ) → log.low < i → i ≤ mark → (logs.due_prepare log i ≡ None) × (logs.due_commit log i ≡ None))
-      (checks : (s : ℕ) → above_mark mark (checkpoints_of c (e ∷ past) s) ≡ above_mark mark (logs.checkpoints_of counted s)) (latest : (s : ℕ) → AreLatest (logs.checkpoints_of counted s)) where
+      (checks : (s : ℕ) → checkpoints_above mark (checkpoints_of c (e ∷ past) s) ≡ checkpoints_above mark (logs.checkpoints_of counted s)) (latest : (s : ℕ) → AreLatest (logs.checkpoints_of counted s)) where
     low_new : new.low ≡ mark
     low_new = cut_low counted mark up
 
@@ -201,7 +201,7 @@ module _ (c : Configuration) (me : ℕ) (log : LogData) (past : List Entry) (e :
     ea : new.active ≡ log.active
     ea = cut_same (λ m. m.active) (λ m h rows. refl) counted mark
 
-    within : (v i : ℕ) (batch : List ℕ) → logged c me past v i ≡ Some batch → IsWithin new v i
+    within : (v i : ℕ) (batch : List ℕ) → logged c me past v i ≡ Some batch → MayBeLogged new v i
     within v i batch h =
         let w = f.within v i batch h in
         let n = low_new in
@@ -268,8 +268,8 @@ module _ (c : Configuration) (me : ℕ) (log : LogData) (past : List Entry) (e :
       views = views;
       settled = λ is_active i batch l h. at_view (λ v. IsVoted c me (e ∷ past) v i batch)
           (settled (sym ea ∙ is_active) i batch (subst (λ (n : ℕ). i ≤ n) low_new l) (sym (log_next log.view i) ∙ subst (λ (v : ℕ). logged c me (e ∷ past) v i ≡ Some batch) ev h));
-      checkpoints = λ s. subst (λ (n : ℕ). above_mark n (checkpoints_of c (e ∷ past) s) ≡ above_mark n (logs.checkpoints_of new s)) (sym low_new)
-          (checks s ∙ ap (above_mark mark) (sym (kept s)));
+      checkpoints = λ s. subst (λ (n : ℕ). checkpoints_above n (checkpoints_of c (e ∷ past) s) ≡ checkpoints_above n (logs.checkpoints_of new s)) (sym low_new)
+          (checks s ∙ ap (checkpoints_above mark) (sym (kept s)));
       latest = λ s. subst AreLatest (sym (kept s)) (latest s);
     }
       where
@@ -307,13 +307,13 @@ counts_one log s x entry is known = go (s == x) refl
 
 -- The checkpoints of log and history with one more are the same above the mark.
 pub counts_alike : (c : Configuration) (log : LogData) (past : List Entry) (e : Entry) (s x : ℕ) (entry : CheckpointEntry) → IsLog log → s < logs.replicas log → checkpoint_in c e ≡ Some (s, entry)
-    → above_mark log.low (checkpoints_of c past x) ≡ above_mark log.low (logs.checkpoints_of log x) → AreLatest (logs.checkpoints_of log x)
-    → above_mark log.low (checkpoints_of c (e ∷ past) x) ≡ above_mark log.low (logs.checkpoints_of (logs.with_checkpoint_of log s entry) x)
+    → checkpoints_above log.low (checkpoints_of c past x) ≡ checkpoints_above log.low (logs.checkpoints_of log x) → AreLatest (logs.checkpoints_of log x)
+    → checkpoints_above log.low (checkpoints_of c (e ∷ past) x) ≡ checkpoints_above log.low (logs.checkpoints_of (logs.with_checkpoint_of log s entry) x)
 unfolding checkpoints_of
 counts_alike c log past e s x entry is known marked same latest =
-    ap (λ (o : Option (ℕ × CheckpointEntry)). above_mark log.low (with_checkpoint x o (checkpoints_of c past x))) marked
+    ap (λ (o : Option (ℕ × CheckpointEntry)). checkpoints_above log.low (with_checkpoint x o (checkpoints_of c past x))) marked
     ∙ behind_above log.low x (Some (s, entry)) (checkpoints_of c past x) (logs.checkpoints_of log x) (latest_of c past x) latest same
-    ∙ ap (above_mark log.low) (sym (counts_one log s x entry is known))
+    ∙ ap (checkpoints_above log.low) (sym (counts_one log s x entry is known))
 
 module _ (c : Configuration) (me : ℕ) (log : LogData) (past : List Entry) (e : Entry) (s : ℕ) (entry : CheckpointEntry) (f : FitsLog c me log past) (b : BringsCheckpoint c e s entry) (known : s < logs.replicas log) where
   abbrev more : LogData
@@ -335,7 +335,7 @@ module _ (c : Configuration) (me : ℕ) (log : LogData) (past : List Entry) (e :
     commit = λ v i x. none_chosen (counts_at c me past e v i) (option_and_then (commit_from x v i) (brought c e)) (ap (option_and_then (commit_from x v i)) b.brings);
   }
 
-  pub alike : (x : ℕ) → above_mark log.low (checkpoints_of c (e ∷ past) x) ≡ above_mark log.low (logs.checkpoints_of more x)
+  pub alike : (x : ℕ) → checkpoints_above log.low (checkpoints_of c (e ∷ past) x) ≡ checkpoints_above log.low (logs.checkpoints_of more x)
   alike x = counts_alike c log past e s x entry f.is_log known marked (f.checkpoints x) (f.latest x)
 
   latest : (x : ℕ) → AreLatest (logs.checkpoints_of more x)
@@ -404,7 +404,7 @@ module _ (c : Configuration) (me : ℕ) (log : LogData) (past : List Entry) (e :
   pub checked : IsVotedTo log (checked_log log s entry).low → FitsLog c me (checked_log log s entry) (e ∷ past)
   checked voted = subst (λ (m : LogData). FitsLog c me m (e ∷ past)) cut_is
       (moved c me log past e f mute more.checkpoints next is_log up small low_is (λ i above l. voted i (subst (λ (n : ℕ). i ≤ n) mark_is l))
-      (λ x. sym (above_higher log.low next (checkpoints_of c (e ∷ past) x) up) ∙ ap (above_mark next) (alike x) ∙ above_higher log.low next (logs.checkpoints_of more x) up) latest)
+      (λ x. sym (above_higher log.low next (checkpoints_of c (e ∷ past) x) up) ∙ ap (checkpoints_above next) (alike x) ∙ above_higher log.low next (logs.checkpoints_of more x) up) latest)
     where
       mark_is : next ≡ (checked_log log s entry).low
       mark_is = sym (cut_low more next up) ∙ ap (λ (m : LogData). m.low) cut_is
@@ -416,18 +416,18 @@ module _ (c : Configuration) (me : ℕ) (log : LogData) (past : List Entry) (e :
   checked_up = let is = checked_low in let l = up in omega arith
 
   -- the low mark stays, or is at most the stable number; so it is reached if the stable state was executed
-  pub checked_reached : (number : ℕ) (due rest : List Message) → ((x : Message) → Has (λ y. y ≡ x) due → Has (λ y. y ≡ x) rest ⊎ IsSaying me x e) → IsReached c me log.low number due past
-      → (is_stable c me (e ∷ past) entry ≡ true → entry.number ≤ number) → IsReached c me (checked_log log s entry).low number rest (e ∷ past)
-  checked_reached number due rest paid was stable = subst (λ (x : ℕ). IsReached c me x number rest (e ∷ past)) (sym checked_low) (go (logs.is_stable more entry) refl)
+  pub checked_reached : (number : ℕ) (due rest : List Message) → ((x : Message) → Has (λ y. y ≡ x) due → Has (λ y. y ≡ x) rest ⊎ IsSaying me x e) → LowMarkIsReached c me log.low number due past
+      → (is_stable c me (e ∷ past) entry ≡ true → entry.number ≤ number) → LowMarkIsReached c me (checked_log log s entry).low number rest (e ∷ past)
+  checked_reached number due rest paid was stable = subst (λ (x : ℕ). LowMarkIsReached c me x number rest (e ∷ past)) (sym checked_low) (go (logs.is_stable more entry) refl)
     where
-      kept : IsReached c me log.low number rest (e ∷ past)
+      kept : LowMarkIsReached c me log.low number rest (e ∷ past)
       kept = reached_by c me log.low number due rest past e (λ v below. mute_same c me past e v (suc number) mute) paid was
 
-      above : (t : Bool) → nat_lt log.low entry.number ≡ t → logs.is_stable more entry ≡ true → IsReached c me (max log.low entry.number) number rest (e ∷ past)
+      above : (t : Bool) → nat_lt log.low entry.number ≡ t → logs.is_stable more entry ≡ true → LowMarkIsReached c me (max log.low entry.number) number rest (e ∷ past)
       above true l is = inl (let k = ltb-true log.low entry.number l in let a = stable (log_stable c me more (e ∷ past) entry f.faults f.own k alike ∙ is) in omega arith)
-      above false l is = let k = ltb-false log.low entry.number l in let same : max log.low entry.number ≡ log.low = omega arith in subst (λ (x : ℕ). IsReached c me x number rest (e ∷ past)) (sym same) kept
+      above false l is = let k = ltb-false log.low entry.number l in let same : max log.low entry.number ≡ log.low = omega arith in subst (λ (x : ℕ). LowMarkIsReached c me x number rest (e ∷ past)) (sym same) kept
 
-      go : (t : Bool) → logs.is_stable more entry ≡ t → IsReached c me (cond t (max log.low entry.number) log.low) number rest (e ∷ past)
+      go : (t : Bool) → logs.is_stable more entry ≡ t → LowMarkIsReached c me (cond t (max log.low entry.number) log.low) number rest (e ∷ past)
       go true is = above (nat_lt log.low entry.number) refl is
       go false is = kept
 
@@ -441,7 +441,7 @@ unfolding low checkpoints_of
 installations_move c me log past k root f small voted =
     subst (λ (m : LogData). FitsLog c me m (Installed me k root ∷ past)) (cut_at log k)
     (moved c me log past (Installed me k root) f mute log.checkpoints (max log.low k) f.is_log (omega arith) (let l = f.is_log.low in omega arith) (let was = f.low in omega arith) (λ i above l. voted i (omega arith))
-    (λ s. sym (above_higher log.low (max log.low k) (checkpoints_of c past s) (omega arith)) ∙ ap (above_mark (max log.low k)) (f.checkpoints s) ∙ above_higher log.low (max log.low k) (logs.checkpoints_of log s) (omega arith)) f.latest)
+    (λ s. sym (above_higher log.low (max log.low k) (checkpoints_of c past s) (omega arith)) ∙ ap (checkpoints_above (max log.low k)) (f.checkpoints s) ∙ above_higher log.low (max log.low k) (logs.checkpoints_of log s) (omega arith)) f.latest)
   where
     mute : Mute c me past (Installed me k root)
     mute = record { no_view = refl; no_change = refl; batch = λ v i. refl; prepare = λ v i s. refl; commit = λ v i s. refl }

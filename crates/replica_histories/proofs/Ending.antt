@@ -23,7 +23,7 @@ use Rattle.protocol.proofs.Words.Linking.{Speaks}
 use Rattle.protocol.proofs.Agreement.Voting.{preparing}
 use Rattle.protocol.proofs.Agreement.Commits.{committing, prepared_stays, prepared_remains}
 use Rattle.replica_histories.specs.Desk.{Desk, point_of}
-use Rattle.replica_histories.specs.Events.{Start, after_outputs, Steps, AtEach, IsOnItsWay, IsReached, Fits, IsSettled, LeavesNoView, IsTaken, EventsEnd}
+use Rattle.replica_histories.specs.Events.{Start, after_outputs, Steps, AtEach, IsOnItsWay, LowMarkIsReached, Fits, IsSettled, LeavesNoView, IsTaken, EventsEnd}
 use Rattle.replica_histories.specs.Logs.{IsVoted}
 use Rattle.replica_histories.specs.Questions.{AnswersInput, read_reply}
 use Rattle.replica_histories.specs.TransfersQuorums.{IsToFetch, QuorumsFetched}
@@ -134,7 +134,7 @@ module _ (c : Configuration) (me : ℕ) (s : Start) (desk : Desk) (log : LogData
       (f.of_desk.checkpoints k (has_reverse (λ e. Executes k [] e) outputs h) multiple)
 
   -- no batch is committed for the next number: the log would have it, or the low mark is above it
-  executes : (v : ℕ) (batch : List ℕ) → Committed c me now v (suc desk.state.number) batch → IsReached c me log.low desk.state.number [] now → ⊥
+  executes : (v : ℕ) (batch : List ℕ) → Committed c me now v (suc desk.state.number) batch → LowMarkIsReached c me log.low desk.state.number [] now → ⊥
   executes v batch k (inl l) = let known = committed_there c me log now v (suc desk.state.number) batch f.of_log (omega arith) k in given_not (logs.committed_batch log (suc desk.state.number)) known.0 known.1 settled.executes
   executes v batch k (inr h) = h.1 v batch k
 

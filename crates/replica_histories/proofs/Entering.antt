@@ -26,12 +26,12 @@ use Rattle.protocol.proofs.Words.Reacting.{proceeds_leaves}
 use Rattle.protocol.proofs.Agreement.States.{checking}
 use Rattle.replica_histories.specs.Desk.{snapshot_of, point_of}
 use Rattle.state_transfer.specs.Transfer.{TransferData}
-use Rattle.replica_histories.specs.Logs.{above_mark, FitsLog}
+use Rattle.replica_histories.specs.Logs.{checkpoints_above, FitsLog}
 use Rattle.replica_histories.specs.Marks.{checked_log, BringsCheckpoint}
-use Rattle.replica_histories.specs.Events.{Start, IsOnItsWay, IsAsked, MaySayDue, AreUnsaid, SaysOnce, IsFetched, IsReached}
-use Rattle.replica_histories.specs.Transfers.{HasQuorum, FitsOpen, open_number}
+use Rattle.replica_histories.specs.Events.{Start, IsOnItsWay, IsRepeatedRequest, MaySayDue, AreUnsaid, SaysOnce, IsFetchedOrDue, LowMarkIsReached}
+use Rattle.replica_histories.specs.Transfers.{HasQuorum, FitsOpenTransfer, open_number}
 use Rattle.replica_histories.specs.TransfersQuorums.{BringsRoot, QuorumsFetched}
-use Rattle.replica_histories.specs.Inputs.{again_for, asked_by, asked, fetch_due, again_due, InputsFit, CheckpointsEnter, TicksFit}
+use Rattle.replica_histories.specs.Inputs.{again_for, asked_by, replies_again, fetch_due, again_due, InputsFit, CheckpointsEnter, TicksFit}
 use Rattle.replica_histories.proofs.Checking.{log_stable, quorum_counted, own_at_most}
 use Rattle.replica_histories.proofs.Taking.{takes_nothing}
 use Rattle.replica_histories.proofs.Logging.{none_taken, log_goes, got_read, silent_read}
@@ -51,7 +51,7 @@ module _ (c : Configuration) (me : ℕ) (past : List Entry) (bytes : List ℕ) (
   abbrev start : Start
   start = record { before = past; input = Got me bytes; old = old }
 
-  asked_is_due : (k : ℕ) (kept : Kept) → IsAsked c me start k kept → Has (λ x. x ≡ reply_of k kept) (asked old.state (heard (members c) me bytes))
+  asked_is_due : (k : ℕ) (kept : Kept) → IsRepeatedRequest c me start k kept → Has (λ x. x ≡ reply_of k kept) (replies_again old.state (heard (members c) me bytes))
   asked_is_due k kept a = rw hears (at (256 + k - 256) (let n : 256 + k - 256 ≡ k = omega arith in n) (nat_le 256 (256 + k)) (le-leb 256 (256 + k) (omega arith)))
     where
       hears : heard (members c) me bytes ≡ Some (record { sender = 256 + k; message = Request a.0 modes.Ordered a.1 })
@@ -66,7 +66,7 @@ module _ (c : Configuration) (me : ℕ) (past : List Entry) (bytes : List ℕ) (
   abbrev got : List Entry
   got = Got me bytes ∷ past
 
-  due_is_right : (point : Point) → point.state ≡ old.state → (message : Message) → Has (λ x. x ≡ message) (asked old.state (heard (members c) me bytes)) → MaySayDue c me got point message
+  due_is_right : (point : Point) → point.state ≡ old.state → (message : Message) → Has (λ x. x ≡ message) (replies_again old.state (heard (members c) me bytes)) → MaySayDue c me got point message
   due_is_right point same message h = go (heard (members c) me bytes) refl h
     where
       Says : ℕ → Message → Type 0
@@ -97,7 +97,7 @@ module _ (c : Configuration) (me : ℕ) (past : List Entry) (bytes : List ℕ) (
       of sender (Request t modes.ReadOnly op) says h = absurd h
       of sender _ says h = absurd h
 
-      go : (o : Option Body) → heard (members c) me bytes ≡ o → Has (λ x. x ≡ message) (asked old.state o) → MaySayDue c me got point message
+      go : (o : Option Body) → heard (members c) me bytes ≡ o → Has (λ x. x ≡ message) (replies_again old.state o) → MaySayDue c me got point message
       go None says h = absurd h
       go (Some body) says h = of body.sender body.message says h
 
@@ -114,7 +114,7 @@ again_unsaid me k timestamp (Some kept) = go (kept.timestamp == timestamp)
     go true = (λ other way. alone way, tt)
     go false = tt
 
-asked_unsaid : (me : ℕ) (st : State) (o : Option Body) → AreUnsaid me (asked st o) []
+asked_unsaid : (me : ℕ) (st : State) (o : Option Body) → AreUnsaid me (replies_again st o) []
 asked_unsaid me st None = tt
 asked_unsaid me st (Some body) = of body.sender body.message
   where
@@ -147,15 +147,15 @@ inputs_fit c me desk new log after due past bytes held none e = record {
     asked = λ k kept a. inl (subst (λ (xs : List Message). Has (λ x. x ≡ reply_of k kept) xs) (sym due_is) (asked_is_due c me past bytes old k kept a));
     fetch_again = λ k index level h. absurd h.0;
     checkpoints = λ k h multiple. absurd h;
-    opened = subst (λ (o : Option TransferData). FitsOpen c me o new.state.number (Got me bytes ∷ past)) (sym e.transfer)
-        (subst (λ (st : State). FitsOpen c me desk.transfer st.number (Got me bytes ∷ past)) (sym e.state) (open_stays c me desk.transfer desk.state.number past (Got me bytes) refl tt held.of_desk.opened));
+    opened = subst (λ (o : Option TransferData). FitsOpenTransfer c me o new.state.number (Got me bytes ∷ past)) (sym e.transfer)
+        (subst (λ (st : State). FitsOpenTransfer c me desk.transfer st.number (Got me bytes ∷ past)) (sym e.state) (open_stays c me desk.transfer desk.state.number past (Got me bytes) refl tt held.of_desk.opened));
     fetches = quorums_begin c me (record { before = past; input = Got me bytes; old = old }) new.state.number due (subst (λ (st : State). QuorumsFetched c st.number past) (sym e.state) held.of_desk.fetches)
         (λ k root b quorum above. inl (below_fetched k (unchanged_bring_none c log.low past (Got me bytes) k root unchanged b) (let number = ap (λ (st : State). st.number) e.state in omega arith) held.low))
         (λ k start above. none_starts c past (Got me bytes) k none start);
     rightly = λ message k. due_is_right c me past bytes old (point_of new old.snapshots []) (e.state ∙ sym state_is) message (subst (λ (xs : List Message). Has (λ x. x ≡ message) xs) due_is k);
   };
   of_log = fits;
-  low = subst (λ (n : ℕ). IsReached c me n new.state.number due (Got me bytes ∷ past)) (sym e.takes.stays.low) (subst (λ (st : State). IsReached c me log.low st.number due (Got me bytes ∷ past)) (sym e.state)
+  low = subst (λ (n : ℕ). LowMarkIsReached c me n new.state.number due (Got me bytes ∷ past)) (sym e.takes.stays.low) (subst (λ (st : State). LowMarkIsReached c me log.low st.number due (Got me bytes ∷ past)) (sym e.state)
       (reached_goes c me desk.state.number [] due log past (Got me bytes) (got_read c me log past bytes held.of_log.fits none) (λ x k. absurd k) held.low));
   once = tt;
   says = record {
@@ -172,19 +172,19 @@ inputs_fit c me desk new log after due past bytes held none e = record {
     fits = log_goes c me log after past (Got me bytes) held.of_log.fits (got_read c me log past bytes held.of_log.fits none) e.takes
 
     -- a state above the executed one and not above the low mark was fetched
-    below_fetched : (k : ℕ) → k ≤ log.low → desk.state.number < k → IsReached c me log.low desk.state.number [] past → k ≤ fetching past
+    below_fetched : (k : ℕ) → k ≤ log.low → desk.state.number < k → LowMarkIsReached c me log.low desk.state.number [] past → k ≤ fetching past
     below_fetched k l above (inl low) = absurd (omega arith)
     below_fetched k l above (inr h) = go h.0
       where
-        go : IsFetched log.low [] past → k ≤ fetching past
+        go : IsFetchedOrDue log.low [] past → k ≤ fetching past
         go (inl most) = omega arith
         go (inr d) = absurd d
 
     -- it brings no checkpoint above the low mark
-    unchanged : (s : ℕ) → above_mark log.low (checkpoints_of c (Got me bytes ∷ past) s) ≡ above_mark log.low (checkpoints_of c past s)
+    unchanged : (s : ℕ) → checkpoints_above log.low (checkpoints_of c (Got me bytes ∷ past) s) ≡ checkpoints_above log.low (checkpoints_of c past s)
     unchanged s =
-        subst (λ (h : ℕ). above_mark h (checkpoints_of c (Got me bytes ∷ past) s) ≡ above_mark h (logs.checkpoints_of after s)) e.takes.stays.low (fits.checkpoints s)
-        ∙ ap (λ (xs : List (List CheckpointEntry)). above_mark log.low (slice_index_or xs s [])) e.takes.stays.checkpoints ∙ sym (held.of_log.fits.checkpoints s)
+        subst (λ (h : ℕ). checkpoints_above h (checkpoints_of c (Got me bytes ∷ past) s) ≡ checkpoints_above h (logs.checkpoints_of after s)) e.takes.stays.low (fits.checkpoints s)
+        ∙ ap (λ (xs : List (List CheckpointEntry)). checkpoints_above log.low (slice_index_or xs s [])) e.takes.stays.checkpoints ∙ sym (held.of_log.fits.checkpoints s)
 
     state_is : old.state ≡ desk.state
     state_is = ap (λ (p : Point). p.state) held.of_desk.is
@@ -200,8 +200,8 @@ inputs_fit c me desk new log after due past bytes held none e = record {
     moves : point_of new old.snapshots [] ≡ record old { ran = []; waiting = waiting_after c me old bytes }
     moves = same_point old.snapshots new.state old.state new.waiting (waiting_after c me old bytes) (e.state ∙ sym state_is) (e.waiting ∙ sym waits)
 
-    due_is : due ≡ asked old.state (heard (members c) me bytes)
-    due_is = e.due_is ∙ ap (λ (st : State). asked st (heard (members c) me bytes)) (sym state_is)
+    due_is : due ≡ replies_again old.state (heard (members c) me bytes)
+    due_is = e.due_is ∙ ap (λ (st : State). replies_again st (heard (members c) me bytes)) (sym state_is)
 
     -- the kept reply that the input asks for has its client's last timestamp
     replies : (k : ℕ) (kept : Kept) → IsOnItsWay me due [] (reply_of k kept) → kept.timestamp ≤ last_time new.state k
@@ -288,7 +288,7 @@ checkpoints_enter c me desk log past s entry bytes held h none = record {
       moves = same_point old.snapshots desk.state old.state desk.waiting (waiting_after c me old bytes) (sym (ap (λ (p : Point). p.state) held.of_desk.is)) (sym (ap (λ (p : Point). p.waiting) held.of_desk.is) ∙ sym waits);
     }
 
-    asks_nothing : (k : ℕ) (kept : Kept) → IsAsked c me (record { before = past; input = Got me bytes; old = old }) k kept → ⊥
+    asks_nothing : (k : ℕ) (kept : Kept) → IsRepeatedRequest c me (record { before = past; input = Got me bytes; old = old }) k kept → ⊥
     asks_nothing k kept a =
         let hears : heard (members c) me bytes ≡ Some (record { sender = 256 + k; message = Request a.0 modes.Ordered a.1 }) = a.2 in
         let same : checking s entry.number entry.digest ≡ record { sender = 256 + k; message = Request a.0 modes.Ordered a.1 } = some_injective _ _ (sym h ∙ hears) in
@@ -303,7 +303,7 @@ checkpoints_enter c me desk log past s entry bytes held h none = record {
     more : LogData
     more = logs.with_checkpoint_of log s entry
 
-    same : (x : ℕ) → above_mark log.low (checkpoints_of c (Got me bytes ∷ past) x) ≡ above_mark log.low (logs.checkpoints_of more x)
+    same : (x : ℕ) → checkpoints_above log.low (checkpoints_of c (Got me bytes ∷ past) x) ≡ checkpoints_above log.low (logs.checkpoints_of more x)
     same x = alike c me log past (Got me bytes) s entry f brings known x
 
     is_ahead : Bool
@@ -396,13 +396,13 @@ ticks_fit c me desk log past held = record {
     moves = same_point old.snapshots desk.state old.state desk.waiting old.waiting (sym (ap (λ (p : Point). p.state) held.of_desk.is)) (sym (ap (λ (p : Point). p.waiting) held.of_desk.is))
 
     -- the last place that was asked for, with a number above the state's, is the open transfer's
-    again : (k index : ℕ) (level : Level) (o : Option TransferData) → FitsOpen c me o desk.state.number past → asked_last past ≡ Some (k, (level, index)) → desk.state.number < k
+    again : (k index : ℕ) (level : Level) (o : Option TransferData) → FitsOpenTransfer c me o desk.state.number past → asked_last past ≡ Some (k, (level, index)) → desk.state.number < k
         → Has (λ x. x ≡ Fetch k level index) (again_due o)
     again k index level None f was above = let most = asked_at_most past k (level, index) was in let least = f.0 in absurd (omega (arith, most, least, above))
     again k index level (Some t) f was above =
         inl (ap (λ (x : ℕ × (Level × ℕ)). Fetch x.0 x.1.0 x.1.1) (some_injective (t.number, (t.asked.level, t.asked.index)) (k, (level, index)) (sym f.0.asked ∙ was)))
 
-    rightly : (message : Message) (o : Option TransferData) → FitsOpen c me o desk.state.number past → Has (λ x. x ≡ message) (again_due o) → MaySayDue c me (Tick me ∷ past) (point_of desk old.snapshots []) message
+    rightly : (message : Message) (o : Option TransferData) → FitsOpenTransfer c me o desk.state.number past → Has (λ x. x ≡ message) (again_due o) → MaySayDue c me (Tick me ∷ past) (point_of desk old.snapshots []) message
     rightly message None f k = absurd k
     rightly message (Some t) f (inl k) =
         subst (λ (x : Message). MaySayDue c me (Tick me ∷ past) (point_of desk old.snapshots []) x) k (t.root, (f.1, root_later c t.number t.root past (Tick me) f.0.aims.root_wanted))

@@ -19,9 +19,9 @@ use Rattle.state_transfer.specs.Transfer.{TransferData, with_digests}
 use Rattle.protocol.proofs.Words.Posting.{may_send}
 use Rattle.replica_histories.specs.Desk.{Desk, snapshot_of, point_of}
 use Rattle.replica_histories.specs.Logs.{FitsLog}
-use Rattle.replica_histories.specs.Transfers.{HasQuorum, MayAsk, AsksNext, FitsOpen, open_number}
+use Rattle.replica_histories.specs.Transfers.{HasQuorum, TransferMayAsk, AsksNext, FitsOpenTransfer, open_number}
 use Rattle.replica_histories.specs.Events.{Start, after_outputs, Fits, Holds, start_at}
-use Rattle.replica_histories.specs.Inputs.{asked, Enters, IsBesideLog}
+use Rattle.replica_histories.specs.Inputs.{replies_again, BytesEnter, IsBesideLog}
 use Rattle.replica_histories.specs.Fetching.{FetchesFit, DueFetchesFit, QuorumsMayAsk, HeldOweNoFetch, DigestsEnter, PagesEnter, AskedDigestsCount, AskedPagesCount, TransfersChange}
 use Rattle.replica_histories.proofs.Taking.{takes_nothing}
 use Rattle.replica_histories.proofs.Logging.{none_taken, IsPlaced, beside_placed}
@@ -41,7 +41,7 @@ abbrev fetch_of : TransferData → Message
 fetch_of t = Fetch t.number t.asked.level t.asked.index
 
 -- a fetch that the transfer may send, with due messages paid
-fetch_goes : (c : Configuration) (me : ℕ) (s : Start) (desk : Desk) (log : LogData) (due rest : List Message) (outputs : List Entry) (t : TransferData) (bytes : List ℕ) → MayAsk c me t desk.state.number (after_outputs s outputs) → AsksNext c me t desk.state (after_outputs s outputs)
+fetch_goes : (c : Configuration) (me : ℕ) (s : Start) (desk : Desk) (log : LogData) (due rest : List Message) (outputs : List Entry) (t : TransferData) (bytes : List ℕ) → TransferMayAsk c me t desk.state.number (after_outputs s outputs) → AsksNext c me t desk.state (after_outputs s outputs)
     → IsPosted c me (fetch_of t) (others c me) bytes → Pays me s desk.state due rest outputs bytes
     → Fits c me s desk log due outputs → Fits c me s (record desk { transfer = Some t }) log rest (Sent me bytes ∷ outputs)
 fetch_goes c me s desk log due rest outputs t bytes m next posted pays f =
@@ -129,14 +129,14 @@ transfers_change c me s desk log due outputs open_one o f = record {
 }
 
 -- the open transfer of a desk
-open_at : (c : Configuration) (me : ℕ) (desk : Desk) (t : TransferData) (number : ℕ) (history : List Entry) → desk.transfer ≡ Some t → FitsOpen c me desk.transfer number history → FitsOpen c me (Some t) number history
-open_at c me desk t number history is f = subst (λ (o : Option TransferData). FitsOpen c me o number history) is f
+open_at : (c : Configuration) (me : ℕ) (desk : Desk) (t : TransferData) (number : ℕ) (history : List Entry) → desk.transfer ≡ Some t → FitsOpenTransfer c me desk.transfer number history → FitsOpenTransfer c me (Some t) number history
+open_at c me desk t number history is f = subst (λ (o : Option TransferData). FitsOpenTransfer c me o number history) is f
 
 -- ---- a part arrives
 
 -- it changes nothing but the transfer
 part_enters : (c : Configuration) (me : ℕ) (desk : Desk) (log : LogData) (past : List Entry) (s : ℕ) (message : Message) (bytes : List ℕ) → FitsLog c me log past → IsPart message
-    → heard (members c) me bytes ≡ Some (record { sender = s; message = message }) → Enters c me bytes desk desk log log []
+    → heard (members c) me bytes ≡ Some (record { sender = s; message = message }) → BytesEnter c me bytes desk desk log log []
 part_enters c me desk log past s message bytes f is h = record {
   takes = others_drop c me log past bytes f (subst IsBesideLog (sym h) (beside message is));
   state = refl;
@@ -144,7 +144,7 @@ part_enters c me desk log past s message bytes f is h = record {
   waiting = sym (ap (λ (o : Option Body). option_map_or (with_waiting desk.state desk.waiting) (option_and_then (call_in c) o) desk.waiting) h ∙ ap (λ (o : Option Call). option_map_or (with_waiting desk.state desk.waiting) o desk.waiting) (no_call message is));
   transfer = refl;
   frames = λ frame k. inl k;
-  due_is = sym (ap (asked desk.state) h ∙ none_asked message is);
+  due_is = sym (ap (replies_again desk.state) h ∙ none_asked message is);
 }
   where
     beside : (m : Message) → IsPart m → IsBesideLog (Some (record { sender = s; message = m }))
@@ -157,14 +157,14 @@ part_enters c me desk log past s message bytes f is h = record {
     no_call (Page k index text) p = refl
     no_call _ p = absurd p
 
-    none_asked : (m : Message) → IsPart m → asked desk.state (Some (record { sender = s; message = m })) ≡ []
+    none_asked : (m : Message) → IsPart m → replies_again desk.state (Some (record { sender = s; message = m })) ≡ []
     none_asked (Meta k level index digests) p = refl
     none_asked (Page k index text) p = refl
     none_asked _ p = absurd p
 
 -- so the event begins with the transfer that has the part
 enters : (c : Configuration) (me : ℕ) (desk : Desk) (log : LogData) (past : List Entry) (s : ℕ) (message : Message) (bytes : List ℕ) (open_one : Option TransferData) (held : Holds c me desk log past) → IsPart message
-    → heard (members c) me bytes ≡ Some (record { sender = s; message = message }) → FitsOpen c me open_one desk.state.number (Got me bytes ∷ past)
+    → heard (members c) me bytes ≡ Some (record { sender = s; message = message }) → FitsOpenTransfer c me open_one desk.state.number (Got me bytes ∷ past)
     → Fits c me (start_at c me desk log past held (Got me bytes)) (record desk { transfer = open_one }) log [] []
 enters c me desk log past s message bytes open_one held is h o =
     transfers_change c me (start_at c me desk log past held (Got me bytes)) desk log [] [] open_one o
@@ -193,10 +193,10 @@ pages_enter c me desk log past t s index text bytes held is asks h long known = 
 -- ---- which parts count
 
 -- the open transfer at the point of a history that fits
-open_there : (c : Configuration) (me : ℕ) (desk : Desk) (log : LogData) (past : List Entry) (t : TransferData) (held : Holds c me desk log past) → desk.transfer ≡ Some t → FitsOpen c me (Some t) held.of_desk.point.state.number past
+open_there : (c : Configuration) (me : ℕ) (desk : Desk) (log : LogData) (past : List Entry) (t : TransferData) (held : Holds c me desk log past) → desk.transfer ≡ Some t → FitsOpenTransfer c me (Some t) held.of_desk.point.state.number past
 open_there c me desk log past t held is =
     open_at c me desk t held.of_desk.point.state.number past is
-    (subst (λ (st : State). FitsOpen c me desk.transfer st.number past) (sym (ap (λ (p : Point). p.state) held.of_desk.is)) held.of_desk.opened)
+    (subst (λ (st : State). FitsOpenTransfer c me desk.transfer st.number past) (sym (ap (λ (p : Point). p.state) held.of_desk.is)) held.of_desk.opened)
 
 pub asked_digests_count : AskedDigestsCount
 asked_digests_count c me desk log past t s place digests bytes held is asks wants =

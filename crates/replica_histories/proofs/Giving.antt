@@ -27,11 +27,11 @@ use Rattle.protocol.proofs.Words.Options.{some_injective, then_some_gives, or_el
 use Rattle.protocol.proofs.Words.Elements.{has_weaker, all_of_each, each_weaker}
 use Rattle.protocol.proofs.Words.Posting.{may_send}
 use Rattle.replica_histories.specs.Desk.{Desk, Snapshot, snapshot_of, kept_from, point_of}
-use Rattle.replica_histories.specs.Logs.{FitsLog, Takes}
+use Rattle.replica_histories.specs.Logs.{FitsLog, LogTakesBody}
 use Rattle.replica_histories.specs.Marks.{checked_log, BringsCheckpoint}
-use Rattle.replica_histories.specs.Events.{Start, after_outputs, IsOnItsWay, MaySayDue, FitsFrames, IsReached, Fits, KeptAreAbove}
+use Rattle.replica_histories.specs.Events.{Start, after_outputs, IsOnItsWay, MaySayDue, FitsFrames, LowMarkIsReached, Fits, KeptAreAbove}
 use Rattle.state_transfer.specs.Transfer.{TransferData}
-use Rattle.replica_histories.specs.Transfers.{FitsOpen}
+use Rattle.replica_histories.specs.Transfers.{FitsOpenTransfer}
 use Rattle.replica_histories.specs.TransfersQuorums.{BringsRoot}
 use Rattle.replica_histories.specs.Outputs.{PreparesFit, CommitsFit, BatchesFit, RepliesFit, CheckpointsFit}
 use Rattle.replica_histories.proofs.Words.{apart, passed, HasBatch, has_batch, batch_read, marks_are, primary_same}
@@ -90,8 +90,8 @@ signed_may_send c me past point e bytes message signed posted seen say leaf once
 pub sent_goes : (c : Configuration) (me : ℕ) (s : Start) (desk : Desk) (log after : LogData) (due rest : List Message) (outputs : List Entry) (bytes : List ℕ) (snapshots : List Snapshot) (transfer : Option TransferData)
     (f : Fits c me s desk log due outputs) → MaySend c me (after_outputs s outputs) (point_of desk f.of_desk.states f.of_desk.ran) (Sent me bytes) bytes
     → FitsLog c me after (Sent me bytes ∷ after_outputs s outputs) → map snapshot_of (kept_states after.low f.of_desk.states) ≡ snapshots
-    → IsReached c me after.low desk.state.number rest (Sent me bytes ∷ after_outputs s outputs)
-    → FitsOpen c me transfer desk.state.number (Sent me bytes ∷ after_outputs s outputs)
+    → LowMarkIsReached c me after.low desk.state.number rest (Sent me bytes ∷ after_outputs s outputs)
+    → FitsOpenTransfer c me transfer desk.state.number (Sent me bytes ∷ after_outputs s outputs)
     → ((k : ℕ) (root : List ℕ) → BringsRoot c (after_outputs s outputs) (Sent me bytes) k root → k ≤ desk.state.number)
     → taken c (after_outputs s outputs) (Sent me bytes) ≡ None
     → Pays me s desk.state due rest outputs bytes
@@ -131,16 +131,16 @@ sent_goes c me s desk log after due rest outputs bytes snapshots transfer f may 
 
 -- the log after it
 pub log_sent : (c : Configuration) (me : ℕ) (log after : LogData) (past : List Entry) (bytes receivers : List ℕ) (message : Message) → FitsLog c me log past → IsPosted c me message receivers bytes → KeepsView message
-    → Takes c me (Some (record { sender = me; message = message })) log after → IsPlaced c me log (record { sender = me; message = message }) → FitsLog c me after (Sent me bytes ∷ past)
+    → LogTakesBody c me (Some (record { sender = me; message = message })) log after → IsPlaced c me log (record { sender = me; message = message }) → FitsLog c me after (Sent me bytes ∷ past)
 log_sent c me log after past bytes receivers message f posted keeps takes place =
-    log_goes c me log after past (Sent me bytes) f (sent_read c me log past bytes me message posted.says keeps place) (subst (λ (o : Option Body). Takes c me o log after) (sym posted.says) takes)
+    log_goes c me log after past (Sent me bytes) f (sent_read c me log past bytes me message posted.says keeps place) (subst (λ (o : Option Body). LogTakesBody c me o log after) (sym posted.says) takes)
 
 -- and the low mark, which stays, is reached
 pub reached_sent : (c : Configuration) (me number : ℕ) (due rest : List Message) (log after : LogData) (past : List Entry) (bytes receivers : List ℕ) (message : Message) → IsPosted c me message receivers bytes → KeepsView message
     → IsPlaced c me log (record { sender = me; message = message }) → after.low ≡ log.low → ((x : Message) → Has (λ y. y ≡ x) due → Has (λ y. y ≡ x) rest ⊎ IsSaying me x (Sent me bytes))
-    → IsReached c me log.low number due past → IsReached c me after.low number rest (Sent me bytes ∷ past)
+    → LowMarkIsReached c me log.low number due past → LowMarkIsReached c me after.low number rest (Sent me bytes ∷ past)
 reached_sent c me number due rest log after past bytes receivers message posted keeps place same paid h =
-    subst (λ (n : ℕ). IsReached c me n number rest (Sent me bytes ∷ past)) (sym same)
+    subst (λ (n : ℕ). LowMarkIsReached c me n number rest (Sent me bytes ∷ past)) (sym same)
     (reached_goes c me number due rest log past (Sent me bytes) (sent_read c me log past bytes me message posted.says keeps place) paid h)
 
 -- view changes and new views alone are signed
@@ -154,7 +154,7 @@ pub sent_fits : (c : Configuration) (me : ℕ) (s : Start) (desk : Desk) (log af
     (f : Fits c me s desk log due outputs) → IsPosted c me message receivers bytes → IsFor c me (after_outputs s outputs) message receivers
     → Each (λ frame. Once (HasSeen frame) (after_outputs s outputs)) (carried message)
     → MaySay c me (after_outputs s outputs) (point_of desk f.of_desk.states f.of_desk.ran) (Sent me bytes) bytes message
-    → KeepsView message → Takes c me (Some (record { sender = me; message = message })) log after → IsPlaced c me log (record { sender = me; message = message })
+    → KeepsView message → LogTakesBody c me (Some (record { sender = me; message = message })) log after → IsPlaced c me log (record { sender = me; message = message })
     → place_from (record { sender = me; message = message }) ≡ None
     → ((k : ℕ) (root : List ℕ) → BringsRoot c (after_outputs s outputs) (Sent me bytes) k root → k ≤ desk.state.number)
     → Pays me s desk.state due rest outputs bytes → (SentInEvent bytes (after_outputs s outputs) → ⊥)
@@ -352,7 +352,7 @@ batches_fit c me s desk log due outputs i batch bytes p posted f =
     free : logs.logged_batch log i ≡ None
     free = sym (f.of_log.batches i p.within) ∙ p.free.unused i (omega arith)
 
-    takes : Takes c me (Some (record { sender = me; message = PrePrepare log.view i batch })) log (logs.with_batch log i batch)
+    takes : LogTakesBody c me (Some (record { sender = me; message = PrePrepare log.view i batch })) log (logs.with_batch log i batch)
     takes = batch_taken c me me i batch log f.of_log.is_log p.active p.within (eq-eqb me (primary c log.view) (sym primary_is)) genuine free
 
     place : (v j : ℕ) (b : List ℕ) → batch_from c me v j (record { sender = me; message = PrePrepare log.view i batch }) ≡ Some b → (v ≡ log.view) × (logs.is_in_marks log j ≡ true)

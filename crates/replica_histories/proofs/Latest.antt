@@ -11,7 +11,7 @@ use Rattle.protocol.specs.Replica.Certificates.{insert_checkpoint, with_checkpoi
 use Rattle.protocol.specs.Replica.Owed.{has_number}
 use Rattle.protocol.proofs.Words.Elements.{each_weaker}
 use Rattle.protocol.proofs.Agreement.States.{is_checkpoint, has_take, has_insert}
-use Rattle.replica_histories.specs.Logs.{above_mark, Descend, AreLatest}
+use Rattle.replica_histories.specs.Logs.{checkpoints_above, Descend, AreLatest}
 
 -- the log puts a checkpoint in the same place as the history
 pub inserts_same : (x : CheckpointEntry) (xs : List CheckpointEntry) → insert_checkpoint x xs ≡ held.insert_checkpoint x xs
@@ -71,7 +71,7 @@ with_latest x xs h = record { descend = take_descends 3 (insert_checkpoint x xs)
 
 -- ---- above a mark
 
-none_above : (low : ℕ) (xs : List CheckpointEntry) → Each (λ y. y.number ≤ low) xs → above_mark low xs ≡ []
+none_above : (low : ℕ) (xs : List CheckpointEntry) → Each (λ y. y.number ≤ low) xs → checkpoints_above low xs ≡ []
 none_above low [] h = refl
 none_above low (m ∷ ms) h = rw (le-ltb low m.number h.0) (none_above low ms h.1)
 
@@ -79,27 +79,27 @@ none_above low (m ∷ ms) h = rw (le-ltb low m.number h.0) (none_above low ms h.
 low_behind : (low : ℕ) (m : CheckpointEntry) (ms : List CheckpointEntry) → nat_lt low m.number ≡ false → Each (λ y. y.number < m.number) ms → Each (λ y. y.number ≤ low) ms
 low_behind low m ms e h = let l = ltb-false low m.number e in each_weaker (λ y. y.number < m.number) (λ y. y.number ≤ low) (λ y k. omega arith) ms h
 
-above_take : (low n : ℕ) (xs : List CheckpointEntry) → Descend xs → above_mark low (take n xs) ≡ take n (above_mark low xs)
+above_take : (low n : ℕ) (xs : List CheckpointEntry) → Descend xs → checkpoints_above low (take n xs) ≡ take n (checkpoints_above low xs)
 above_take low zero xs h = refl
 above_take low (suc n) [] h = refl
 above_take low (suc n) (m ∷ ms) h = go (nat_lt low m.number) refl (above_take low n ms h.1)
   where
-    go : (t : Bool) → nat_lt low m.number ≡ t → above_mark low (take n ms) ≡ take n (above_mark low ms) → cond t (m ∷ above_mark low (take n ms)) (above_mark low (take n ms)) ≡ take (suc n) (cond t (m ∷ above_mark low ms) (above_mark low ms))
+    go : (t : Bool) → nat_lt low m.number ≡ t → checkpoints_above low (take n ms) ≡ take n (checkpoints_above low ms) → cond t (m ∷ checkpoints_above low (take n ms)) (checkpoints_above low (take n ms)) ≡ take (suc n) (cond t (m ∷ checkpoints_above low ms) (checkpoints_above low ms))
     go true e below = ap (λ (ys : List CheckpointEntry). m ∷ ys) below
     go false e below =
         let behind = low_behind low m ms e h.0 in
         none_above low (take n ms) (each_take (λ y. y.number ≤ low) n ms behind) ∙ sym (ap (take (suc n)) (none_above low ms behind))
 
 -- a checkpoint above the mark is put among those above it
-above_insert : (low : ℕ) (x : CheckpointEntry) (xs : List CheckpointEntry) → Descend xs → nat_lt low x.number ≡ true → above_mark low (insert_checkpoint x xs) ≡ insert_checkpoint x (above_mark low xs)
+above_insert : (low : ℕ) (x : CheckpointEntry) (xs : List CheckpointEntry) → Descend xs → nat_lt low x.number ≡ true → checkpoints_above low (insert_checkpoint x xs) ≡ insert_checkpoint x (checkpoints_above low xs)
 above_insert low x [] h a = rw a refl
 above_insert low x (m ∷ ms) h a = go (m.number == x.number) (nat_lt m.number x.number) (nat_lt low m.number) refl refl refl (above_insert low x ms h.1 a)
   where
     over : low < x.number
     over = ltb-true low x.number a
 
-    go : (b d t : Bool) → (m.number == x.number) ≡ b → nat_lt m.number x.number ≡ d → nat_lt low m.number ≡ t → above_mark low (insert_checkpoint x ms) ≡ insert_checkpoint x (above_mark low ms)
-        → above_mark low (cond b (m ∷ ms) (cond d (x ∷ m ∷ ms) (m ∷ insert_checkpoint x ms))) ≡ insert_checkpoint x (cond t (m ∷ above_mark low ms) (above_mark low ms))
+    go : (b d t : Bool) → (m.number == x.number) ≡ b → nat_lt m.number x.number ≡ d → nat_lt low m.number ≡ t → checkpoints_above low (insert_checkpoint x ms) ≡ insert_checkpoint x (checkpoints_above low ms)
+        → checkpoints_above low (cond b (m ∷ ms) (cond d (x ∷ m ∷ ms) (m ∷ insert_checkpoint x ms))) ≡ insert_checkpoint x (cond t (m ∷ checkpoints_above low ms) (checkpoints_above low ms))
     go true d true e f g below = rw (g, e) refl
     go true d false e f g below = let o = over in let same = eqb-true m.number x.number e in let l = ltb-false low m.number g in absurd (omega arith)
     go false true true e f g below = rw (a, g, e, f) refl
@@ -108,38 +108,38 @@ above_insert low x (m ∷ ms) h a = go (m.number == x.number) (nat_lt m.number x
     go false false false e f g below = let o = over in let k = ltb-false m.number x.number f in let l = ltb-false low m.number g in absurd (omega arith)
 
 -- a checkpoint that is not above the mark changes nothing above it
-above_not : (low : ℕ) (x : CheckpointEntry) (xs : List CheckpointEntry) → nat_lt low x.number ≡ false → above_mark low (insert_checkpoint x xs) ≡ above_mark low xs
+above_not : (low : ℕ) (x : CheckpointEntry) (xs : List CheckpointEntry) → nat_lt low x.number ≡ false → checkpoints_above low (insert_checkpoint x xs) ≡ checkpoints_above low xs
 above_not low x [] a = rw a refl
 above_not low x (m ∷ ms) a = go (m.number == x.number) (nat_lt m.number x.number) (above_not low x ms a)
   where
-    go : (b d : Bool) → above_mark low (insert_checkpoint x ms) ≡ above_mark low ms → above_mark low (cond b (m ∷ ms) (cond d (x ∷ m ∷ ms) (m ∷ insert_checkpoint x ms))) ≡ above_mark low (m ∷ ms)
+    go : (b d : Bool) → checkpoints_above low (insert_checkpoint x ms) ≡ checkpoints_above low ms → checkpoints_above low (cond b (m ∷ ms) (cond d (x ∷ m ∷ ms) (m ∷ insert_checkpoint x ms))) ≡ checkpoints_above low (m ∷ ms)
     go true d same = refl
     go false true same = rw a refl
     go false false same = ap (λ (ys : List CheckpointEntry). cond (nat_lt low m.number) (m ∷ ys) ys) same
 
-length_above : (low : ℕ) (xs : List CheckpointEntry) → length (above_mark low xs) ≤ length xs
+length_above : (low : ℕ) (xs : List CheckpointEntry) → length (checkpoints_above low xs) ≤ length xs
 length_above low [] = omega arith
 length_above low (m ∷ ms) = go (nat_lt low m.number) (length_above low ms)
   where
-    go : (t : Bool) → length (above_mark low ms) ≤ length ms → length (cond t (m ∷ above_mark low ms) (above_mark low ms)) ≤ suc (length ms)
+    go : (t : Bool) → length (checkpoints_above low ms) ≤ length ms → length (cond t (m ∷ checkpoints_above low ms) (checkpoints_above low ms)) ≤ suc (length ms)
     go true l = omega arith
     go false l = omega arith
 
 -- so the checkpoints above the mark after one more depend only on those above it before
 pub above_with : (low : ℕ) (x : CheckpointEntry) (xs : List CheckpointEntry) → AreLatest xs
-    → above_mark low (take 3 (insert_checkpoint x xs)) ≡ cond (nat_lt low x.number) (take 3 (insert_checkpoint x (above_mark low xs))) (above_mark low xs)
+    → checkpoints_above low (take 3 (insert_checkpoint x xs)) ≡ cond (nat_lt low x.number) (take 3 (insert_checkpoint x (checkpoints_above low xs))) (checkpoints_above low xs)
 above_with low x xs h = above_take low 3 (insert_checkpoint x xs) (insert_descends x xs h.descend) ∙ go (nat_lt low x.number) refl
   where
-    go : (t : Bool) → nat_lt low x.number ≡ t → take 3 (above_mark low (insert_checkpoint x xs)) ≡ cond t (take 3 (insert_checkpoint x (above_mark low xs))) (above_mark low xs)
+    go : (t : Bool) → nat_lt low x.number ≡ t → take 3 (checkpoints_above low (insert_checkpoint x xs)) ≡ cond t (take 3 (insert_checkpoint x (checkpoints_above low xs))) (checkpoints_above low xs)
     go true e = ap (take 3) (above_insert low x xs h.descend e)
-    go false e = ap (take 3) (above_not low x xs e) ∙ take_all 3 (above_mark low xs) (let a = length_above low xs in let b = h.few in omega arith)
+    go false e = ap (take 3) (above_not low x xs e) ∙ take_all 3 (checkpoints_above low xs) (let a = length_above low xs in let b = h.few in omega arith)
 
 -- a checkpoint above a higher mark is above the lower one
-pub above_higher : (low high : ℕ) (xs : List CheckpointEntry) → low ≤ high → above_mark high (above_mark low xs) ≡ above_mark high xs
+pub above_higher : (low high : ℕ) (xs : List CheckpointEntry) → low ≤ high → checkpoints_above high (checkpoints_above low xs) ≡ checkpoints_above high xs
 above_higher low high [] l = refl
 above_higher low high (m ∷ ms) l = go (nat_lt low m.number) (nat_lt high m.number) refl refl (above_higher low high ms l)
   where
-    go : (t u : Bool) → nat_lt low m.number ≡ t → nat_lt high m.number ≡ u → above_mark high (above_mark low ms) ≡ above_mark high ms → above_mark high (cond t (m ∷ above_mark low ms) (above_mark low ms)) ≡ cond u (m ∷ above_mark high ms) (above_mark high ms)
+    go : (t u : Bool) → nat_lt low m.number ≡ t → nat_lt high m.number ≡ u → checkpoints_above high (checkpoints_above low ms) ≡ checkpoints_above high ms → checkpoints_above high (cond t (m ∷ checkpoints_above low ms) (checkpoints_above low ms)) ≡ cond u (m ∷ checkpoints_above high ms) (checkpoints_above high ms)
     go true true e f same = rw f (ap (λ (ys : List CheckpointEntry). m ∷ ys) same)
     go true false e f same = rw f same
     go false false e f same = same
@@ -148,20 +148,20 @@ above_higher low high (m ∷ ms) l = go (nat_lt low m.number) (nat_lt high m.num
 -- ---- whether a list has a checkpoint
 
 -- of a number above the mark
-pub says_above : (low : ℕ) (x : CheckpointEntry) (xs : List CheckpointEntry) → low < x.number → says_checkpoint x (above_mark low xs) ≡ says_checkpoint x xs
+pub says_above : (low : ℕ) (x : CheckpointEntry) (xs : List CheckpointEntry) → low < x.number → says_checkpoint x (checkpoints_above low xs) ≡ says_checkpoint x xs
 says_above low x [] l = refl
 says_above low x (m ∷ ms) l = go (nat_lt low m.number) refl (says_above low x ms l)
   where
-    go : (t : Bool) → nat_lt low m.number ≡ t → says_checkpoint x (above_mark low ms) ≡ says_checkpoint x ms → says_checkpoint x (cond t (m ∷ above_mark low ms) (above_mark low ms)) ≡ (((m.number == x.number) && bytes_eq m.digest x.digest) || says_checkpoint x ms)
+    go : (t : Bool) → nat_lt low m.number ≡ t → says_checkpoint x (checkpoints_above low ms) ≡ says_checkpoint x ms → says_checkpoint x (cond t (m ∷ checkpoints_above low ms) (checkpoints_above low ms)) ≡ (((m.number == x.number) && bytes_eq m.digest x.digest) || says_checkpoint x ms)
     go true e same = ap (λ (b : Bool). ((m.number == x.number) && bytes_eq m.digest x.digest) || b) same
     go false e same = let k = ltb-false low m.number e in let other = ne_eqb m.number x.number (λ is. absurd (omega arith)) in rw other same
 
 -- the same for its number alone
-pub number_above : (low k : ℕ) (xs : List CheckpointEntry) → low < k → has_number k (above_mark low xs) ≡ has_number k xs
+pub number_above : (low k : ℕ) (xs : List CheckpointEntry) → low < k → has_number k (checkpoints_above low xs) ≡ has_number k xs
 number_above low k [] l = refl
 number_above low k (m ∷ ms) l = go (nat_lt low m.number) refl (number_above low k ms l)
   where
-    go : (t : Bool) → nat_lt low m.number ≡ t → has_number k (above_mark low ms) ≡ has_number k ms → has_number k (cond t (m ∷ above_mark low ms) (above_mark low ms)) ≡ ((m.number == k) || has_number k ms)
+    go : (t : Bool) → nat_lt low m.number ≡ t → has_number k (checkpoints_above low ms) ≡ has_number k ms → has_number k (cond t (m ∷ checkpoints_above low ms) (checkpoints_above low ms)) ≡ ((m.number == k) || has_number k ms)
     go true e same = ap (λ (b : Bool). (m.number == k) || b) same
     go false e same = let a = ltb-false low m.number e in let other = ne_eqb m.number k (λ is. absurd (omega arith)) in rw other same
 
@@ -284,12 +284,12 @@ behind_latest s (Some x) xs h = go (x.0 == s)
     go false = h
 
 -- the checkpoints above the mark after one more depend only on those above it before
-pub behind_above : (low s : ℕ) (o : Option (ℕ × CheckpointEntry)) (xs ys : List CheckpointEntry) → AreLatest xs → AreLatest ys → above_mark low xs ≡ above_mark low ys
-    → above_mark low (with_checkpoint s o xs) ≡ above_mark low (with_checkpoint s o ys)
+pub behind_above : (low s : ℕ) (o : Option (ℕ × CheckpointEntry)) (xs ys : List CheckpointEntry) → AreLatest xs → AreLatest ys → checkpoints_above low xs ≡ checkpoints_above low ys
+    → checkpoints_above low (with_checkpoint s o xs) ≡ checkpoints_above low (with_checkpoint s o ys)
 behind_above low s None xs ys h k same = same
 behind_above low s (Some x) xs ys h k same = go (x.0 == s)
   where
-    go : (b : Bool) → above_mark low (cond b (take 3 (insert_checkpoint x.1 xs)) xs) ≡ above_mark low (cond b (take 3 (insert_checkpoint x.1 ys)) ys)
+    go : (b : Bool) → checkpoints_above low (cond b (take 3 (insert_checkpoint x.1 xs)) xs) ≡ checkpoints_above low (cond b (take 3 (insert_checkpoint x.1 ys)) ys)
     go true =
         above_with low x.1 xs h ∙ ap (λ (zs : List CheckpointEntry). cond (nat_lt low x.1.number) (take 3 (insert_checkpoint x.1 zs)) zs) same ∙ sym (above_with low x.1 ys k)
     go false = same

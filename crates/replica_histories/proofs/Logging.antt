@@ -18,7 +18,7 @@ use Rattle.protocol.specs.Replica.Certificates.{brought, view, view_after, targe
 use Rattle.protocol.specs.Replica.Owed.{BeginsViewWith}
 use Rattle.protocol.proofs.Words.Options.{or_else_alone, or_else_cases, or_else_second}
 use Rattle.protocol.proofs.Words.Plain.{Plain, taken_none}
-use Rattle.replica_histories.specs.Logs.{above_mark, AreLatest, IsWithin, FitsViews, FitsLog, IsVoted, Stays, while_active, Takes}
+use Rattle.replica_histories.specs.Logs.{checkpoints_above, AreLatest, MayBeLogged, FitsViews, FitsLog, IsVoted, LogStays, while_active, LogTakesBody}
 use Rattle.replica_histories.proofs.Words.{apart, marks_are, marks_stay, below_marks}
 use Rattle.replica_histories.proofs.Latest.{behind_above}
 use Rattle.replica_histories.proofs.Certified.{active, active_view, Same, same_turned, prepared_back, committed_back}
@@ -76,13 +76,13 @@ unfolding view
 view_quiet c past e none = after_none (view c past) (target past) (new_view_in c e) none
 
 -- above the mark it adds no checkpoint that the log lacks
-checks_quiet : (c : Configuration) (me : ℕ) (log new : LogData) (past : List Entry) (e : Entry) → FitsLog c me log past → Takes c me (brought c e) log new → (s : ℕ)
-    → above_mark log.low (checkpoints_of c (e ∷ past) s) ≡ above_mark log.low (logs.checkpoints_of log s)
+checks_quiet : (c : Configuration) (me : ℕ) (log new : LogData) (past : List Entry) (e : Entry) → FitsLog c me log past → LogTakesBody c me (brought c e) log new → (s : ℕ)
+    → checkpoints_above log.low (checkpoints_of c (e ∷ past) s) ≡ checkpoints_above log.low (logs.checkpoints_of log s)
 unfolding checkpoints_of
 checks_quiet c me log new past e f t s = behind_above log.low s (checkpoint_in c e) (checkpoints_of c past s) (logs.checkpoints_of log s) (latest_of c past s) (f.latest s) (f.checkpoints s) ∙ t.checkpoint s
 
 -- so the low mark stays
-pub low_goes : (c : Configuration) (me : ℕ) (log new : LogData) (past : List Entry) (e : Entry) → FitsLog c me log past → Quiet c past e → Takes c me (brought c e) log new → low c me (e ∷ past) ≡ low c me past
+pub low_goes : (c : Configuration) (me : ℕ) (log new : LogData) (past : List Entry) (e : Entry) → FitsLog c me log past → Quiet c past e → LogTakesBody c me (brought c e) log new → low c me (e ∷ past) ≡ low c me past
 unfolding low
 low_goes c me log new past e f q t =
     let stable : stable_at c me past e ≤ low c me past = most (checkpoint_in c e) in
@@ -139,13 +139,13 @@ pub record Read (c : Configuration) (me : ℕ) (log : LogData) (past : List Entr
       → (vote_in c me past e (prepare_from c s v i) v i ≡ None) × (vote_in c me past e (commit_from s v i) v i ≡ None)
 
 -- a number within the marks, in the view of the log
-pub within_marks : (log : LogData) (v i : ℕ) → v ≡ log.view → logs.is_in_marks log i ≡ true → IsWithin log v i
+pub within_marks : (log : LogData) (v i : ℕ) → v ≡ log.view → logs.is_in_marks log i ≡ true → MayBeLogged log v i
 within_marks log v i at k =
     let p = and_parts (nat_lt log.low i && nat_le i (log.low + log.span)) (nat_lt i (2 ^ 48)) k in
     let q = and_parts (nat_lt log.low i) (nat_le i (log.low + log.span)) p.0 in
     record { view = omega arith; marks = λ same. inr k; ahead = (leb-true i (log.low + log.span) q.1, ltb-true i (2 ^ 48) p.1) }
 
-pub within_stays : (log new : LogData) (v i : ℕ) → Stays log new → IsWithin log v i → IsWithin new v i
+pub within_stays : (log new : LogData) (v i : ℕ) → LogStays log new → MayBeLogged log v i → MayBeLogged new v i
 within_stays log new v i s w = record {
   view = subst (λ (x : ℕ). v ≤ x) (sym s.view) w.view;
   marks = λ at. there (w.marks (at ∙ s.view));
@@ -200,7 +200,7 @@ same_resting c me log past e v i r resting = at_view (v == log.view) refl
     at_view false h = same_elsewhere c me log past e v i r (inl (eqb-false v log.view h))
 
 -- the log keeps what it has of other views
-module _ (c : Configuration) (me : ℕ) (log new : LogData) (past : List Entry) (e : Entry) (f : FitsLog c me log past) (r : Read c me log past e) (t : Takes c me (brought c e) log new) where
+module _ (c : Configuration) (me : ℕ) (log new : LogData) (past : List Entry) (e : Entry) (f : FitsLog c me log past) (r : Read c me log past e) (t : LogTakesBody c me (brought c e) log new) where
   -- a view below the current one, or any if the replica is inactive
   same_earlier : (v i : ℕ) → (v < log.view) ⊎ (log.active ≡ false) → Same c me (e ∷ past) past v i
   same_earlier v i (inl below) = same_elsewhere c me log past e v i r (inl (λ same. absurd (omega arith)))
@@ -235,7 +235,7 @@ module _ (c : Configuration) (me : ℕ) (log new : LogData) (past : List Entry) 
         (same.prepare s ∙ none.0, same.commit s ∙ none.1);
   }
 
-pub log_goes : (c : Configuration) (me : ℕ) (log new : LogData) (past : List Entry) (e : Entry) → FitsLog c me log past → Read c me log past e → Takes c me (brought c e) log new → FitsLog c me new (e ∷ past)
+pub log_goes : (c : Configuration) (me : ℕ) (log new : LogData) (past : List Entry) (e : Entry) → FitsLog c me log past → Read c me log past e → LogTakesBody c me (brought c e) log new → FitsLog c me new (e ∷ past)
 unfolding logged prepare_of commit_of
 log_goes c me log new past e f r t = record {
   is_log = t.stays.is_log;
@@ -262,8 +262,8 @@ log_goes c me log new past e f r t = record {
   settled = λ is i batch l h. at_view (λ v. IsVoted c me (e ∷ past) v i batch)
       (settled i batch (subst (λ (n : ℕ). i ≤ n) el l) (sym t.stays.active ∙ is) (subst (λ (v : ℕ). logged c me (e ∷ past) v i ≡ Some batch) ev h));
   views = views_go c me log new past e f r t;
-  checkpoints = λ s. subst (λ (n : ℕ). above_mark n (checkpoints_of c (e ∷ past) s) ≡ above_mark n (logs.checkpoints_of new s)) (sym el)
-      (checks_quiet c me log new past e f t s ∙ ap (above_mark log.low) (held s));
+  checkpoints = λ s. subst (λ (n : ℕ). checkpoints_above n (checkpoints_of c (e ∷ past) s) ≡ checkpoints_above n (logs.checkpoints_of new s)) (sym el)
+      (checks_quiet c me log new past e f t s ∙ ap (checkpoints_above log.low) (held s));
   latest = λ s. subst AreLatest (held s) (f.latest s);
 }
   where
@@ -287,7 +287,7 @@ log_goes c me log new past e f r t = record {
         ap (λ (o : Option (List ℕ)). or_else o (proposal c me past e log.view i)) (f.batches i k)
         ∙ ap (or_else (logs.logged_batch log i)) (proposal_quiet c me past e log.view i r.quiet.no_view ∙ r.batch i k) ∙ sym (t.batch i k)
 
-    within : (v i : ℕ) (batch : List ℕ) → (logged c me past v i ≡ Some batch) ⊎ (proposal c me past e v i ≡ Some batch) → IsWithin log v i
+    within : (v i : ℕ) (batch : List ℕ) → (logged c me past v i ≡ Some batch) ⊎ (proposal c me past e v i ≡ Some batch) → MayBeLogged log v i
     within v i batch (inl h) = f.within v i batch h
     within v i batch (inr h) = let w = r.place v i batch (sym (proposal_quiet c me past e v i r.quiet.no_view) ∙ h) in within_marks log v i w.0 w.1
 

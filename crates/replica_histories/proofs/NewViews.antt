@@ -25,8 +25,8 @@ use Rattle.state_transfer.specs.Transfer.{TransferData}
 use Rattle.protocol.proofs.Words.Reacting.{proceeds_leaves}
 use Rattle.replica_histories.specs.Desk.{Desk, snapshot_of, point_of}
 use Rattle.replica_histories.specs.Logs.{FitsLog}
-use Rattle.replica_histories.specs.Transfers.{FitsOpen, MayAsk, AsksNext, transfer_to, open_number}
-use Rattle.replica_histories.specs.Events.{after_outputs, IsOnItsWay, IsAsked, MaySayDue, IsReached, IsFetched}
+use Rattle.replica_histories.specs.Transfers.{FitsOpenTransfer, TransferMayAsk, AsksNext, transfer_to, open_number}
+use Rattle.replica_histories.specs.Events.{after_outputs, IsOnItsWay, IsRepeatedRequest, MaySayDue, LowMarkIsReached, IsFetchedOrDue}
 use Rattle.replica_histories.specs.Views.{begun_log, start_due, NewViewsEnter, NewViewsFit, StartsMayAsk}
 use Rattle.replica_histories.proofs.Words.{given_not}
 use Rattle.replica_histories.proofs.Certified.{committed_there}
@@ -61,15 +61,15 @@ module _ (c : Configuration) (me : ℕ) (log : LogData) (past : List Entry) (e :
           let above = new_above c me log past e new f q t in
           still_committed c me past e q v i batch (logged_before c me log past e new f q t v i batch (omega arith) k.prepared.logged) k
 
-  module _ (desk : Desk) (opened : FitsOpen c me desk.transfer desk.state.number past) where
+  module _ (desk : Desk) (opened : FitsOpenTransfer c me desk.transfer desk.state.number past) where
     is_ahead : Bool
     is_ahead = nat_lt (open_number desk.state.number desk.transfer) new.start
 
     -- a start above the executed number is fetched, or its fetch is due
-    start_fetched : desk.state.number < new.start → IsFetched new.start (start_due desk new) (e ∷ past)
+    start_fetched : desk.state.number < new.start → IsFetchedOrDue new.start (start_due desk new) (e ∷ past)
     start_fetched above = go (nat_lt (open_number desk.state.number desk.transfer) new.start) refl
       where
-        go : (b : Bool) → nat_lt (open_number desk.state.number desk.transfer) new.start ≡ b → IsFetched new.start (cond b (Fetch new.start levels.Root 0 ∷ []) []) (e ∷ past)
+        go : (b : Bool) → nat_lt (open_number desk.state.number desk.transfer) new.start ≡ b → IsFetchedOrDue new.start (cond b (Fetch new.start levels.Root 0 ∷ []) []) (e ∷ past)
         go true l = inr (inl refl)
         go false l =
             let least = lower_are_fetched c me desk.transfer desk.state.number new.start past above (ltb-false (open_number desk.state.number desk.transfer) new.start l) opened in
@@ -90,38 +90,38 @@ module _ (c : Configuration) (me : ℕ) (log : LogData) (past : List Entry) (e :
             absurd (omega (arith, least, newer, same))
 
     -- the low mark is reached if it was, and no batch is committed for the next number
-    begun_reached : IsReached c me log.low desk.state.number [] past → (log.low ≤ desk.state.number → (v : ℕ) (batch : List ℕ) → Committed c me past v (suc desk.state.number) batch → ⊥)
-        → IsReached c me (begun_log log new).low desk.state.number (start_due desk new) (e ∷ past)
+    begun_reached : LowMarkIsReached c me log.low desk.state.number [] past → (log.low ≤ desk.state.number → (v : ℕ) (batch : List ℕ) → Committed c me past v (suc desk.state.number) batch → ⊥)
+        → LowMarkIsReached c me (begun_log log new).low desk.state.number (start_due desk new) (e ∷ past)
     begun_reached was next = go (nat_le (begun_log log new).low desk.state.number) refl
       where
         low_is : (begun_log log new).low ≡ max log.low new.start
         low_is = begun_low log new f.is_log (new_small c me log past e new f q t)
 
-        none : IsReached c me log.low desk.state.number [] past → (v : ℕ) (batch : List ℕ) → Committed c me (e ∷ past) v (suc desk.state.number) batch → ⊥
+        none : LowMarkIsReached c me log.low desk.state.number [] past → (v : ℕ) (batch : List ℕ) → Committed c me (e ∷ past) v (suc desk.state.number) batch → ⊥
         none (inl l) v batch k = next l v batch (committed_before v (suc desk.state.number) batch k)
         none (inr h) v batch k = h.1 v batch (committed_before v (suc desk.state.number) batch k)
 
-        old : desk.state.number < log.low → IsReached c me log.low desk.state.number [] past → IsFetched log.low (start_due desk new) (e ∷ past)
+        old : desk.state.number < log.low → LowMarkIsReached c me log.low desk.state.number [] past → IsFetchedOrDue log.low (start_due desk new) (e ∷ past)
         old above (inl l) = absurd (omega arith)
         old above (inr h) = at h.0
           where
-            at : IsFetched log.low [] past → IsFetched log.low (start_due desk new) (e ∷ past)
+            at : IsFetchedOrDue log.low [] past → IsFetchedOrDue log.low (start_due desk new) (e ∷ past)
             at (inl l) = inl (omega arith)
             at (inr d) = absurd d
 
-        fetched : desk.state.number < (begun_log log new).low → (b : Bool) → nat_lt log.low new.start ≡ b → IsFetched (begun_log log new).low (start_due desk new) (e ∷ past)
+        fetched : desk.state.number < (begun_log log new).low → (b : Bool) → nat_lt log.low new.start ≡ b → IsFetchedOrDue (begun_log log new).low (start_due desk new) (e ∷ past)
         fetched above true l =
             let over = ltb-true log.low new.start l in
             let is = low_is in
             let same : new.start ≡ (begun_log log new).low = omega arith in
-            subst (λ (n : ℕ). IsFetched n (start_due desk new) (e ∷ past)) same (start_fetched (omega arith))
+            subst (λ (n : ℕ). IsFetchedOrDue n (start_due desk new) (e ∷ past)) same (start_fetched (omega arith))
         fetched above false l =
             let under = ltb-false log.low new.start l in
             let is = low_is in
             let same : log.low ≡ (begun_log log new).low = omega arith in
-            subst (λ (n : ℕ). IsFetched n (start_due desk new) (e ∷ past)) same (old (omega arith) was)
+            subst (λ (n : ℕ). IsFetchedOrDue n (start_due desk new) (e ∷ past)) same (old (omega arith) was)
 
-        go : (b : Bool) → nat_le (begun_log log new).low desk.state.number ≡ b → IsReached c me (begun_log log new).low desk.state.number (start_due desk new) (e ∷ past)
+        go : (b : Bool) → nat_le (begun_log log new).low desk.state.number ≡ b → LowMarkIsReached c me (begun_log log new).low desk.state.number (start_due desk new) (e ∷ past)
         go true l = inl (leb-true (begun_log log new).low desk.state.number l)
         go false l = inr (fetched (leb-false (begun_log log new).low desk.state.number l) (nat_lt log.low new.start) refl, none was)
 
@@ -191,7 +191,7 @@ new_views_enter c me desk log past s new bytes held h t = record {
     waits : waiting_after c me old bytes ≡ old.waiting
     waits = ap (λ (o : Option Body). option_map_or (with_waiting old.state old.waiting) (option_and_then (call_in c) o) old.waiting) h
 
-    asks_nothing : (k : ℕ) (kept : Kept) → IsAsked c me (record { before = past; input = e; old = old }) k kept → ⊥
+    asks_nothing : (k : ℕ) (kept : Kept) → IsRepeatedRequest c me (record { before = past; input = e; old = old }) k kept → ⊥
     asks_nothing k kept a =
         let hears : heard (members c) me bytes ≡ Some (record { sender = 256 + k; message = Request a.0 modes.Ordered a.1 }) = a.2 in
         let same : ◌≡◌ {A = Body} (record { sender = s; message = NewView new }) (record { sender = 256 + k; message = Request a.0 modes.Ordered a.1 }) = some_injective _ _ (sym h ∙ hears) in
@@ -278,7 +278,7 @@ starts_may_ask c me s desk log due outputs new pages once above f = go desk.tran
     wanted : IsRootWanted c history new.start new.root
     wanted = inr (once_weaker (λ past e. taken c past e ≡ Some new) (StartsAt c new.start new.root) (λ past e h. (new, h, refl, refl)) history once)
 
-    go : (o : Option TransferData) → open_number desk.state.number o < new.start → FitsOpen c me o desk.state.number history
-        → MayAsk c me (transfer_to o new.start new.root pages) desk.state.number history × AsksNext c me (transfer_to o new.start new.root pages) desk.state history
+    go : (o : Option TransferData) → open_number desk.state.number o < new.start → FitsOpenTransfer c me o desk.state.number history
+        → TransferMayAsk c me (transfer_to o new.start new.root pages) desk.state.number history × AsksNext c me (transfer_to o new.start new.root pages) desk.state history
     go None l o = let most = o.0 in (start_may_ask c me desk.state.number new.start new.root pages history wanted l o, inl (omega arith))
     go (Some t) l o = let newest = o.0.newest in (move_may_ask c me desk.state.number new.start new.root t history wanted l o, inl (omega arith))

@@ -15,7 +15,7 @@ use Rattle.protocol.specs.Replica.Owed.{IsOfView, HasRequest, IsNumbered}
 use Rattle.protocol.proofs.Words.Options.{and_then_some, some_injective, or_else_second, or_else_alone}
 use Rattle.protocol.proofs.Words.Elements.{has_some, has_weaker, has_left, has_right, has_either, has_map, has_mapped, each_mapped, each_where}
 use Rattle.protocol.proofs.Agreement.Marks.{takes, begins, few_batches, selected_in, proposes}
-use Rattle.replica_histories.specs.Numbers.{Waiting, BegunCall, begun_in, is_begun, arrived, IsBegun, HasNumber, HasNone, IsRightly, AreOfNoLaterView, LogsAreOfNoLaterView, LaterNumberNothing, ViewsBegin}
+use Rattle.replica_histories.specs.Numbers.{Waiting, BegunCall, begun_in, is_begun, arrived, IsInNewView, CallHasNumber, CallHasNoNumber, IsRightly, AreOfNoLaterView, LogsAreOfNoLaterView, LaterNumberNothing, ViewsBegin}
 use Rattle.replica_histories.proofs.Words.{passed, apart, given_not}
 use Rattle.replica_histories.proofs.NumbersLists.{IsAt, Spells}
 use Rattle.replica_histories.proofs.NumbersFlags.{begun_is, is_begun_where}
@@ -83,7 +83,7 @@ module _ (c : Configuration) (client timestamp : ℕ) where
   IsIt = λ b. (b.client ≡ client) × (b.timestamp ≡ timestamp)
 
   -- the new view has a call if some batch has its request
-  in_batches : (batches : List (List ℕ)) → IsBegun (begun_in c batches) client timestamp → Has (HasRequest c client timestamp) batches
+  in_batches : (batches : List (List ℕ)) → IsInNewView (begun_in c batches) client timestamp → Has (HasRequest c client timestamp) batches
   in_batches batches h =
       let calls = has_map IsIt begun_by (filter_map (call_of c) (flat_map requests_of batches)) h in
       let frames = given_mapped (IsAt client timestamp) (call_of c) (flat_map requests_of batches) calls in
@@ -91,7 +91,7 @@ module _ (c : Configuration) (client timestamp : ℕ) where
       (λ batch. has_weaker IsGiven (Spells c client timestamp) (λ frame x. (x.0, x.1, x.2.0, x.2.1)) (requests_of batch)) batches
       (has_joined IsGiven requests_of batches frames)
 
-  of_batches : (batches : List (List ℕ)) → Has (HasRequest c client timestamp) batches → IsBegun (begun_in c batches) client timestamp
+  of_batches : (batches : List (List ℕ)) → Has (HasRequest c client timestamp) batches → IsInNewView (begun_in c batches) client timestamp
   of_batches batches h =
       has_mapped IsIt begun_by (filter_map (call_of c) (flat_map requests_of batches))
       (mapped_given (IsAt client timestamp) (call_of c) (flat_map requests_of batches) (joined_has IsGiven requests_of batches
@@ -191,11 +191,11 @@ module _ (c : Configuration) (me : ℕ) (past : List Entry) (e : Entry) (new : N
       subst (λ (x : NewViewData). Has (λ y. y ≡ batch) x.batches) (some_injective other new (sym taken_is ∙ enters)) has
   of_view batch (inr (inr before)) = let below = none.begun new.view batch before in let over = above in absurd (omega (arith, over, below))
 
-  known : (client timestamp : ℕ) → IsNumbered c me now new.view client timestamp → IsBegun (begun_in c new.batches) client timestamp
+  known : (client timestamp : ℕ) → IsNumbered c me now new.view client timestamp → IsInNewView (begun_in c new.batches) client timestamp
   known client timestamp (batch, of, has) = of_batches c client timestamp new.batches
       (has_weaker (λ x. x ≡ batch) (HasRequest c client timestamp) (λ x same. subst (HasRequest c client timestamp) (sym same) has) new.batches (of_view batch of))
 
-  numbered : (client timestamp : ℕ) → IsBegun (begun_in c new.batches) client timestamp → IsNumbered c me now new.view client timestamp
+  numbered : (client timestamp : ℕ) → IsInNewView (begun_in c new.batches) client timestamp → IsNumbered c me now new.view client timestamp
   numbered client timestamp h =
       let x = has_some (HasRequest c client timestamp) new.batches (in_batches c client timestamp new.batches h) in
       (x.0, inr (inl (new, enters, refl, x.1)), x.2)
@@ -203,7 +203,7 @@ module _ (c : Configuration) (me : ℕ) (past : List Entry) (e : Entry) (new : N
   rightly : (call : Call) → IsRightly c me new.view now (arrived (begun_in c new.batches) call)
   rightly call = go (is_begun (begun_in c new.batches) call) refl
     where
-      go : (b : Bool) → is_begun (begun_in c new.batches) call ≡ b → either b (HasNumber c me new.view now call) (HasNone c me new.view now call)
+      go : (b : Bool) → is_begun (begun_in c new.batches) call ≡ b → either b (CallHasNumber c me new.view now call) (CallHasNoNumber c me new.view now call)
       go true h = numbered call.client call.timestamp (begun_is (begun_in c new.batches) call h)
       go false h = λ has. apart (is_begun (begun_in c new.batches) call) (is_begun_where (begun_in c new.batches) call (known call.client call.timestamp has)) h
 

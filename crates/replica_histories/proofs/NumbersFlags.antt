@@ -8,7 +8,7 @@ use Rattle.protocol.specs.System.Trace.{Entry, Has, either}
 use Rattle.protocol.specs.Replica.State.{Call}
 use Rattle.protocol.specs.Replica.Owed.{IsNumbered}
 use Rattle.protocol.proofs.Words.Elements.{has_some, has_of_any, any_of_has, each_has, each_filtered}
-use Rattle.replica_histories.specs.Numbers.{Waiting, BegunCall, calls_of, unnumbered, count_unnumbered, with_numbered, is_begun, IsBegun, HasNumber, HasNone, IsRightly}
+use Rattle.replica_histories.specs.Numbers.{Waiting, BegunCall, calls_of, unnumbered, count_unnumbered, with_numbered, is_begun, IsInNewView, CallHasNumber, CallHasNoNumber, IsRightly}
 
 -- ---- the one or the other
 
@@ -19,23 +19,23 @@ either_weaker false f g h = g h
 -- a waiting request has a number if its flag says so, and none if it doesn't
 module _ (c : Configuration) (me v : ℕ) (history : List Entry) (w : Waiting) where
   abbrev IsSo : Bool → Type 0
-  IsSo = λ b. either b (HasNumber c me v history w.call) (HasNone c me v history w.call)
+  IsSo = λ b. either b (CallHasNumber c me v history w.call) (CallHasNoNumber c me v history w.call)
 
-  pub flag_has : w.numbered ≡ true → IsRightly c me v history w → HasNumber c me v history w.call
+  pub flag_has : w.numbered ≡ true → IsRightly c me v history w → CallHasNumber c me v history w.call
   flag_has e h = subst IsSo e h
 
-  pub flag_lacks : w.numbered ≡ false → IsRightly c me v history w → HasNone c me v history w.call
+  pub flag_lacks : w.numbered ≡ false → IsRightly c me v history w → CallHasNoNumber c me v history w.call
   flag_lacks e h = subst IsSo e h
 
-  pub has_flag : w.numbered ≡ true → HasNumber c me v history w.call → IsRightly c me v history w
+  pub has_flag : w.numbered ≡ true → CallHasNumber c me v history w.call → IsRightly c me v history w
   has_flag e h = subst IsSo (sym e) h
 
-  pub lacks_flag : w.numbered ≡ false → HasNone c me v history w.call → IsRightly c me v history w
+  pub lacks_flag : w.numbered ≡ false → CallHasNoNumber c me v history w.call → IsRightly c me v history w
   lacks_flag e h = subst IsSo (sym e) h
 
-pub rightly_none : (c : Configuration) (me v : ℕ) (history : List Entry) (ws : List Waiting) → Each (IsRightly c me v history) ws → Each (λ w. HasNone c me v history w.call) (unnumbered ws)
+pub rightly_none : (c : Configuration) (me v : ℕ) (history : List Entry) (ws : List Waiting) → Each (IsRightly c me v history) ws → Each (λ w. CallHasNoNumber c me v history w.call) (unnumbered ws)
 rightly_none c me v history ws h =
-    each_filtered (IsRightly c me v history) (λ w. HasNone c me v history w.call) (λ w. not w.numbered) (λ w e. flag_lacks c me v history w (not-true w.numbered e)) ws h
+    each_filtered (IsRightly c me v history) (λ w. CallHasNoNumber c me v history w.call) (λ w. not w.numbered) (λ w e. flag_lacks c me v history w (not-true w.numbered e)) ws h
 
 -- ---- the first ones get numbers
 
@@ -129,13 +129,13 @@ fewer_unnumbered test (w ∷ ws) = go (test w) (fewer_unnumbered test ws)
 -- ---- the calls of a new view
 
 -- the new view has the call exactly if one of these is that call
-pub begun_is : (begun : List BegunCall) (call : Call) → is_begun begun call ≡ true → IsBegun begun call.client call.timestamp
+pub begun_is : (begun : List BegunCall) (call : Call) → is_begun begun call ≡ true → IsInNewView begun call.client call.timestamp
 begun_is begun call h = has_of_any (λ b. (b.client ≡ call.client) × (b.timestamp ≡ call.timestamp)) (λ b. (b.client == call.client) && (b.timestamp == call.timestamp)) of begun h
   where
     of : (b : BegunCall) → ((b.client == call.client) && (b.timestamp == call.timestamp)) ≡ true → (b.client ≡ call.client) × (b.timestamp ≡ call.timestamp)
     of b e = let p = and_parts (b.client == call.client) (b.timestamp == call.timestamp) e in (eqb-true b.client call.client p.0, eqb-true b.timestamp call.timestamp p.1)
 
-pub is_begun_where : (begun : List BegunCall) (call : Call) → IsBegun begun call.client call.timestamp → is_begun begun call ≡ true
+pub is_begun_where : (begun : List BegunCall) (call : Call) → IsInNewView begun call.client call.timestamp → is_begun begun call ≡ true
 is_begun_where begun call h = any_of_has (λ b. (b.client ≡ call.client) × (b.timestamp ≡ call.timestamp)) (λ b. (b.client == call.client) && (b.timestamp == call.timestamp)) so begun h
   where
     so : (b : BegunCall) → (b.client ≡ call.client) × (b.timestamp ≡ call.timestamp) → ((b.client == call.client) && (b.timestamp == call.timestamp)) ≡ true
@@ -143,7 +143,7 @@ is_begun_where begun call h = any_of_has (λ b. (b.client ≡ call.client) × (b
 
 -- and has a number
 pub begun_numbered : (c : Configuration) (me v client timestamp : ℕ) (history : List Entry) (begun : List BegunCall)
-    → Each (λ b. IsNumbered c me history v b.client b.timestamp) begun → IsBegun begun client timestamp → IsNumbered c me history v client timestamp
+    → Each (λ b. IsNumbered c me history v b.client b.timestamp) begun → IsInNewView begun client timestamp → IsNumbered c me history v client timestamp
 begun_numbered c me v client timestamp history begun each h =
     let x = has_some (λ (b : BegunCall). (b.client ≡ client) × (b.timestamp ≡ timestamp)) begun h in
     subst (λ (k : ℕ). IsNumbered c me history v k timestamp) x.2.0 (subst (λ (t : ℕ). IsNumbered c me history v x.0.client t) x.2.1

@@ -18,7 +18,7 @@ use Rattle.protocol.specs.Replica.Owed.{IsNumbered, HasRequest, AreDifferent, Nu
 use Rattle.protocol.proofs.Words.Options.{some_injective, or_else_second}
 use Rattle.protocol.proofs.Words.Elements.{has_some, has_weaker, has_filter, has_map, has_mapped, each_has, each_weaker}
 use Rattle.protocol.proofs.Words.Pairs.{Pairs, pairs_of, all_pairs}
-use Rattle.replica_histories.specs.Numbers.{Waiting, BegunCall, calls_of, unnumbered, with_numbered, IsKnown, IsBegun, HasNumber, HasNone, IsRightly, FitsNumbers, AreCalls, NumbersFit}
+use Rattle.replica_histories.specs.Numbers.{Waiting, BegunCall, calls_of, unnumbered, with_numbered, CallIsKnown, IsInNewView, CallHasNumber, CallHasNoNumber, IsRightly, FitsNumbers, AreCalls, NumbersFit}
 use Rattle.replica_histories.proofs.Words.{given_not}
 use Rattle.replica_histories.proofs.NumbersFlags.{flag_has, has_flag, lacks_flag, rightly_none, calls_numbered, each_numbered}
 use Rattle.replica_histories.proofs.NumbersLists.{each_front, each_back, has_taken, pairs_kept, pairs_mapped, pairs_unmapped, pairs_front, pairs_across, IsAt, Covers, spelled_at, call_spelled, Differ, frames_differ}
@@ -56,7 +56,7 @@ module _ (c : Configuration) (me v used i most : ℕ) (begun : List BegunCall) (
   now = Sent me bytes ∷ past
 
   abbrev HadNone : Waiting → Type 0
-  HadNone = λ w. HasNone c me v past w.call
+  HadNone = λ w. CallHasNoNumber c me v past w.call
 
   abbrev Apart : Waiting → Waiting → Type 0
   Apart = λ w x. Differ c w.call x.call
@@ -113,7 +113,7 @@ module _ (c : Configuration) (me v used i most : ℕ) (begun : List BegunCall) (
   stays : (client timestamp : ℕ) → IsNumbered c me past v client timestamp → IsNumbered c me now v client timestamp
   stays client timestamp = numbered_stays c me v client timestamp past (Sent me bytes)
 
-  has_number : (w : Waiting) → Has (λ x. x ≡ w) oldest → HasNumber c me v now w.call
+  has_number : (w : Waiting) → Has (λ x. x ≡ w) oldest → CallHasNumber c me v now w.call
   has_number w has = (
     batch,
     inl (i, there),
@@ -121,7 +121,7 @@ module _ (c : Configuration) (me v used i most : ℕ) (begun : List BegunCall) (
         (has_mapped (λ x. x ≡ w.call) (λ (x : Waiting). x.call) oldest (has_weaker (λ x. x ≡ w) (λ (x : Waiting). x.call ≡ w.call) (λ x. ap (λ (y : Waiting). y.call)) oldest has)),
   )
 
-  has_none : (w : Waiting) → Has (λ x. x ≡ w) later → HasNone c me v now w.call
+  has_none : (w : Waiting) → Has (λ x. x ≡ w) later → CallHasNoNumber c me v now w.call
   has_none w has numbered = go (numbered_back w.call.client w.call.timestamp numbered)
     where
       go : Has (IsAt w.call.client w.call.timestamp) calls ⊎ IsNumbered c me past v w.call.client w.call.timestamp → ⊥
@@ -137,7 +137,7 @@ module _ (c : Configuration) (me v used i most : ℕ) (begun : List BegunCall) (
       old : (w : Waiting) → w.numbered ≡ true → IsRightly c me v past w → IsRightly c me v now w
       old w e was = has_flag c me v now w e (stays w.call.client w.call.timestamp (flag_has c me v past w e was))
 
-  known : (client timestamp : ℕ) → Has (IsAt client timestamp) calls ⊎ IsNumbered c me past v client timestamp → IsKnown st waiting client timestamp ⊎ IsBegun begun client timestamp
+  known : (client timestamp : ℕ) → Has (IsAt client timestamp) calls ⊎ IsNumbered c me past v client timestamp → CallIsKnown st waiting client timestamp ⊎ IsInNewView begun client timestamp
   known client timestamp (inr was) = f.known client timestamp was
   known client timestamp (inl new) = inl (inr (subst (Has (Covers client timestamp)) f.calls (has_mapped (Covers client timestamp) (λ (w : Waiting). w.call) entries
       (has_filter (λ (w : Waiting). Covers client timestamp w.call) (λ w. not w.numbered) entries (has_taken (λ (w : Waiting). Covers client timestamp w.call) most (unnumbered entries)

@@ -16,7 +16,7 @@ use Rattle.protocol.specs.Replica.RightReplica.{is_newer, with_waiting, still_wa
 use Rattle.protocol.proofs.Words.Leaving.{last_put}
 use Rattle.protocol.proofs.Words.Elements.{has_some, has_weaker, has_left, has_right, has_filtered, each_has, each_with, each_filtered, each_of_all, each_where}
 use Rattle.protocol.proofs.Words.Pairs.{pairs_of, all_pairs}
-use Rattle.replica_histories.specs.Numbers.{Waiting, BegunCall, calls_of, is_begun, arrived, IsKnown, IsBegun, HasNumber, HasNone, IsRightly, FitsNumbers, entries_with, RequestsFit, InputsKeepNumbers, NoneFalls, StatesFit, ExecutionsRaise, StatesLeaveNoMore}
+use Rattle.replica_histories.specs.Numbers.{Waiting, BegunCall, calls_of, is_begun, arrived, CallIsKnown, IsInNewView, CallHasNumber, CallHasNoNumber, IsRightly, FitsNumbers, entries_with, RequestsFit, InputsKeepNumbers, NoneFalls, StatesFit, ExecutionsRaise, StatesLeaveNoMore}
 use Rattle.replica_histories.proofs.Words.{apart}
 use Rattle.replica_histories.proofs.NumbersFlags.{begun_is, is_begun_where, begun_numbered, fewer_unnumbered}
 use Rattle.replica_histories.proofs.NumbersLists.{mapped_kept, pairs_with, Differ, Covers}
@@ -48,7 +48,7 @@ module _ (c : Configuration) (me v used : ℕ) (begun : List BegunCall) (entries
           ltb-true x.timestamp call.timestamp tests
 
   -- so it has a number only if a new view assigned it
-  unknown : IsKnown st all_calls call.client call.timestamp → ⊥
+  unknown : CallIsKnown st all_calls call.client call.timestamp → ⊥
   unknown (inl ran) = omega (arith, unseen, ran)
   unknown (inr waits) =
       let x = has_some (λ (y : Call). (y.client ≡ call.client) × (call.timestamp ≤ y.timestamp)) all_calls waits in
@@ -56,22 +56,22 @@ module _ (c : Configuration) (me v used : ℕ) (begun : List BegunCall) (entries
       let above = x.2.1 in
       omega (arith, below, above)
 
-  fresh : HasNumber c me v history call → is_begun begun call ≡ true
+  fresh : CallHasNumber c me v history call → is_begun begun call ≡ true
   fresh h = go (f.known call.client call.timestamp h)
     where
-      go : IsKnown st all_calls call.client call.timestamp ⊎ IsBegun begun call.client call.timestamp → is_begun begun call ≡ true
+      go : CallIsKnown st all_calls call.client call.timestamp ⊎ IsInNewView begun call.client call.timestamp → is_begun begun call ≡ true
       go (inl k) = absurd (unknown k)
       go (inr b) = is_begun_where begun call b
 
   rightly : IsRightly c me v history (arrived begun call)
   rightly = go (is_begun begun call) refl
     where
-      go : (b : Bool) → is_begun begun call ≡ b → either b (HasNumber c me v history call) (HasNone c me v history call)
+      go : (b : Bool) → is_begun begun call ≡ b → either b (CallHasNumber c me v history call) (CallHasNoNumber c me v history call)
       go true e = begun_numbered c me v call.client call.timestamp history begun f.numbered (begun_is begun call e)
       go false e = λ h. apart (is_begun begun call) (fresh h) e
 
   -- known calls stay known
-  known_on : (client timestamp : ℕ) → IsKnown st all_calls client timestamp → IsKnown st (filter is_other all_calls ++ call ∷ []) client timestamp
+  known_on : (client timestamp : ℕ) → CallIsKnown st all_calls client timestamp → CallIsKnown st (filter is_other all_calls ++ call ∷ []) client timestamp
   known_on client timestamp (inl ran) = inl ran
   known_on client timestamp (inr waits) = inr (go (client == call.client) refl)
     where
@@ -133,13 +133,13 @@ inputs_keep_numbers c me v used begun entries point history bytes f = go (option
 abbrev waits_on : State → Call → Bool
 waits_on st call = nat_lt (last_time st call.client) call.timestamp
 
-known_behind : (old new : State) (waiting : List Call) (client timestamp : ℕ) → NoneFalls old new → IsKnown old waiting client timestamp → IsKnown new (still_waiting new waiting) client timestamp
+known_behind : (old new : State) (waiting : List Call) (client timestamp : ℕ) → NoneFalls old new → CallIsKnown old waiting client timestamp → CallIsKnown new (still_waiting new waiting) client timestamp
 known_behind old new waiting client timestamp grows (inl ran) = let more = grows client in inl (omega (arith, ran, more))
 known_behind old new waiting client timestamp grows (inr waits) =
     let x = has_some (λ (y : Call). (y.client ≡ client) × (timestamp ≤ y.timestamp)) waiting waits in
     go x.0 x.1 x.2.0 x.2.1 (waits_on new x.0) refl
   where
-    go : (call : Call) → Has (λ y. y ≡ call) waiting → call.client ≡ client → timestamp ≤ call.timestamp → (b : Bool) → waits_on new call ≡ b → IsKnown new (still_waiting new waiting) client timestamp
+    go : (call : Call) → Has (λ y. y ≡ call) waiting → call.client ≡ client → timestamp ≤ call.timestamp → (b : Bool) → waits_on new call ≡ b → CallIsKnown new (still_waiting new waiting) client timestamp
     go call has own late true e =
         inr (has_weaker (λ (y : Call). y ≡ call) (λ (y : Call). (y.client ≡ client) × (timestamp ≤ y.timestamp))
         (λ y same. (ap (λ (z : Call). z.client) same ∙ own, subst (λ (z : Call). timestamp ≤ z.timestamp) (sym same) late))

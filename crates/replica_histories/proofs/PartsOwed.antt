@@ -25,8 +25,8 @@ use Rattle.state_transfer.specs.Transfer.{TransferData}
 use Rattle.replica_histories.specs.Desk.{Desk}
 use Rattle.replica_histories.specs.Events.{Holds}
 use Rattle.replica_histories.specs.Fetching.{IsOther, OtherDigestsOweNone, OtherPagesOweNone, FetchesSuffice, FetchedSuffice}
-use Rattle.replica_histories.specs.Questions.{is_part, AnswersInput, AnswersReads, AnswersWaiting, MovesOn}
-use Rattle.replica_histories.specs.Transfers.{FitsTransfer, FitsOpen, RestsOnState}
+use Rattle.replica_histories.specs.Questions.{is_part, AnswersInput, OwesReadReply, AnswersWaiting, OwesViewChange}
+use Rattle.replica_histories.specs.Transfers.{FitsTransfer, FitsOpenTransfer, RestsOnState}
 use Rattle.replica_histories.specs.TransfersAnswers.{AnswersFetches}
 use Rattle.replica_histories.proofs.Questions.{parts_ask_nothing}
 use Rattle.replica_histories.proofs.Transfers.{wanted_by_history}
@@ -74,7 +74,7 @@ module _ (c : Configuration) (me : ℕ) (past : List Entry) (bytes : List ℕ) (
     nothing.3,
   )
     where
-      nothing : AnswersFetches c me past (Got me bytes) outputs point × AnswersReads c me past (Got me bytes) outputs point × AnswersWaiting c me past (Got me bytes) outputs point × MovesOn c me past (Got me bytes) outputs point
+      nothing : AnswersFetches c me past (Got me bytes) outputs point × OwesReadReply c me past (Got me bytes) outputs point × AnswersWaiting c me past (Got me bytes) outputs point × OwesViewChange c me past (Got me bytes) outputs point
       nothing = parts_ask_nothing c me body past (Got me bytes) h outputs point part
 
       on : (other : Body) → heard (members c) me bytes ≡ Some other → Awaits other → GoesOnFor (number_in other)
@@ -101,12 +101,12 @@ module _ (c : Configuration) (me : ℕ) (desk : Desk) (log : LogData) (past : Li
   state_is = ap (λ (p : Point). p.state) held.of_desk.is
 
   opened : (t : TransferData) → desk.transfer ≡ Some t → FitsTransfer c me t past
-  opened t there = (subst (λ (o : Option TransferData). FitsOpen c me o desk.state.number past) there held.of_desk.opened).0
+  opened t there = (subst (λ (o : Option TransferData). FitsOpenTransfer c me o desk.state.number past) there held.of_desk.opened).0
 
   -- if no transfer is open, nothing above the executed number was asked for
   none_open : desk.transfer ≡ None → (n : ℕ) (place : Level × ℕ) → asked_last past ≡ Some (n, place) → point.state.number < n → ⊥
   none_open none n place asked above =
-      let most = (subst (λ (o : Option TransferData). FitsOpen c me o desk.state.number past) none held.of_desk.opened).0 in
+      let most = (subst (λ (o : Option TransferData). FitsOpenTransfer c me o desk.state.number past) none held.of_desk.opened).0 in
       let least = asked_at_most past n place asked in
       let same = ap (λ (st : State). st.number) state_is in
       absurd (omega (arith, most, least, same, above))

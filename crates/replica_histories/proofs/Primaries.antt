@@ -21,7 +21,7 @@ use Rattle.protocol.proofs.Words.Elements.{has_weaker, has_some, has_map, has_ma
 use Rattle.protocol.proofs.Words.Temporal.{once_weaker}
 use Rattle.claims.specs.ClaimsView.{ClaimsData, digests_of}
 use Rattle.view_change.specs.ReceivedData.{HeldData, held_of, held_for, pairs_for}
-use Rattle.view_change.specs.Selecting.{are_for, is_set_for, how_many_from, meets, IsPart, IsFrom, AreFrom}
+use Rattle.view_change.specs.Selecting.{are_for, is_set_for, how_many_from, meets, IsPartOfSet, IsAvailable, AreFrom}
 use Rattle.view_change.proofs.Larger.{selects_by_set}
 use Rattle.replica_histories.specs.Logs.{FitsLog}
 use Rattle.replica_histories.specs.Changes.{Changes, FitsChanges}
@@ -46,7 +46,7 @@ module _ (c : Configuration) (view : ℕ) (claims : ClaimsData) (named : map sha
   -- it may stand wherever the batch may
   record Other (batch : List ℕ) : Type 0 where
     text : List ℕ
-    from : IsFrom claims.texts text
+    from : IsAvailable claims.texts text
     stands : (set : List (ℕ × ViewChangeData)) (number : ℕ) → Stands set number batch → Stands set number text
 
   other_of : (batch : List ℕ) → IsClaimed claims batch → Other batch
@@ -234,7 +234,7 @@ module _ (c : Configuration) (me : ℕ) (log : LogData) (x : Changes) (history :
       (ap₂ (λ (s : ℕ) (vc : ViewChangeData). (s, vc)) (f.received.placed me o.own o.held ∙ sym mine) same)
       (held_pair x.target x.held me o.own o.held o.view)
 
-  part : IsPart (changes_of c new) (pairs_for x.target x.held)
+  part : IsPartOfSet (changes_of c new) (pairs_for x.target x.held)
   part = all (changes_of c new) can.changes (each_of_all (λ y. y.1.view ≡ new.view) (λ y. (y.1.view == new.view) && is_within c y.1) (λ y t. eqb-true y.1.view new.view (and_parts (y.1.view == new.view) (is_within c y.1) t).0) (changes_of c new) are)
     where
       are : are_for new.view (changes_of c new) c ≡ true

@@ -15,7 +15,7 @@ use Rattle.protocol.specs.Replica.State.{Call}
 use Rattle.protocol.specs.Replica.Transfers.{place_from}
 use Rattle.protocol.proofs.Words.Moving.{no_time}
 use Rattle.protocol.proofs.Words.Options.{some_injective}
-use Rattle.replica_histories.specs.Questions.{is_question, is_part, has_question, brings_question, OthersOweNone, AnswersReads, AnswersDigests, AnswersPages, read_from, asks_part, has_part, brings_part, MovesOn, OthersOweNoPart, NewRequestsOweNone, AnswersWaiting, ordered_from}
+use Rattle.replica_histories.specs.Questions.{is_question, is_part, has_question, brings_question, OthersOweNone, OwesReadReply, AnswersDigests, AnswersPages, read_from, asks_part, has_part, brings_part, OwesViewChange, OthersOweNoPart, NewRequestsOweNone, AnswersWaiting, ordered_from}
 use Rattle.replica_histories.specs.TransfersAnswers.{AnswersFetches}
 use Rattle.replica_histories.proofs.TransfersAnswering.{hears_one}
 
@@ -42,7 +42,7 @@ no_question : (c : Configuration) (me p : ℕ) (before : List Entry) (bytes : Li
 no_question c me p before bytes waiting v none (inl t) = no_time c me p before bytes waiting v t
 no_question c me p before bytes waiting v none (inr (taken, joins)) = absurd (let bad : false ≡ true = sym none ∙ ap has_question taken.2 in cc)
 
-pub no_move_owed : (c : Configuration) (me : ℕ) (before : List Entry) (input : Entry) (outputs : List Entry) (old : Point) → brings_question c me input ≡ false → MovesOn c me before input outputs old
+pub no_move_owed : (c : Configuration) (me : ℕ) (before : List Entry) (input : Entry) (outputs : List Entry) (old : Point) → brings_question c me input ≡ false → OwesViewChange c me before input outputs old
 no_move_owed c me before (Got p bytes) outputs old none = λ vc other reason may within says. absurd (no_question c me p before bytes old.waiting vc.view none reason)
 no_move_owed c me before _ outputs old none = absurd cc
 
@@ -74,7 +74,7 @@ no_change_heard c me p body before bytes waiting v hears none (inr (taken, joins
     absurd (let bad : false ≡ true = sym none ∙ ap is_change (some_injective body (record { sender = taken.0; message = ViewChange taken.1 }) (sym hears ∙ taken.2)) in cc)
 
 pub hears_no_move : (c : Configuration) (me : ℕ) (body : Body) (before : List Entry) (input : Entry) (outputs : List Entry) (old : Point) → Hears c me body before input → is_change body ≡ false
-    → MovesOn c me before input outputs old
+    → OwesViewChange c me before input outputs old
 hears_no_move c me body before (Got p bytes) outputs old hears none = λ vc other reason may within says. absurd (no_change_heard c me p body before bytes old.waiting vc.view hears none reason)
 hears_no_move c me body before _ outputs old hears none = absurd hears
 
@@ -100,7 +100,7 @@ module _ (c : Configuration) (me : ℕ) (body : Body) (before : List Entry) (inp
       go sender (Page k index text) h = refl
       go sender _ h = absurd cc
 
-  pub parts_ask_nothing : (outputs : List Entry) (old : Point) → is_part body ≡ true → AnswersFetches c me before input outputs old × AnswersReads c me before input outputs old × AnswersWaiting c me before input outputs old × MovesOn c me before input outputs old
+  pub parts_ask_nothing : (outputs : List Entry) (old : Point) → is_part body ≡ true → AnswersFetches c me before input outputs old × OwesReadReply c me before input outputs old × AnswersWaiting c me before input outputs old × OwesViewChange c me before input outputs old
   parts_ask_nothing outputs old part = (
     λ s k index level h st is. absurd (let bad : true ≡ false = sym part ∙ same_kind (record { sender = s; message = Fetch k level index }) h in cc),
     λ client t op h is. absurd (let bad : true ≡ false = sym part ∙ same_kind (read_from client t op) h in cc),
@@ -112,7 +112,7 @@ module _ (c : Configuration) (me : ℕ) (body : Body) (before : List Entry) (inp
 
 -- a fetch is no read, and a read is no fetch
 pub fetches_owe_no_read : (c : Configuration) (me s k index : ℕ) (level : Level) (before : List Entry) (input : Entry) (outputs : List Entry) (old : Point) → Hears c me (record { sender = s; message = Fetch k level index }) before input
-    → AnswersReads c me before input outputs old
+    → OwesReadReply c me before input outputs old
 fetches_owe_no_read c me s k index level before input outputs old hears client t op other is =
     absurd (let bad : Some (k, (level, index)) ≡ None = ap place_from (hears_one c me (record { sender = s; message = Fetch k level index }) (read_from client t op) before input hears other) in cc)
 
@@ -142,7 +142,7 @@ requests_owe_no_part c me call before input outputs old hears s k index level ot
     absurd (let bad : None ≡ Some (k, (level, index)) = ap place_from (hears_one c me (ordered_from call) (record { sender = s; message = Fetch k level index }) before input hears other) in cc)
 
 pub requests_owe_no_read : (c : Configuration) (me : ℕ) (call : Call) (before : List Entry) (input : Entry) (outputs : List Entry) (old : Point) → Hears c me (ordered_from call) before input
-    → AnswersReads c me before input outputs old
+    → OwesReadReply c me before input outputs old
 requests_owe_no_read c me call before input outputs old hears client t op other is =
     absurd (let bad : false ≡ true = ap is_read_body (hears_one c me (ordered_from call) (read_from client t op) before input hears other) in cc)
 

@@ -20,7 +20,7 @@ use Rattle.protocol.specs.System.Trace.Entry.{Sent}
 use Rattle.protocol.specs.Replica.Certificates.{greatest, first_given, change_from, change_sent, view, target, is_active_in, taken}
 use Rattle.protocol.specs.Replica.State.{State, Call, call_in, call_of, runs, kept_by, ran_call, run_call, run_frame, ran_by, ran_in, last_time}
 use Rattle.protocol.specs.Replica.RightReplica.{Point, HistoryReaches, MaySay, MayNewView, MayFetch, IsAskedAgain, SendsBytes, SentBefore, SentInEvent, reply_of}
-use Rattle.protocol.specs.Replica.Transfers.{place_from, fetch_sent, fetching, is_fetch, NoneAsked, IsNext, in_place}
+use Rattle.protocol.specs.Replica.Transfers.{place_from, fetch_sent, fetching, is_fetch, NoneAsked, IsNextPart, in_place}
 use Rattle.protocol.specs.Replica.Owed.{IsSaying, SendsMessage}
 use Rattle.protocol.proofs.Words.Options.{some_injective, and_then_some}
 use Rattle.protocol.proofs.Words.Elements.{has_either}
@@ -119,7 +119,7 @@ fetch_is_new c me past point k level index bytes says may h = go level says may.
     asked : (l : Level) → said bytes ≡ Some (record { sender = me; message = Fetch k l index }) → NoneAsked past → ⊥
     asked l is none = none_asked bytes (λ p. ap (λ (o : Option Body). is_some (option_and_then place_from o)) is) past none h
 
-    go : (l : Level) → said bytes ≡ Some (record { sender = me; message = Fetch k l index }) → IsNext c me past (in_place c me k past point.state) k may.root l index ⊎ IsAskedAgain past k l index → ⊥
+    go : (l : Level) → said bytes ≡ Some (record { sender = me; message = Fetch k l index }) → IsNextPart c me past (in_place c me k past point.state) k may.root l index ⊎ IsAskedAgain past k l index → ⊥
     go levels.Root is (inl above) =
         let most : k ≤ fetching past = at_most fetch_sent bytes k (λ p. ap (λ (o : Option Body). option_map_or number_of o 0) is) past (sent_before bytes past h) in
         absurd (omega (arith, above, most))

@@ -4,7 +4,7 @@ use Rattle.std.proofs.lemmas.List.{length-replicate}
 use Rattle.std.proofs.lemmas.List.Elements.{All-replicate}
 use Rattle.wire_format.specs.Messages.{CheckpointEntryData as CheckpointEntry}
 use Rattle.wire.proofs.Skipping.{none_chosen}
-use Rattle.ordering.specs.Votes.{vote_of}
+use Rattle.ordering.specs.Votes.{voted_digest}
 use Rattle.ordering.specs.Log as logs
 use Rattle.ordering.specs.Log.{Row, no_row, LogData, new_log}
 use Rattle.ordering.specs.Keeping.{IsRow, IsLog}
@@ -12,7 +12,7 @@ use Rattle.ordering.proofs.Moving.{empty}
 use Rattle.protocol.specs.System.Configuration.{Configuration, replicas, span}
 use Rattle.protocol.specs.Replica.Certificates.{view, low, logged, prepare_of, commit_of, checkpoints_of}
 use Rattle.protocol.specs.Replica.RightReplica.{first_point}
-use Rattle.replica_histories.specs.Logs.{above_mark, AreLatest, FitsViews, FitsLog}
+use Rattle.replica_histories.specs.Logs.{checkpoints_above, AreLatest, FitsViews, FitsLog}
 use Rattle.replica_histories.specs.Histories.{first_desk, FirstHold, HeldAreReplicas}
 use Rattle.replica_histories.proofs.Latest.{none_latest}
 use Rattle.replica_histories.proofs.TransfersTaking.{nothing_at_first}
@@ -68,14 +68,14 @@ module _ (c : Configuration) (me : ℕ) (some : 1 ≤ c.faults) (few : c.faults 
     view = refl;
     low = refl;
     batches = λ i k. sym (no_reading (λ r. r.batch) refl i);
-    prepares = λ i s k. sym (no_reading (λ r. vote_of r.prepares s) refl i);
-    commits = λ i s k. sym (no_reading (λ r. vote_of r.commits s) refl i);
+    prepares = λ i s k. sym (no_reading (λ r. voted_digest r.prepares s) refl i);
+    commits = λ i s k. sym (no_reading (λ r. voted_digest r.commits s) refl i);
     within = λ v i batch h. absurd cc;
     above = λ i s l out. (refl, refl);
     begun = λ v batch h. absurd h;
     settled = λ is_active i batch l h. absurd cc;
     views = first_views;
-    checkpoints = λ s. ap (above_mark 0) (sym (no_checkpoints (3 * c.faults + 1) s));
+    checkpoints = λ s. ap (checkpoints_above 0) (sym (no_checkpoints (3 * c.faults + 1) s));
     latest = λ s. subst AreLatest (sym (no_checkpoints (3 * c.faults + 1) s)) none_latest;
   }
 

@@ -13,11 +13,11 @@ use Rattle.ordering.proofs.Reading.{batches_are_logged, prepares_count, commits_
 use Rattle.protocol.specs.System.Configuration.{Configuration, primary}
 use Rattle.protocol.specs.Replica.Certificates.{are_genuine, checkpoint_from, with_checkpoint, batch_from, prepare_from, commit_from}
 use Rattle.protocol.proofs.Words.Options.{or_else_alone}
-use Rattle.replica_histories.specs.Logs.{above_mark, Stays, while_active, Takes}
+use Rattle.replica_histories.specs.Logs.{checkpoints_above, LogStays, while_active, LogTakesBody}
 
 -- ---- messages that change nothing
 
-pub stays_itself : (log : LogData) → IsLog log → Stays log log
+pub stays_itself : (log : LogData) → IsLog log → LogStays log log
 stays_itself log is = record { is_log = is; me = refl; faults = refl; span = refl; view = refl; active = refl; low = refl; checkpoints = refl }
 
 -- a body that adds nothing to the log's answers, while the replica is active
@@ -25,8 +25,8 @@ pub takes_no_more : (c : Configuration) (me : ℕ) (said : Option Body) (log : L
     → ((i : ℕ) → log.active ≡ true → logs.is_in_marks log i ≡ true → logs.logged_batch log i ≡ None → option_and_then (batch_from c me log.view i) said ≡ None)
     → ((i s : ℕ) → log.active ≡ true → logs.is_in_marks log i ≡ true → logs.prepare_of log i s ≡ None → option_and_then (prepare_from c s log.view i) said ≡ None)
     → ((i s : ℕ) → log.active ≡ true → logs.is_in_marks log i ≡ true → logs.commit_of log i s ≡ None → option_and_then (commit_from s log.view i) said ≡ None)
-    → ((s : ℕ) → above_mark log.low (with_checkpoint s (option_and_then checkpoint_from said) (logs.checkpoints_of log s)) ≡ above_mark log.low (logs.checkpoints_of log s))
-    → Takes c me said log log
+    → ((s : ℕ) → checkpoints_above log.low (with_checkpoint s (option_and_then checkpoint_from said) (logs.checkpoints_of log s)) ≡ checkpoints_above log.low (logs.checkpoints_of log s))
+    → LogTakesBody c me said log log
 takes_no_more c me said log is batch prepare commit checkpoint = record {
   stays = stays_itself log is;
   batch = λ i k. keeps (logs.logged_batch log i) (option_and_then (batch_from c me log.view i) said) log.active refl (λ a. batch i a k);
@@ -46,8 +46,8 @@ pub takes_nothing : (c : Configuration) (me : ℕ) (said : Option Body) (log : L
     → ((i : ℕ) → logs.is_in_marks log i ≡ true → logs.logged_batch log i ≡ None → option_and_then (batch_from c me log.view i) said ≡ None)
     → ((i s : ℕ) → logs.is_in_marks log i ≡ true → logs.prepare_of log i s ≡ None → option_and_then (prepare_from c s log.view i) said ≡ None)
     → ((i s : ℕ) → logs.is_in_marks log i ≡ true → logs.commit_of log i s ≡ None → option_and_then (commit_from s log.view i) said ≡ None)
-    → ((s : ℕ) → above_mark log.low (with_checkpoint s (option_and_then checkpoint_from said) (logs.checkpoints_of log s)) ≡ above_mark log.low (logs.checkpoints_of log s))
-    → Takes c me said log log
+    → ((s : ℕ) → checkpoints_above log.low (with_checkpoint s (option_and_then checkpoint_from said) (logs.checkpoints_of log s)) ≡ checkpoints_above log.low (logs.checkpoints_of log s))
+    → LogTakesBody c me said log log
 takes_nothing c me said log is batch prepare commit checkpoint = takes_no_more c me said log is (λ i a k h. batch i k h) (λ i s a k h. prepare i s k h) (λ i s a k h. commit i s k h) checkpoint
 
 -- a body for one place alone, which is taken, adds nothing
@@ -109,7 +109,7 @@ adds_none log old new h = h ∙ sym (or_else_alone old (while_active log None) (
 -- ---- a prepare
 
 pub prepare_taken : (c : Configuration) (me s i : ℕ) (digest : List ℕ) (vote : Vote) (log : LogData) → IsLog log → log.active ≡ true → logs.is_in_marks log i ≡ true → s < logs.replicas log → not (s == primary c log.view) ≡ true
-    → vote.sender.0 ≡ s → vote.digest ≡ digest → Takes c me (Some (record { sender = s; message = Prepare log.view i digest })) log (logs.with_prepare log i vote)
+    → vote.sender.0 ≡ s → vote.digest ≡ digest → LogTakesBody c me (Some (record { sender = s; message = Prepare log.view i digest })) log (logs.with_prepare log i vote)
 prepare_taken c me s i digest vote log is active within known backup sender same = record {
   stays = record {
     is_log = prepare_kept log (logs.place log i) vote _ (in_span log i within) is (subst (λ (x : ℕ). x < logs.replicas log) (sym sender) known) refl;
@@ -139,7 +139,7 @@ prepare_taken c me s i digest vote log is active within known backup sender same
 -- ---- a commit
 
 pub commit_taken : (c : Configuration) (me s i : ℕ) (digest : List ℕ) (vote : Vote) (log : LogData) → IsLog log → log.active ≡ true → logs.is_in_marks log i ≡ true → s < logs.replicas log
-    → vote.sender.0 ≡ s → vote.digest ≡ digest → Takes c me (Some (record { sender = s; message = Commit log.view i digest })) log (logs.with_commit log i vote)
+    → vote.sender.0 ≡ s → vote.digest ≡ digest → LogTakesBody c me (Some (record { sender = s; message = Commit log.view i digest })) log (logs.with_commit log i vote)
 commit_taken c me s i digest vote log is active within known sender same = record {
   stays = record {
     is_log = commit_kept log (logs.place log i) vote _ (in_span log i within) is (subst (λ (x : ℕ). x < logs.replicas log) (sym sender) known) refl;
@@ -168,7 +168,7 @@ commit_taken c me s i digest vote log is active within known sender same = recor
 -- ---- a batch
 
 pub batch_taken : (c : Configuration) (me s i : ℕ) (batch : List ℕ) (log : LogData) → IsLog log → log.active ≡ true → logs.is_in_marks log i ≡ true → (s == primary c log.view) ≡ true → are_genuine c me batch ≡ true
-    → logs.logged_batch log i ≡ None → Takes c me (Some (record { sender = s; message = PrePrepare log.view i batch })) log (logs.with_batch log i batch)
+    → logs.logged_batch log i ≡ None → LogTakesBody c me (Some (record { sender = s; message = PrePrepare log.view i batch })) log (logs.with_batch log i batch)
 batch_taken c me s i batch log is active within primary_is genuine free = record {
   stays = record {
     is_log = batch_kept log (logs.place log i) batch _ (in_span log i within) is refl;

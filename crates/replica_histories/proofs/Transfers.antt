@@ -28,8 +28,8 @@ use Rattle.protocol.specs.Replica.Owed.{IsInnerWanted, IsPageWanted}
 use Rattle.protocol.proofs.Words.Options.{some_injective, and_then_some, or_else_second}
 use Rattle.protocol.proofs.Words.Linking.{heard_said}
 use Rattle.state_transfer.specs.declared.place.Place.{Place}
-use Rattle.state_transfer.specs.Transfer.{TransferData, none_told, new_transfer, moved_to, asking, fitting, digest_of_part, pages_of_part, digest_of_page, wanted_at, with_part_digests, with_page_digests, with_digests, with_page}
-use Rattle.replica_histories.specs.Transfers.{known_below, Aims, FitsTransfer, MayAsk, FitsOpen, AreTaken, open_number, place_sent, WantedByHistory, DigestsCount, PagesCount, AimsStay, AskedStays, OpenStays, OpenExecutes, DigestsTaken, DigestsOpen, DigestsMayAsk, PagesMayAsk, TicksMayAsk, PagesGiveBack, PagesRested, QuorumsWant, TransfersStart, TransfersMove, QuorumsOpen, LowerAreFetched, MayAskAny, TransfersMayFetch, TransfersAsk}
+use Rattle.state_transfer.specs.Transfer.{TransferData, none_told, new_transfer, moved_to, asking, fitting_children, digest_of_part, pages_of_part, digest_of_page, wanted_at, with_part_digests, with_page_digests, with_digests, with_page}
+use Rattle.replica_histories.specs.Transfers.{known_below, TransferAims, FitsTransfer, TransferMayAsk, FitsOpenTransfer, AreTaken, open_number, place_sent, WantedByHistory, DigestsCount, PagesCount, AimsStay, AskedStays, OpenStays, OpenExecutes, DigestsTaken, DigestsOpen, DigestsMayAsk, PagesMayAsk, TicksMayAsk, PagesGiveBack, PagesRested, QuorumsWant, TransfersStart, TransfersMove, QuorumsOpen, LowerAreFetched, MayAskAny, TransfersMayFetch, TransfersAsk}
 use Rattle.replica_histories.proofs.TransfersTaking.{newer_takes_nothing, newer_taken, took_stays, started_taken, rested_taken, page_taken, meta_taken, tick_taken, fetch_taken, execution_leaves, execution_ends, all_default}
 use Rattle.replica_histories.proofs.TransfersTaking as Taking
 use Rattle.replica_histories.proofs.Words.{passed}
@@ -50,14 +50,14 @@ set_cases (y ∷ ys) (suc i) (suc j) x d = go (set_cases ys i j x d)
 
 -- ---- wanted digests
 
-part_wanted : (c : Configuration) (me : ℕ) (t : TransferData) (history : List Entry) (j : ℕ) (digest : List ℕ) → Aims c me t history → digest_of_part t j ≡ Some digest → IsInnerWanted c me history t.number j digest
+part_wanted : (c : Configuration) (me : ℕ) (t : TransferData) (history : List Entry) (j : ℕ) (digest : List ℕ) → TransferAims c me t history → digest_of_part t j ≡ Some digest → IsInnerWanted c me history t.number j digest
 part_wanted c me t history j digest a h =
     let w = and_then_some (λ digests. slice_get digests j) t.part_digests digest h in
     (t.root, w.0, a.root_wanted, a.inner w.0 w.1, w.2)
 
 -- fitting digests were received below the place
 pub fitting_got : (c : Configuration) (me : ℕ) (history : List Entry) (j : ℕ) (digest : List ℕ) (o : Option (List (List ℕ))) (digests : List (List ℕ)) → ((others : List (List ℕ)) → o ≡ Some others → GotBelow c me history levels.Inner j (digest_of_children others) others)
-    → fitting digest o ≡ Some digests → GotBelow c me history levels.Inner j digest digests
+    → fitting_children digest o ≡ Some digests → GotBelow c me history levels.Inner j digest digests
 fitting_got c me history j digest None digests got h = absurd cc
 fitting_got c me history j digest (Some others) digests got h =
     let p = passed (bytes_eq (digest_of_children others) digest) (Some others) digests h in
@@ -65,10 +65,10 @@ fitting_got c me history j digest (Some others) digests got h =
     subst (λ (x : List (List ℕ)). GotBelow c me history levels.Inner j digest x) (some_injective others digests p.1)
     (subst (λ (x : List ℕ). GotBelow c me history levels.Inner j x others) same (got others refl))
 
-page_wanted : (c : Configuration) (me : ℕ) (t : TransferData) (history : List Entry) (i : ℕ) (digest : List ℕ) → Aims c me t history → digest_of_page t i ≡ Some digest → IsPageWanted c me history t.number i digest
+page_wanted : (c : Configuration) (me : ℕ) (t : TransferData) (history : List Entry) (i : ℕ) (digest : List ℕ) → TransferAims c me t history → digest_of_page t i ≡ Some digest → IsPageWanted c me history t.number i digest
 page_wanted c me t history i digest a h =
     let w = and_then_some (λ digests. slice_get digests (i % 32)) (pages_of_part t (i / 32)) digest h in
-    let v = and_then_some (λ inner. fitting inner (known_below t (i / 32))) (digest_of_part t (i / 32)) w.0 w.1 in
+    let v = and_then_some (λ inner. fitting_children inner (known_below t (i / 32))) (digest_of_part t (i / 32)) w.0 w.1 in
     (v.0, w.0, part_wanted c me t history (i / 32) v.0 a v.1, fitting_got c me history (i / 32) v.0 (known_below t (i / 32)) w.0 (a.parts (i / 32)) v.2, w.2)
 
 pub wanted_by_history : WantedByHistory
@@ -135,7 +135,7 @@ pub open_executes : OpenExecutes
 open_executes c me None number later past batch grows f = let most = f.0 in (omega arith, execution_ends c me later None batch past (omega arith))
 open_executes c me (Some t) number later past batch grows f = go (nat_lt later t.number) refl
   where
-    go : (b : Bool) → nat_lt later t.number ≡ b → FitsOpen c me (then_some b t) later (Executed me later batch ∷ past)
+    go : (b : Bool) → nat_lt later t.number ≡ b → FitsOpenTransfer c me (then_some b t) later (Executed me later batch ∷ past)
     go true e =
         let above = ltb-true later t.number e in
         let newest = f.0.newest in (
@@ -162,7 +162,7 @@ heard_valid c me bytes body h =
 
 -- digests of the root's children
 parts_told : (c : Configuration) (me : ℕ) (t : TransferData) (past : List Entry) (bytes : List ℕ) (s n index : ℕ) (digests : List (List ℕ)) → heard (members c) me bytes ≡ Some (record { sender = s; message = Meta n levels.Root index digests })
-    → Some t.root ≡ Some (digest_of_children digests) → Aims c me t past → Aims c me (with_part_digests t digests) (Got me bytes ∷ past)
+    → Some t.root ≡ Some (digest_of_children digests) → TransferAims c me t past → TransferAims c me (with_part_digests t digests) (Got me bytes ∷ past)
 parts_told c me t past bytes s n index digests hears is a = record {
   root_wanted = later.root_wanted;
   inner = λ others same. subst (λ (x : List (List ℕ)). GotBelow c me (Got me bytes ∷ past) levels.Root 0 t.root x) (some_injective digests others same)
@@ -170,7 +170,7 @@ parts_told c me t past bytes s n index digests hears is a = record {
   parts = later.parts;
 }
   where
-    later : Aims c me t (Got me bytes ∷ past)
+    later : TransferAims c me t (Got me bytes ∷ past)
     later = aims_stay c me t past (Got me bytes) a
 
     first : index ≡ 0
@@ -178,14 +178,14 @@ parts_told c me t past bytes s n index digests hears is a = record {
 
 -- and of an inner part's pages
 pages_told : (c : Configuration) (me : ℕ) (t : TransferData) (past : List Entry) (bytes : List ℕ) (s n index : ℕ) (digests : List (List ℕ)) → heard (members c) me bytes ≡ Some (record { sender = s; message = Meta n levels.Inner index digests })
-    → Aims c me t past → Aims c me (with_page_digests t index digests) (Got me bytes ∷ past)
+    → TransferAims c me t past → TransferAims c me (with_page_digests t index digests) (Got me bytes ∷ past)
 pages_told c me t past bytes s n index digests hears a = record {
   root_wanted = later.root_wanted;
   inner = later.inner;
   parts = λ j others same. put j others (set_cases t.page_digests index j (Some digests) None) same;
 }
   where
-    later : Aims c me t (Got me bytes ∷ past)
+    later : TransferAims c me t (Got me bytes ∷ past)
     later = aims_stay c me t past (Got me bytes) a
 
     put : (j : ℕ) (others : List (List ℕ)) → ((j ≡ index) × (get_or (set t.page_digests index (Some digests)) j None ≡ Some digests)) ⊎ (get_or (set t.page_digests index (Some digests)) j None ≡ get_or t.page_digests j None)
@@ -196,8 +196,8 @@ pages_told c me t past bytes s n index digests hears a = record {
     put j others (inr k) same = later.parts j others (sym k ∙ same)
 
 taken_at : (c : Configuration) (me : ℕ) (t : TransferData) (past : List Entry) (bytes : List ℕ) (s n : ℕ) (level : Level) (index : ℕ) (digests : List (List ℕ))
-    → heard (members c) me bytes ≡ Some (record { sender = s; message = Meta n level index digests }) → wanted_at t level index ≡ Some (digest_of_children digests) → Aims c me t past
-    → Aims c me (with_digests t (record { level = level; index = index }) digests) (Got me bytes ∷ past)
+    → heard (members c) me bytes ≡ Some (record { sender = s; message = Meta n level index digests }) → wanted_at t level index ≡ Some (digest_of_children digests) → TransferAims c me t past
+    → TransferAims c me (with_digests t (record { level = level; index = index }) digests) (Got me bytes ∷ past)
 taken_at c me t past bytes s n levels.Root index digests hears is a = parts_told c me t past bytes s n index digests hears is a
 taken_at c me t past bytes s n levels.Inner index digests hears is a = pages_told c me t past bytes s n index digests hears a
 taken_at c me t past bytes s n levels.Page index digests hears is a = aims_stay c me t past (Got me bytes) a
@@ -206,7 +206,7 @@ pub digests_taken : DigestsTaken
 digests_taken c me t past bytes s n place digests hears is a = taken_at c me t past bytes s n place.level place.index digests hears is a
 
 -- the same transfer with more to it
-more_fits : (c : Configuration) (me : ℕ) (t new : TransferData) (past : List Entry) (e : Entry) → place_sent e ≡ None → new.number ≡ t.number → new.asked ≡ t.asked → Aims c me new (e ∷ past) → AreTaken c me None new (e ∷ past) → FitsTransfer c me t past → FitsTransfer c me new (e ∷ past)
+more_fits : (c : Configuration) (me : ℕ) (t new : TransferData) (past : List Entry) (e : Entry) → place_sent e ≡ None → new.number ≡ t.number → new.asked ≡ t.asked → TransferAims c me new (e ∷ past) → AreTaken c me None new (e ∷ past) → FitsTransfer c me t past → FitsTransfer c me new (e ∷ past)
 more_fits c me t new past e none number place a taken f = let same = asked_stays past e none in record {
   aims = a;
   asked = same.1 ∙ f.asked ∙ ap (λ (n : ℕ). Some (n, (t.asked.level, t.asked.index))) (sym number) ∙ ap (λ (x : Place). Some (new.number, (x.level, x.index))) (sym place);
@@ -244,7 +244,7 @@ digests_may_ask c me t number past bytes s n place digests hears is f =
     }
 
 -- the same of a transfer with other pages
-aims_alike : (c : Configuration) (me : ℕ) (t new : TransferData) (history : List Entry) → new.number ≡ t.number → new.root ≡ t.root → new.part_digests ≡ t.part_digests → new.page_digests ≡ t.page_digests → Aims c me t history → Aims c me new history
+aims_alike : (c : Configuration) (me : ℕ) (t new : TransferData) (history : List Entry) → new.number ≡ t.number → new.root ≡ t.root → new.part_digests ≡ t.part_digests → new.page_digests ≡ t.page_digests → TransferAims c me t history → TransferAims c me new history
 aims_alike c me t new history number root parts pages a = record {
   root_wanted = rw (number, root) a.root_wanted;
   inner = λ digests is. rw root (a.inner digests (sym parts ∙ is));
@@ -284,7 +284,7 @@ pages_give_back t index text = ap (λ (xs : List Bool). let new : TransferData =
 pub pages_rested : PagesRested
 pages_rested c me pages old new number history r = (open_one, ask)
   where
-    open_one : FitsOpen c me (Some old) number history → FitsOpen c me (Some new) number history
+    open_one : FitsOpenTransfer c me (Some old) number history → FitsOpenTransfer c me (Some new) number history
     open_one f = subst (λ (x : TransferData). FitsTransfer c me x history × (number < x.number)) (sym r.same) (
       record {
         aims = record { root_wanted = f.0.aims.root_wanted; inner = f.0.aims.inner; parts = f.0.aims.parts };
@@ -295,8 +295,8 @@ pages_rested c me pages old new number history r = (open_one, ask)
       f.1,
     )
 
-    ask : MayAsk c me old number history → MayAsk c me new number history
-    ask m = subst (λ (x : TransferData). MayAsk c me x number history) (sym r.same) (record {
+    ask : TransferMayAsk c me old number history → TransferMayAsk c me new number history
+    ask m = subst (λ (x : TransferData). TransferMayAsk c me x number history) (sym r.same) (record {
       aims = record { root_wanted = m.aims.root_wanted; inner = m.aims.inner; parts = m.aims.parts };
       newest = m.newest;
       ahead = m.ahead;
@@ -329,7 +329,7 @@ pub transfers_move : TransfersMove
 transfers_move c me k root t history w a = record { root_wanted = w; inner = λ digests is. absurd cc; parts = a.parts }
 
 -- above all that was fetched a transfer may start, and the open one may move
-pub start_may_ask : (c : Configuration) (me number k : ℕ) (root : List ℕ) (pages : List (List ℕ)) (history : List Entry) → IsRootWanted c history k root → number < k → FitsOpen c me None number history → MayAsk c me (new_transfer k root pages) number history
+pub start_may_ask : (c : Configuration) (me number k : ℕ) (root : List ℕ) (pages : List (List ℕ)) (history : List Entry) → IsRootWanted c history k root → number < k → FitsOpenTransfer c me None number history → TransferMayAsk c me (new_transfer k root pages) number history
 start_may_ask c me number k root pages history w above f = let most = f.0 in record {
   aims = transfers_start c me k root pages history w;
   newest = omega arith;
@@ -337,7 +337,7 @@ start_may_ask c me number k root pages history w above f = let most = f.0 in rec
   taken = started_taken c me k (Some k) root pages history (λ i within. newer_takes_nothing c me k i history (omega arith) ∙ f.1 i within);
 }
 
-pub move_may_ask : (c : Configuration) (me number k : ℕ) (root : List ℕ) (t : TransferData) (history : List Entry) → IsRootWanted c history k root → t.number < k → FitsOpen c me (Some t) number history → MayAsk c me (moved_to t k root) number history
+pub move_may_ask : (c : Configuration) (me number k : ℕ) (root : List ℕ) (t : TransferData) (history : List Entry) → IsRootWanted c history k root → t.number < k → FitsOpenTransfer c me (Some t) number history → TransferMayAsk c me (moved_to t k root) number history
 move_may_ask c me number k root t history w above f = let newest = f.0.newest in let own = f.1 in record {
   aims = transfers_move c me k root t history w f.0.aims;
   newest = omega arith;
@@ -381,12 +381,12 @@ transfers_ask c me t number past bytes says m = (
 -- ---- the number of the open transfer
 
 -- is at least the executed one
-pub open_above : (c : Configuration) (me : ℕ) (open_one : Option TransferData) (number : ℕ) (history : List Entry) → FitsOpen c me open_one number history → number ≤ open_number number open_one
+pub open_above : (c : Configuration) (me : ℕ) (open_one : Option TransferData) (number : ℕ) (history : List Entry) → FitsOpenTransfer c me open_one number history → number ≤ open_number number open_one
 open_above c me None number history f = omega arith
 open_above c me (Some t) number history f = let above = f.1 in omega arith
 
 -- and nothing above it was fetched
-pub fetched_most : (c : Configuration) (me : ℕ) (open_one : Option TransferData) (number : ℕ) (history : List Entry) → FitsOpen c me open_one number history → fetching history ≤ open_number number open_one
+pub fetched_most : (c : Configuration) (me : ℕ) (open_one : Option TransferData) (number : ℕ) (history : List Entry) → FitsOpenTransfer c me open_one number history → fetching history ≤ open_number number open_one
 fetched_most c me None number history f = f.0
 fetched_most c me (Some t) number history f = let newest = f.0.newest in omega arith
 

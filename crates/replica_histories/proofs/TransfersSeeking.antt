@@ -18,15 +18,15 @@ use Rattle.protocol.specs.System.Configuration.{Configuration}
 use Rattle.protocol.specs.System.Trace.{Entry, Once, Hears}
 use Rattle.protocol.specs.System.Trace.Entry.{Got}
 use Rattle.protocol.specs.Replica.State.{State, page_text, all_pages}
-use Rattle.protocol.specs.Replica.Transfers.{GotBelow, NoneAsked, IsFirstToDiffer, DiffersFirst, IsNext, in_place}
+use Rattle.protocol.specs.Replica.Transfers.{GotBelow, NoneAsked, IsFirstToDiffer, DiffersFirst, IsNextPart, in_place}
 use Rattle.protocol.proofs.Words.Options.{some_injective}
 use Rattle.protocol.proofs.Words.Roots.{pages_part}
 use Rattle.state_transfer.specs.declared.place.Place.{Place}
 use Rattle.state_transfer.specs.Differences.{IsFirstDifference}
 use Rattle.state_transfer.specs.Places.{inner_place, page_place}
-use Rattle.state_transfer.specs.Transfer.{TransferData, fitting, pages_of_part, next_place}
+use Rattle.state_transfer.specs.Transfer.{TransferData, fitting_children, pages_of_part, next_place}
 use Rattle.state_transfer.proofs.Seeking as Seeking
-use Rattle.replica_histories.specs.Transfers.{page_held, is_fetched, known_below, MayAsk, RestsOnState, NextsAreFirst}
+use Rattle.replica_histories.specs.Transfers.{page_held, is_fetched, known_below, TransferMayAsk, RestsOnState, NextsAreFirst}
 use Rattle.replica_histories.proofs.Transfers.{heard_valid, fitting_got}
 
 -- ---- the first of two lists' differences
@@ -80,7 +80,7 @@ got_full c me index level digest digests past g = once_full c me g.1.0 g.1.1 ind
 
 -- ---- the held pages are those in place
 
-module _ (c : Configuration) (me : ℕ) (t : TransferData) (st : State) (history : List Entry) (may : MayAsk c me t st.number history) (rests : RestsOnState t st) (long : length t.held ≡ 1024) where
+module _ (c : Configuration) (me : ℕ) (t : TransferData) (st : State) (history : List Entry) (may : TransferMayAsk c me t st.number history) (rests : RestsOnState t st) (long : length t.held ≡ 1024) where
   abbrev here : ℕ → List ℕ
   here = in_place c me t.number history st
 
@@ -157,16 +157,16 @@ module _ (c : Configuration) (me : ℕ) (t : TransferData) (st : State) (history
     part = record { digests = digests; got = got; first = to_differ digests (inner_digests t.held) (inner_digest (all_pages here)) full (λ k l. part_digest_here k l) d }
 
     abbrev Next : Place → Type 0
-    Next p = IsNext c me history here t.number t.root p.level p.index
+    Next p = IsNextPart c me history here t.number t.root p.level p.index
 
     -- a page of a part that differs first
     page_is : (i k x : ℕ) → i / 32 ≡ k → i % 32 ≡ x → (pages : List (List ℕ)) (p : DiffersFirst c me history here t.root k) → GotBelow c me history levels.Inner k p.first.digest pages
-        → IsFirstToDiffer pages (λ n. sha256 (here (32 * k + n))) x → IsNext c me history here t.number t.root levels.Page i
+        → IsFirstToDiffer pages (λ n. sha256 (here (32 * k + n))) x → IsNextPart c me history here t.number t.root levels.Page i
     page_is i k x q m pages = subst (λ (b : ℕ). P k b) m (subst (λ (a : ℕ). P a (i % 32)) q (λ p g f. (none, p, pages, g, f)))
       where
         P : ℕ → ℕ → Type 0
         P a b = (p : DiffersFirst c me history here t.root a) → GotBelow c me history levels.Inner a p.first.digest pages → IsFirstToDiffer pages (λ n. sha256 (here (32 * a + n))) b
-            → IsNext c me history here t.number t.root levels.Page i
+            → IsNextPart c me history here t.number t.root levels.Page i
 
     at : (p : Place) → next_place t ≡ Some p → Next p → Next place
     at p is h = subst Next (some_injective p place (sym is ∙ next)) h
@@ -183,7 +183,7 @@ module _ (c : Configuration) (me : ℕ) (t : TransferData) (st : State) (history
         (page_is (32 * j + e.at) j e.at (omega arith) (omega arith) pages part (fitting_got c me history j (get_or digests j []) (known_below t j) pages (may.aims.parts j) fits)
         (to_differ pages (page_digests t.held j) (λ x. sha256 (here (32 * j + x))) whole (λ k l. page_digest_here j k d.within l) e))
       where
-        fits : fitting (get_or digests j []) (known_below t j) ≡ Some pages
+        fits : fitting_children (get_or digests j []) (known_below t j) ≡ Some pages
         fits = sym (Seeking.pages_of_part_is t digests told full differ j d.within) ∙ known
 
         whole : length pages ≡ 32

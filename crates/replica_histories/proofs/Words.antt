@@ -9,7 +9,7 @@ use Rattle.ordering.specs.Log.{LogData}
 use Rattle.protocol.specs.System.Configuration.{Configuration, primary, span}
 use Rattle.protocol.specs.System.Trace.{Entry}
 use Rattle.protocol.specs.Replica.Certificates.{low, is_in_marks}
-use Rattle.replica_histories.specs.Logs.{FitsLog, Stays}
+use Rattle.replica_histories.specs.Logs.{FitsLog, LogStays}
 
 -- ---- options and tests
 
@@ -44,7 +44,7 @@ marks_are c me log past i f = ap (λ (h : ℕ). is_in_marks c h i) f.low ∙ mar
 pub below_marks : (log : LogData) (i : ℕ) → i ≤ log.low → logs.is_in_marks log i ≡ false
 below_marks log i l = rw (le-ltb log.low i l) refl
 
-pub marks_stay : (old new : LogData) (i : ℕ) → Stays old new → logs.is_in_marks new i ≡ logs.is_in_marks old i
+pub marks_stay : (old new : LogData) (i : ℕ) → LogStays old new → logs.is_in_marks new i ≡ logs.is_in_marks old i
 marks_stay old new i s = rw (s.low, s.span) refl
 
 pub primary_same : (c : Configuration) (log : LogData) (v : ℕ) → log.faults ≡ c.faults → logs.primary log v ≡ primary c v

@@ -16,9 +16,9 @@ use Rattle.protocol.specs.Replica.Selection.{signed_change}
 use Rattle.protocol.specs.Replica.Certificates.{brought, view, target, taken, logged, commit_of, latest_change}
 use Rattle.protocol.specs.Replica.RightReplica.{Point, HistoryReaches, SendsBytes, SentBefore, HasOwnLeaf, MayCheckpoint}
 use Rattle.protocol.specs.Replica.Owed.{AreKeysSpent, latest_checkpoint}
-use Rattle.claims.specs.ClaimsView.{ClaimsData, no_claims, claim_of, IsAmong}
+use Rattle.claims.specs.ClaimsView.{ClaimsData, no_claims, claim_of, IsAmongTexts}
 use Rattle.claims.specs.Recording.{with_prepared, with_logged, with_all, above_mark}
-use Rattle.view_change.specs.ReceivedData.{HeldData, held_of, refusal_of, with_held}
+use Rattle.view_change.specs.ReceivedData.{HeldData, held_of, view_change_refusal, with_held}
 use Rattle.replica_histories.specs.Desk.{Desk}
 use Rattle.replica_histories.specs.Logs.{FitsLog}
 use Rattle.replica_histories.specs.Events.{Start, after_outputs, Fits, Holds, start_at}
@@ -116,7 +116,7 @@ pub record FitsChanges (c : Configuration) (me : ℕ) (log : LogData) (x : Chang
 -- ---- one entry more
 
 -- The logs fit the histories before and after the entry, and the replica came to both.
-pub record Passes (c : Configuration) (me : ℕ) (past : List Entry) (e : Entry) (log after : LogData) : Type 0 where
+pub record LogPassesEntry (c : Configuration) (me : ℕ) (past : List Entry) (e : Entry) (log after : LogData) : Type 0 where
   pub old : Point
   pub new : Point
   pub leaves : HistoryReaches c me past old
@@ -130,13 +130,13 @@ OutputsPass =
     (c : Configuration) (me : ℕ) (s : Start) (desk later : Desk) (log after : LogData) (due rest : List Message)
     (outputs : List Entry) (e : Entry)
     → Fits c me s desk log due outputs → Fits c me s later after rest (e ∷ outputs)
-    → Passes c me (after_outputs s outputs) e log after
+    → LogPassesEntry c me (after_outputs s outputs) e log after
 
 abbrev pub InputsEnter : Type 0
 InputsEnter =
     (c : Configuration) (me : ℕ) (desk later : Desk) (log after : LogData) (due : List Message) (past : List Entry)
     (input : Entry) (held : Holds c me desk log past)
-    → Fits c me (start_at c me desk log past held input) later after due [] → Passes c me past input log after
+    → Fits c me (start_at c me desk log past held input) later after due [] → LogPassesEntry c me past input log after
 
 -- the log is in the same view, and active or inactive as before
 pub record IsSameView (old new : LogData) : Type 0 where
@@ -189,7 +189,7 @@ SilentKeep = (c : Configuration) (me : ℕ) (past : List Entry) (e : Entry) → 
 abbrev pub GotKeep : Type 0
 GotKeep =
     (c : Configuration) (me : ℕ) (past : List Entry) (bytes : List ℕ) (log after : LogData)
-    → Passes c me past (Got me bytes) log after → IsSameView log after → taken c past (Got me bytes) ≡ None
+    → LogPassesEntry c me past (Got me bytes) log after → IsSameView log after → taken c past (Got me bytes) ≡ None
     → ((i : ℕ) → logs.is_in_marks log i ≡ true → logs.logged_batch after i ≡ logs.logged_batch log i)
     → ((s : ℕ) → s ≢ me → latest_change c (Got me bytes ∷ past) s ≡ latest_change c past s)
     → KeepsChanges c me past (Got me bytes)
@@ -235,13 +235,13 @@ OwnAreSigned =
 pub record CutsClaims (low : ℕ) (old new : ClaimsData) : Type 0 where
   pub prepared : new.prepared ≡ above_mark low old.prepared
   pub logged : new.logged ≡ above_mark low old.logged
-  pub texts : Each (IsAmong old.texts) new.texts
+  pub texts : Each (IsAmongTexts old.texts) new.texts
 
 -- one more logged batch
 pub record AddsLogged (number view : ℕ) (text : List ℕ) (old new : ClaimsData) : Type 0 where
   pub prepared : new.prepared ≡ old.prepared
   pub logged : new.logged ≡ with_logged (claim_of number view text) old.logged
-  pub texts : Each (IsAmong (text ∷ old.texts)) new.texts
+  pub texts : Each (IsAmongTexts (text ∷ old.texts)) new.texts
 
 -- the claims of batches from a number on, as far as they are within the log's marks
 abbrev pub claims_from : LogData → ℕ → ℕ → List (List ℕ) → List Claim
@@ -251,16 +251,16 @@ claims_from log view i (batch ∷ batches) =
     claims_from log view (suc i) batches
 
 -- and their texts
-abbrev pub texts_from : LogData → ℕ → List (List ℕ) → List (List ℕ)
-texts_from log i [] = []
-texts_from log i (batch ∷ batches) =
-    if logs.is_in_marks log i then batch ∷ texts_from log (suc i) batches else texts_from log (suc i) batches
+abbrev pub texts_in_marks : LogData → ℕ → List (List ℕ) → List (List ℕ)
+texts_in_marks log i [] = []
+texts_in_marks log i (batch ∷ batches) =
+    if logs.is_in_marks log i then batch ∷ texts_in_marks log (suc i) batches else texts_in_marks log (suc i) batches
 
 -- the claims with these batches
 pub record AddsBatches (log : LogData) (view first : ℕ) (batches : List (List ℕ)) (old new : ClaimsData) : Type 0 where
   pub prepared : new.prepared ≡ old.prepared
   pub logged : new.logged ≡ with_all with_logged (claims_from log view first batches) old.logged
-  pub texts : Each (λ text. IsAmong old.texts text ⊎ IsAmong (texts_from log first batches) text) new.texts
+  pub texts : Each (λ text. IsAmongTexts old.texts text ⊎ IsAmongTexts (texts_in_marks log first batches) text) new.texts
 
 -- the claims when a new view begins: those above the new low mark, and its batches
 pub record BeginsClaims (log : LogData) (new : NewViewData) (old after : ClaimsData) : Type 0 where
@@ -286,7 +286,7 @@ abbrev pub ChangesStay : Type 0
 ChangesStay =
     (c : Configuration) (me : ℕ) (past : List Entry) (e : Entry) (log after : LogData) (x : Changes)
     (claims : ClaimsData)
-    → Passes c me past e log after → IsSameView log after → KeepsChanges c me past e
+    → LogPassesEntry c me past e log after → IsSameView log after → KeepsChanges c me past e
     → CutsClaims after.low x.claims claims → FitsChanges c me log x past
     → FitsChanges c me after (record x { claims = claims }) (e ∷ past)
 
@@ -295,7 +295,7 @@ abbrev pub CheckpointsAreNoted : Type 0
 CheckpointsAreNoted =
     (c : Configuration) (me : ℕ) (past : List Entry) (log after : LogData) (x : Changes) (claims : ClaimsData)
     (entry : CheckpointEntry) (bytes : List ℕ)
-    → Passes c me past (Sent me bytes) log after → IsSameView log after
+    → LogPassesEntry c me past (Sent me bytes) log after → IsSameView log after
     → said bytes ≡ Some (record { sender = me; message = Checkpoint entry.number entry.digest })
     → latest_checkpoint c me (Sent me bytes ∷ past) ≡ Some entry
     → CutsClaims after.low x.claims claims → FitsChanges c me log x past
@@ -314,7 +314,7 @@ CheckpointsAreLatest =
 abbrev pub CommitsAreClaimed : Type 0
 CommitsAreClaimed =
     (c : Configuration) (me : ℕ) (past : List Entry) (log after : LogData) (x : Changes) (i : ℕ) (digest bytes : List ℕ)
-    → Passes c me past (Sent me bytes) log after → IsSameView log after → after.low ≡ log.low
+    → LogPassesEntry c me past (Sent me bytes) log after → IsSameView log after → after.low ≡ log.low
     → logs.due_commit log i ≡ Some digest
     → said bytes ≡ Some (record { sender = me; message = Commit log.view i digest })
     → FitsChanges c me log x past
@@ -329,7 +329,7 @@ abbrev pub BatchesAreClaimed : Type 0
 BatchesAreClaimed =
     (c : Configuration) (me : ℕ) (past : List Entry) (e : Entry) (log : LogData) (x : Changes) (claims : ClaimsData)
     (s i : ℕ) (text : List ℕ)
-    → Passes c me past e log (logs.with_batch log i text) → logs.is_in_marks log i ≡ true
+    → LogPassesEntry c me past e log (logs.with_batch log i text) → logs.is_in_marks log i ≡ true
     → logs.logged_batch log i ≡ None
     → brought c e ≡ Some (record { sender = s; message = PrePrepare log.view i text })
     → AddsLogged i log.view text x.claims claims → FitsChanges c me log x past
@@ -339,7 +339,7 @@ BatchesAreClaimed =
 abbrev pub ChangesAreSent : Type 0
 ChangesAreSent =
     (c : Configuration) (me spent : ℕ) (past : List Entry) (log : LogData) (x : Changes) (own : HeldData)
-    → Passes c me past (Sent me own.frame) log (logs.left log) → me < replicas c → own.sender ≡ me
+    → LogPassesEntry c me past (Sent me own.frame) log (logs.left log) → me < replicas c → own.sender ≡ me
     → IsPosted c me (ViewChange own.change) [] own.frame → target past < own.change.view
     → SpendsLeaves x.spent spent past (Sent me own.frame) → FitsChanges c me log x past
     → FitsChanges c me (logs.left log)
@@ -350,9 +350,9 @@ abbrev pub ChangesAreTaken : Type 0
 ChangesAreTaken =
     (c : Configuration) (me : ℕ) (past : List Entry) (log : LogData) (x : Changes) (s : ℕ) (vc : ViewChangeData)
     (bytes : List ℕ)
-    → Passes c me past (Got me bytes) log log
+    → LogPassesEntry c me past (Got me bytes) log log
     → heard (members c) me bytes ≡ Some (record { sender = s; message = ViewChange vc })
-    → refusal_of c log.view x.held (s, vc) ≡ None → FitsChanges c me log x past
+    → view_change_refusal c log.view x.held (s, vc) ≡ None → FitsChanges c me log x past
     → FitsChanges c me log (record x {
       held = with_held (record { sender = s; change = vc; frame = bytes }) x.held;
     }) (Got me bytes ∷ past)
@@ -368,7 +368,7 @@ abbrev pub ViewsAreBegun : Type 0
 ViewsAreBegun =
     (c : Configuration) (me : ℕ) (past : List Entry) (e : Entry) (log : LogData) (x : Changes) (new : NewViewData)
     (frame : Option (List ℕ)) (claims : ClaimsData) (s spent : ℕ)
-    → Passes c me past e log (begun_log log new) → taken c past e ≡ Some new
+    → LogPassesEntry c me past e log (begun_log log new) → taken c past e ≡ Some new
     → brought c e ≡ Some (record { sender = s; message = NewView new })
     → BeginsClaims log new x.claims claims → IsOwnFrame c me e new frame → SpendsLeaves x.spent spent past e
     → FitsChanges c me log x past

@@ -12,7 +12,7 @@ use Rattle.protocol.specs.System.Trace.{Entry, Once, Has}
 use Rattle.protocol.specs.Replica.Certificates.{low, is_in_marks, logged, commit_of}
 use Rattle.protocol.specs.Replica.RightReplica.{Point, HistoryReaches, HasSeen, IsPreparedList, IsPrePreparedList}
 use Rattle.claims.specs.ClaimsView.{ClaimsData, no_claims, claim_of}
-use Rattle.claims.specs.Recording.{with_prepared, with_logged, with_all, above_mark, IsLoggedAs, Adds, IsLatest, RecordsLogged}
+use Rattle.claims.specs.Recording.{with_prepared, with_logged, with_all, above_mark, IsLoggedAs, AddsClaims, IsLatest, RecordsLogged}
 use Rattle.replica_histories.specs.Logs.{FitsLog}
 
 -- the replica's own commit in the view, at the number, is of this digest
@@ -31,7 +31,7 @@ pub record FitsClaims (c : Configuration) (me : ℕ) (history : List Entry) (cla
   pub texts : Each (WasLogged c me history) claims.texts
 
 -- The claims after an entry: those above the low mark after it, with the entry's own claims, in order.
-pub record Grows (claims after : ClaimsData) (low : ℕ) (commits batches : List Claim) : Type 0 where
+pub record ClaimsGrowByEntry (claims after : ClaimsData) (low : ℕ) (commits batches : List Claim) : Type 0 where
   pub prepared : after.prepared ≡ with_all with_prepared commits (above_mark low claims.prepared)
   pub logged : after.logged ≡ with_all with_logged batches (above_mark low claims.logged)
 
@@ -47,9 +47,9 @@ ClaimsGrow =
     (c : Configuration) (me : ℕ) (log : LogData) (past : List Entry) (e : Entry) (old new : Point)
     (claims after : ClaimsData) (commits batches : List Claim)
     → FitsLog c me log past → HistoryReaches c me past old → HistoryReaches c me (e ∷ past) new
-    → Adds (SaidCommit c me past) (SaidCommit c me (e ∷ past)) (is_in_marks c (low c me (e ∷ past))) commits
-    → Adds (IsLoggedAs c me past) (IsLoggedAs c me (e ∷ past)) (is_in_marks c (low c me (e ∷ past))) batches
-    → Grows claims after (low c me (e ∷ past)) commits batches
+    → AddsClaims (SaidCommit c me past) (SaidCommit c me (e ∷ past)) (is_in_marks c (low c me (e ∷ past))) commits
+    → AddsClaims (IsLoggedAs c me past) (IsLoggedAs c me (e ∷ past)) (is_in_marks c (low c me (e ∷ past))) batches
+    → ClaimsGrowByEntry claims after (low c me (e ∷ past)) commits batches
     → ((text : List ℕ) → Has (λ x. x ≡ text) after.texts
     → Has (λ x. x ≡ text) claims.texts ⊎ WasLogged c me (e ∷ past) text)
     → FitsClaims c me past claims → FitsClaims c me (e ∷ past) after
@@ -69,13 +69,13 @@ abbrev pub NoBatchAdds : Type 0
 NoBatchAdds =
     (c : Configuration) (me : ℕ) (past : List Entry) (e : Entry)
     → ((v i : ℕ) → logged c me (e ∷ past) v i ≡ logged c me past v i)
-    → Adds (IsLoggedAs c me past) (IsLoggedAs c me (e ∷ past)) (is_in_marks c (low c me (e ∷ past))) []
+    → AddsClaims (IsLoggedAs c me past) (IsLoggedAs c me (e ∷ past)) (is_in_marks c (low c me (e ∷ past))) []
 
 abbrev pub NoCommitAdds : Type 0
 NoCommitAdds =
     (c : Configuration) (me : ℕ) (past : List Entry) (e : Entry)
     → ((v i : ℕ) → commit_of c me (e ∷ past) v i me ≡ commit_of c me past v i me)
-    → Adds (SaidCommit c me past) (SaidCommit c me (e ∷ past)) (is_in_marks c (low c me (e ∷ past))) []
+    → AddsClaims (SaidCommit c me past) (SaidCommit c me (e ∷ past)) (is_in_marks c (low c me (e ∷ past))) []
 
 -- An entry with one batch adds its claim, and so does one with an own commit.
 abbrev pub BatchAdds : Type 0
@@ -83,7 +83,7 @@ BatchAdds =
     (c : Configuration) (me : ℕ) (past : List Entry) (e : Entry) (v i : ℕ) (text : List ℕ)
     → is_in_marks c (low c me (e ∷ past)) i ≡ true → logged c me (e ∷ past) v i ≡ Some text
     → ((w j : ℕ) → (w ≢ v) ⊎ (j ≢ i) → logged c me (e ∷ past) w j ≡ logged c me past w j)
-    → Adds (IsLoggedAs c me past) (IsLoggedAs c me (e ∷ past)) (is_in_marks c (low c me (e ∷ past)))
+    → AddsClaims (IsLoggedAs c me past) (IsLoggedAs c me (e ∷ past)) (is_in_marks c (low c me (e ∷ past)))
     (claim_of i v text ∷ [])
 
 abbrev pub CommitAdds : Type 0
@@ -91,7 +91,7 @@ CommitAdds =
     (c : Configuration) (me : ℕ) (past : List Entry) (e : Entry) (v i : ℕ) (digest : List ℕ)
     → is_in_marks c (low c me (e ∷ past)) i ≡ true → commit_of c me (e ∷ past) v i me ≡ Some digest
     → ((w j : ℕ) → (w ≢ v) ⊎ (j ≢ i) → commit_of c me (e ∷ past) w j me ≡ commit_of c me past w j me)
-    → Adds (SaidCommit c me past) (SaidCommit c me (e ∷ past)) (is_in_marks c (low c me (e ∷ past)))
+    → AddsClaims (SaidCommit c me past) (SaidCommit c me (e ∷ past)) (is_in_marks c (low c me (e ∷ past)))
     (record { number = i; digest = digest; view = v } ∷ [])
 
 -- The requests of a logged batch were seen, in the message that brought it.

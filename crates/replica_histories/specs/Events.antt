@@ -20,7 +20,7 @@ use Rattle.protocol.specs.Replica.Transfers.{fetching, asked_last}
 use Rattle.protocol.specs.Replica.Owed.{IsNumbered, NumbersOnce, Counts, AreKeysSpent, CanBeginView, HistoryIsPrompt}
 use Rattle.replica_histories.specs.Desk.{Desk, snapshot_of, point_of, desk_from}
 use Rattle.replica_histories.specs.Logs.{FitsLog}
-use Rattle.replica_histories.specs.Transfers.{FitsOpen}
+use Rattle.replica_histories.specs.Transfers.{FitsOpenTransfer}
 use Rattle.replica_histories.specs.Questions.{AnswersInput}
 use Rattle.replica_histories.specs.TransfersQuorums.{QuorumsFetched, FetchesQuorums}
 pub use Rattle.replica_histories.specs.Running.{Start, after_outputs, Steps, AtEach, IsOnItsWay}
@@ -28,8 +28,8 @@ pub use Rattle.replica_histories.specs.Running.{Start, after_outputs, Steps, AtE
 -- ---- an event
 
 -- the input is a request to which this reply was sent before
-abbrev pub IsAsked : Configuration → ℕ → Start → ℕ → Kept → Type 0
-IsAsked c me s k kept =
+abbrev pub IsRepeatedRequest : Configuration → ℕ → Start → ℕ → Kept → Type 0
+IsRepeatedRequest c me s k kept =
     (timestamp : ℕ) × (op : Operation)
     × Hears c me (record { sender = client_party k; message = Request timestamp modes.Ordered op }) s.before s.input
     × (kept_of s.old.state k ≡ Some kept) × (kept.timestamp ≡ timestamp)
@@ -86,10 +86,10 @@ pub record FitsDesk (c : Configuration) (me : ℕ) (s : Start) (desk : Desk) (du
   pub kept : FitsSnapshots c me desk states (after_outputs s outputs)
   pub frames : FitsFrames c me desk (after_outputs s outputs)
   pub replies : (r : Ran) → Has (λ x. x ≡ r) ran → IsOnItsWay me due outputs (reply_of r.call.client r.kept)
-  pub asked : (k : ℕ) (kept : Kept) → IsAsked c me s k kept → IsOnItsWay me due outputs (reply_of k kept)
+  pub asked : (k : ℕ) (kept : Kept) → IsRepeatedRequest c me s k kept → IsOnItsWay me due outputs (reply_of k kept)
   pub checkpoints : (k : ℕ) → Has (λ e. Executes k [] e) outputs → k % c.period ≡ 0
       → Has (λ st. (st.number ≡ k) × IsOnItsWay me due outputs (Checkpoint k (root_of st))) states
-  pub opened : FitsOpen c me desk.transfer desk.state.number (after_outputs s outputs)
+  pub opened : FitsOpenTransfer c me desk.transfer desk.state.number (after_outputs s outputs)
   pub fetches : FetchesQuorums c me s desk.state.number due outputs
   pub fetch_again : (k index : ℕ) (level : Level) → IsAskedOpen s k level index
       → IsOnItsWay me due outputs (Fetch k level index)
@@ -97,15 +97,15 @@ pub record FitsDesk (c : Configuration) (me : ℕ) (s : Start) (desk : Desk) (du
       → MaySayDue c me (after_outputs s outputs) (point_of desk states ran) message
 
 -- a state of this number, or of a greater one, was fetched, or the fetch of its root is due
-abbrev pub IsFetched : ℕ → List Message → List Entry → Type 0
-IsFetched k due history = (k ≤ fetching history) ⊎ Has (λ x. x ≡ Fetch k levels.Root 0) due
+abbrev pub IsFetchedOrDue : ℕ → List Message → List Entry → Type 0
+IsFetchedOrDue k due history = (k ≤ fetching history) ⊎ Has (λ x. x ≡ Fetch k levels.Root 0) due
 
 -- The low mark is not above the executed number. Or a state there is being fetched, as when a new view starts above it.
 -- Then no batch is committed for the next number, which the log can't have.
-abbrev pub IsReached : Configuration → ℕ → ℕ → ℕ → List Message → List Entry → Type 0
-IsReached c me mark number due history =
+abbrev pub LowMarkIsReached : Configuration → ℕ → ℕ → ℕ → List Message → List Entry → Type 0
+LowMarkIsReached c me mark number due history =
     (mark ≤ number)
-    ⊎ (IsFetched mark due history
+    ⊎ (IsFetchedOrDue mark due history
     × ((v : ℕ) (batch : List ℕ) → Committed c me history v (suc number) batch → ⊥))
 
 -- Desk and log fit the history after the outputs, each on its own. The low mark is reached, no request was numbered
@@ -114,7 +114,7 @@ pub record Fits (c : Configuration) (me : ℕ) (s : Start) (desk : Desk) (log : 
     (outputs : List Entry) : Type 0 where
   pub of_desk : FitsDesk c me s desk due outputs
   pub of_log : FitsLog c me log (after_outputs s outputs)
-  pub low : IsReached c me log.low desk.state.number due (after_outputs s outputs)
+  pub low : LowMarkIsReached c me log.low desk.state.number due (after_outputs s outputs)
   pub once : AtEach (NumbersOnce c me) s outputs
   pub says : SaysOnce me s desk.state due outputs
 
@@ -153,7 +153,7 @@ pub record HoldsDesk (c : Configuration) (me : ℕ) (desk : Desk) (history : Lis
   pub is : point ≡ point_of desk point.snapshots point.ran
   pub kept : FitsSnapshots c me desk point.snapshots history
   pub frames : FitsFrames c me desk history
-  pub opened : FitsOpen c me desk.transfer desk.state.number history
+  pub opened : FitsOpenTransfer c me desk.transfer desk.state.number history
   pub fetches : QuorumsFetched c desk.state.number history
 
 -- The log fits the same history, and asks for no vote. It knows no point and no state.
@@ -166,7 +166,7 @@ pub record HoldsLog (c : Configuration) (me : ℕ) (log : LogData) (history : Li
 pub record Holds (c : Configuration) (me : ℕ) (desk : Desk) (log : LogData) (history : List Entry) : Type 0 where
   pub of_desk : HoldsDesk c me desk history
   pub of_log : HoldsLog c me log history
-  pub low : IsReached c me log.low desk.state.number [] history
+  pub low : LowMarkIsReached c me log.low desk.state.number [] history
 
 -- the start of an event after a history that they fit
 abbrev pub start_at : (c : Configuration) (me : ℕ) (desk : Desk) (log : LogData) (past : List Entry)

@@ -20,7 +20,7 @@ use Rattle.state_transfer.specs.declared.place.Place.{Place}
 use Rattle.state_transfer.specs.Places.{page_place}
 use Rattle.state_transfer.specs.Transfer.{TransferData, wanted, with_digests, with_page}
 use Rattle.replica_histories.specs.Desk.{Desk}
-use Rattle.replica_histories.specs.Transfers.{MayAsk, AsksNext, FitsOpen, RestsOnState, transfer_to, open_number}
+use Rattle.replica_histories.specs.Transfers.{TransferMayAsk, AsksNext, FitsOpenTransfer, RestsOnState, transfer_to, open_number}
 use Rattle.replica_histories.specs.Questions.{is_part, AnswersInput}
 use Rattle.replica_histories.specs.Events.{Start, after_outputs, Fits, Holds, start_at}
 use Rattle.replica_histories.specs.Inputs.{fetch_due}
@@ -33,7 +33,7 @@ abbrev pub FetchesFit : Type 0
 FetchesFit =
     (c : Configuration) (me : ℕ) (s : Start) (desk : Desk) (log : LogData) (due : List Message) (outputs : List Entry)
     (t : TransferData) (bytes : List ℕ)
-    → MayAsk c me t desk.state.number (after_outputs s outputs) → AsksNext c me t desk.state (after_outputs s outputs)
+    → TransferMayAsk c me t desk.state.number (after_outputs s outputs) → AsksNext c me t desk.state (after_outputs s outputs)
     → IsPosted c me (Fetch t.number t.asked.level t.asked.index) (others c me) bytes
     → Fits c me s desk log due outputs
     → Fits c me s (record desk { transfer = Some t }) log due (Sent me bytes ∷ outputs)
@@ -42,7 +42,7 @@ abbrev pub DueFetchesFit : Type 0
 DueFetchesFit =
     (c : Configuration) (me : ℕ) (s : Start) (desk : Desk) (log : LogData) (rest : List Message) (outputs : List Entry)
     (t : TransferData) (bytes : List ℕ)
-    → MayAsk c me t desk.state.number (after_outputs s outputs) → AsksNext c me t desk.state (after_outputs s outputs)
+    → TransferMayAsk c me t desk.state.number (after_outputs s outputs) → AsksNext c me t desk.state (after_outputs s outputs)
     → IsPosted c me (Fetch t.number t.asked.level t.asked.index) (others c me) bytes
     → Fits c me s desk log (Fetch t.number t.asked.level t.asked.index ∷ rest) outputs
     → Fits c me s (record desk { transfer = Some t }) log rest (Sent me bytes ∷ outputs)
@@ -56,7 +56,7 @@ QuorumsMayAsk =
     → 2 * log.faults + 1 ≤ logs.count_checkpoints log entry → log.low < entry.number
     → open_number desk.state.number desk.transfer < entry.number
     → Fits c me s desk log due outputs
-    → MayAsk c me (transfer_to desk.transfer entry.number entry.digest pages) desk.state.number (after_outputs s outputs)
+    → TransferMayAsk c me (transfer_to desk.transfer entry.number entry.digest pages) desk.state.number (after_outputs s outputs)
     × AsksNext c me (transfer_to desk.transfer entry.number entry.digest pages) desk.state (after_outputs s outputs)
 
 -- Between events no fetch is due.
@@ -79,7 +79,7 @@ DigestsEnter =
     → wanted t place ≡ Some (digest_of_children digests)
     → Fits c me (start_at c me desk log past held (Got me bytes))
     (record desk { transfer = Some (with_digests t place digests) }) log [] []
-    × MayAsk c me (with_digests t place digests) desk.state.number (Got me bytes ∷ past)
+    × TransferMayAsk c me (with_digests t place digests) desk.state.number (Got me bytes ∷ past)
 
 -- So does a page that was asked for last, whatever its digest: before an installation all held pages are compared with
 -- the root. The replica has not taken the page until the transfer asks on with it, or its state is installed.
@@ -91,7 +91,7 @@ PagesEnter =
     → heard (members c) me bytes ≡ Some (record { sender = s; message = Page t.number index text })
     → length t.held ≡ PAGES → length t.fetched ≡ PAGES
     → Fits c me (start_at c me desk log past held (Got me bytes)) desk log [] []
-    × MayAsk c me (with_page t index text) desk.state.number (Got me bytes ∷ past)
+    × TransferMayAsk c me (with_page t index text) desk.state.number (Got me bytes ∷ past)
 
 -- Digests, or a page, count if the open transfer asked for them and they have the wanted digest.
 abbrev pub AskedDigestsCount : Type 0
@@ -143,8 +143,8 @@ FetchesSuffice =
     → AnswersInput c me past (Got me bytes) outputs held.of_desk.point executed
 
 -- Or the transfer's number is reached, if these pages are those of a state that can be installed.
-abbrev pub Reaches : State → TransferData → ℕ → Type 0
-Reaches old t executed =
+abbrev pub TransferReachesState : State → TransferData → ℕ → Type 0
+TransferReachesState old t executed =
     (st : State) → IsReplicatedState st → st.number ≡ t.number → pages_of st ≡ t.held
     → ((client : ℕ) → last_time old client ≤ last_time st client) → t.number ≤ executed
 
@@ -154,8 +154,8 @@ FetchedSuffice =
     (c : Configuration) (me : ℕ) (desk : Desk) (log : LogData) (past : List Entry) (t new : TransferData) (body : Body)
     (bytes : List ℕ) (outputs : List Entry) (executed : ℕ) (held : Holds c me desk log past)
     → desk.transfer ≡ Some t → heard (members c) me bytes ≡ Some body → is_part body ≡ true
-    → new.number ≡ t.number → MayAsk c me new desk.state.number (Got me bytes ∷ past) → RestsOnState new desk.state
-    → length new.held ≡ PAGES → root_of_pages new.held ≡ new.root → Reaches desk.state new executed
+    → new.number ≡ t.number → TransferMayAsk c me new desk.state.number (Got me bytes ∷ past) → RestsOnState new desk.state
+    → length new.held ≡ PAGES → root_of_pages new.held ≡ new.root → TransferReachesState desk.state new executed
     → AnswersInput c me past (Got me bytes) outputs held.of_desk.point executed
 
 -- ---- the open transfer
@@ -165,5 +165,5 @@ abbrev pub TransfersChange : Type 0
 TransfersChange =
     (c : Configuration) (me : ℕ) (s : Start) (desk : Desk) (log : LogData) (due : List Message) (outputs : List Entry)
     (open_one : Option TransferData)
-    → FitsOpen c me open_one desk.state.number (after_outputs s outputs)
+    → FitsOpenTransfer c me open_one desk.state.number (after_outputs s outputs)
     → Fits c me s desk log due outputs → Fits c me s (record desk { transfer = open_one }) log due outputs

@@ -26,7 +26,7 @@ use Rattle.protocol.specs.Replica.State.{State, kept_of, last_time}
 use Rattle.protocol.specs.Replica.RightReplica.{Point, reply_of, waiting_after}
 use Rattle.protocol.specs.Replica.Owed.{IsNoOlder, Counts}
 use Rattle.replica_histories.specs.Desk.{Desk, point_of, desk_from}
-use Rattle.replica_histories.specs.Logs.{FitsLog, Takes}
+use Rattle.replica_histories.specs.Logs.{FitsLog, LogTakesBody}
 use Rattle.replica_histories.specs.Marks.{checked_log}
 use Rattle.replica_histories.specs.Transfers.{open_number}
 use Rattle.replica_histories.specs.Questions.{AnswersInput}
@@ -48,29 +48,29 @@ asked_in st sender timestamp modes.ReadOnly = []
 abbrev pub asked_by : State → Body → List Message
 asked_by st body = elim body.message [ Request timestamp mode op ↦ asked_in st body.sender timestamp mode | _ ↦ [] ]
 
-abbrev pub asked : State → Option Body → List Message
-asked st said = option_map_or (asked_by st) said []
+abbrev pub replies_again : State → Option Body → List Message
+replies_again st said = option_map_or (asked_by st) said []
 
 -- ---- an event begins
 
 -- How received bytes change desk and log, and what is due at once.
-pub record Enters (c : Configuration) (me : ℕ) (bytes : List ℕ) (desk new : Desk) (log after : LogData)
+pub record BytesEnter (c : Configuration) (me : ℕ) (bytes : List ℕ) (desk new : Desk) (log after : LogData)
     (due : List Message) : Type 0 where
-  pub takes : Takes c me (heard (members c) me bytes) log after
+  pub takes : LogTakesBody c me (heard (members c) me bytes) log after
   pub state : new.state ≡ desk.state
   pub snapshots : new.snapshots ≡ desk.snapshots
   pub waiting : new.waiting ≡ waiting_after c me (point_of desk [] []) bytes
   pub transfer : new.transfer ≡ desk.transfer
   pub frames : (frame : List ℕ) → Has (λ x. x ≡ frame) new.frames
       → Has (λ x. x ≡ frame) desk.frames ⊎ ((frame ≡ bytes) × (is_some (heard (members c) me bytes) ≡ true))
-  pub due_is : due ≡ asked desk.state (heard (members c) me bytes)
+  pub due_is : due ≡ replies_again desk.state (heard (members c) me bytes)
 
 -- Received bytes begin an event, if they bring no new view and move no mark.
 abbrev pub InputsFit : Type 0
 InputsFit =
     (c : Configuration) (me : ℕ) (desk new : Desk) (log after : LogData) (due : List Message) (past : List Entry)
     (bytes : List ℕ) (held : Holds c me desk log past)
-    → taken c past (Got me bytes) ≡ None → Enters c me bytes desk new log after due
+    → taken c past (Got me bytes) ≡ None → BytesEnter c me bytes desk new log after due
     → Fits c me (start_at c me desk log past held (Got me bytes)) new after due []
 
 -- A fetch is due if a quorum without the replica itself has sent the checkpoint, and its number is above the executed
@@ -113,27 +113,27 @@ BatchesCount =
     → heard (members c) me bytes ≡ Some (record { sender = s; message = PrePrepare v i batch })
     → preprepare_fault log s v i batch ≡ None → are_genuine c me batch ≡ true
     → Counts c me past point bytes s (PrePrepare v i batch)
-    × Takes c me (heard (members c) me bytes) log (logs.with_batch log i batch)
+    × LogTakesBody c me (heard (members c) me bytes) log (logs.with_batch log i batch)
 
-abbrev pub PreparesCount : Type 0
-PreparesCount =
+abbrev pub PreparesAreCounted : Type 0
+PreparesAreCounted =
     (c : Configuration) (me : ℕ) (log : LogData) (past : List Entry) (point : Point) (s v i : ℕ)
     (digest bytes : List ℕ) (vote : Vote)
     → FitsLog c me log past
     → heard (members c) me bytes ≡ Some (record { sender = s; message = Prepare v i digest })
     → prepare_fault log s v i digest ≡ None → vote.sender.0 ≡ s → vote.digest ≡ digest
     → Counts c me past point bytes s (Prepare v i digest)
-    × Takes c me (heard (members c) me bytes) log (logs.with_prepare log i vote)
+    × LogTakesBody c me (heard (members c) me bytes) log (logs.with_prepare log i vote)
 
-abbrev pub CommitsCount : Type 0
-CommitsCount =
+abbrev pub CommitsAreCounted : Type 0
+CommitsAreCounted =
     (c : Configuration) (me : ℕ) (log : LogData) (past : List Entry) (point : Point) (s v i : ℕ)
     (digest bytes : List ℕ) (vote : Vote)
     → FitsLog c me log past
     → heard (members c) me bytes ≡ Some (record { sender = s; message = Commit v i digest })
     → commit_fault log s v i digest ≡ None → vote.sender.0 ≡ s → vote.digest ≡ digest
     → Counts c me past point bytes s (Commit v i digest)
-    × Takes c me (heard (members c) me bytes) log (logs.with_commit log i vote)
+    × LogTakesBody c me (heard (members c) me bytes) log (logs.with_commit log i vote)
 
 -- A checkpoint without a fault counts, if it is one of its sender's latest then.
 abbrev pub CheckpointsCount : Type 0
@@ -164,28 +164,28 @@ BatchesDrop =
     → FitsLog c me log past
     → heard (members c) me bytes ≡ Some (record { sender = s; message = PrePrepare v i batch })
     → ((fault : Dropped) × (preprepare_fault log s v i batch ≡ Some fault)) ⊎ (are_genuine c me batch ≡ false)
-    → Takes c me (heard (members c) me bytes) log log
+    → LogTakesBody c me (heard (members c) me bytes) log log
 
 abbrev pub PreparesDrop : Type 0
 PreparesDrop =
     (c : Configuration) (me : ℕ) (log : LogData) (past : List Entry) (s v i : ℕ) (digest bytes : List ℕ)
     (fault : Dropped) → FitsLog c me log past
     → heard (members c) me bytes ≡ Some (record { sender = s; message = Prepare v i digest })
-    → prepare_fault log s v i digest ≡ Some fault → Takes c me (heard (members c) me bytes) log log
+    → prepare_fault log s v i digest ≡ Some fault → LogTakesBody c me (heard (members c) me bytes) log log
 
 abbrev pub CommitsDrop : Type 0
 CommitsDrop =
     (c : Configuration) (me : ℕ) (log : LogData) (past : List Entry) (s v i : ℕ) (digest bytes : List ℕ)
     (fault : Dropped) → FitsLog c me log past
     → heard (members c) me bytes ≡ Some (record { sender = s; message = Commit v i digest })
-    → commit_fault log s v i digest ≡ Some fault → Takes c me (heard (members c) me bytes) log log
+    → commit_fault log s v i digest ≡ Some fault → LogTakesBody c me (heard (members c) me bytes) log log
 
 abbrev pub CheckpointsDrop : Type 0
 CheckpointsDrop =
     (c : Configuration) (me : ℕ) (log : LogData) (past : List Entry) (s : ℕ) (entry : CheckpointEntry) (bytes : List ℕ)
     (fault : Dropped) → FitsLog c me log past
     → heard (members c) me bytes ≡ Some (record { sender = s; message = Checkpoint entry.number entry.digest })
-    → checkpoint_fault log s entry.number entry.digest ≡ Some fault → Takes c me (heard (members c) me bytes) log log
+    → checkpoint_fault log s entry.number entry.digest ≡ Some fault → LogTakesBody c me (heard (members c) me bytes) log log
 
 -- A checkpoint that isn't one of its sender's latest leaves the log as it is.
 abbrev pub EarlyCheckpointsDrop : Type 0
@@ -194,7 +194,7 @@ EarlyCheckpointsDrop =
     → FitsLog c me log past
     → heard (members c) me bytes ≡ Some (record { sender = s; message = Checkpoint entry.number entry.digest })
     → says_checkpoint entry (logs.checkpoints_of (logs.with_checkpoint_of log s entry) s) ≡ false
-    → (logs.with_checkpoint_of log s entry ≡ log) × Takes c me (heard (members c) me bytes) log log
+    → (logs.with_checkpoint_of log s entry ≡ log) × LogTakesBody c me (heard (members c) me bytes) log log
 
 -- the bytes are no authentic pre-prepare, prepare, commit or checkpoint
 abbrev pub IsBesideLog : Option Body → Type 0
@@ -211,7 +211,7 @@ IsBesideLog (Some body) = elim body.message [
 abbrev pub OthersDrop : Type 0
 OthersDrop =
     (c : Configuration) (me : ℕ) (log : LogData) (past : List Entry) (bytes : List ℕ) → FitsLog c me log past
-    → IsBesideLog (heard (members c) me bytes) → Takes c me (heard (members c) me bytes) log log
+    → IsBesideLog (heard (members c) me bytes) → LogTakesBody c me (heard (members c) me bytes) log log
 
 -- ---- inputs that pass
 
@@ -221,7 +221,7 @@ abbrev pub InputsPass : Type 0
 InputsPass =
     (c : Configuration) (me : ℕ) (desk : Desk) (log : LogData) (past : List Entry) (bytes : List ℕ)
     (held : Holds c me desk log past)
-    → taken c past (Got me bytes) ≡ None → Enters c me bytes desk desk log log []
+    → taken c past (Got me bytes) ≡ None → BytesEnter c me bytes desk desk log log []
     → AnswersInput c me past (Got me bytes) [] held.of_desk.point desk.state.number
     → LeavesNoView c me (Got me bytes ∷ past)
     → Holds c me desk log (Got me bytes ∷ past)

@@ -16,8 +16,8 @@ use Rattle.protocol.specs.Replica.Owed.{BeginsViewWith}
 -- ---- checkpoints
 
 -- those above the low mark
-abbrev pub above_mark : ℕ → List CheckpointEntry → List CheckpointEntry
-above_mark low checkpoints = filter (λ m. nat_lt low m.number) checkpoints
+abbrev pub checkpoints_above : ℕ → List CheckpointEntry → List CheckpointEntry
+checkpoints_above low checkpoints = filter (λ m. nat_lt low m.number) checkpoints
 
 -- each number is larger than all later ones
 abbrev pub Descend : List CheckpointEntry → Type 0
@@ -40,7 +40,7 @@ pub record IsVoted (c : Configuration) (me : ℕ) (history : List Entry) (v i : 
 
 -- Where a batch may be logged: in no later view than the log's; in that view up to the low mark or within the marks;
 -- and in no view above the marks.
-pub record IsWithin (log : LogData) (v i : ℕ) : Type 0 where
+pub record MayBeLogged (log : LogData) (v i : ℕ) : Type 0 where
   pub view : v ≤ log.view
   pub marks : v ≡ log.view → (i ≤ log.low) ⊎ (logs.is_in_marks log i ≡ true)
   pub ahead : (i ≤ log.low + log.span) × (i < 2 ^ 48)
@@ -77,7 +77,7 @@ pub record FitsLog (c : Configuration) (me : ℕ) (log : LogData) (history : Lis
       → prepare_of c me history log.view i s ≡ logs.prepare_of log i s
   pub commits : (i s : ℕ) → logs.is_in_marks log i ≡ true
       → commit_of c me history log.view i s ≡ logs.commit_of log i s
-  pub within : (v i : ℕ) (batch : List ℕ) → logged c me history v i ≡ Some batch → IsWithin log v i
+  pub within : (v i : ℕ) (batch : List ℕ) → logged c me history v i ≡ Some batch → MayBeLogged log v i
   pub above : (i s : ℕ) → log.low < i → logs.is_in_marks log i ≡ false
       → (prepare_of c me history log.view i s ≡ None) × (commit_of c me history log.view i s ≡ None)
   pub begun : (v : ℕ) (batch : List ℕ) → Once (BeginsViewWith c v batch) history → v ≤ log.view
@@ -85,11 +85,11 @@ pub record FitsLog (c : Configuration) (me : ℕ) (log : LogData) (history : Lis
       → logged c me history log.view i ≡ Some batch → IsVoted c me history log.view i batch
   pub views : FitsViews c me log history
   pub checkpoints : (s : ℕ)
-      → above_mark log.low (checkpoints_of c history s) ≡ above_mark log.low (logs.checkpoints_of log s)
+      → checkpoints_above log.low (checkpoints_of c history s) ≡ checkpoints_above log.low (logs.checkpoints_of log s)
   pub latest : (s : ℕ) → AreLatest (logs.checkpoints_of log s)
 
 -- the log stays in its view and marks, and keeps its checkpoints
-pub record Stays (old new : LogData) : Type 0 where
+pub record LogStays (old new : LogData) : Type 0 where
   pub is_log : IsLog new
   pub me : new.me ≡ old.me
   pub faults : new.faults ≡ old.faults
@@ -105,8 +105,8 @@ while_active log given = if log.active then given else None
 
 -- How a body changes the log, if it moves no mark. Within the marks the first batch and votes stay, and so does a batch
 -- that was committed in an earlier view. A checkpoint adds nothing above the low mark.
-pub record Takes (c : Configuration) (me : ℕ) (said : Option Body) (old new : LogData) : Type 0 where
-  pub stays : Stays old new
+pub record LogTakesBody (c : Configuration) (me : ℕ) (said : Option Body) (old new : LogData) : Type 0 where
+  pub stays : LogStays old new
   pub batch : (i : ℕ) → logs.is_in_marks old i ≡ true
       → logs.logged_batch new i
       ≡ or_else (logs.logged_batch old i) (while_active old (option_and_then (batch_from c me old.view i) said))
@@ -119,5 +119,5 @@ pub record Takes (c : Configuration) (me : ℕ) (said : Option Body) (old new : 
   pub decided : (i : ℕ) → logs.is_in_marks old i ≡ true
       → (logs.row_of new i).decided ≡ (logs.row_of old i).decided
   pub checkpoint : (s : ℕ)
-      → above_mark old.low (with_checkpoint s (option_and_then checkpoint_from said) (logs.checkpoints_of old s))
-      ≡ above_mark old.low (logs.checkpoints_of old s)
+      → checkpoints_above old.low (with_checkpoint s (option_and_then checkpoint_from said) (logs.checkpoints_of old s))
+      ≡ checkpoints_above old.low (logs.checkpoints_of old s)

@@ -67,24 +67,24 @@ arrived begun call = record { call = call; numbered = is_begun begun call }
 -- ---- data that fit
 
 -- the client ran the timestamp, or a later one, or a request of it that is no older waits
-abbrev pub IsKnown : State → List Call → ℕ → ℕ → Type 0
-IsKnown st waiting client timestamp =
+abbrev pub CallIsKnown : State → List Call → ℕ → ℕ → Type 0
+CallIsKnown st waiting client timestamp =
     (timestamp ≤ last_time st client) ⊎ Has (λ call. (call.client ≡ client) × (timestamp ≤ call.timestamp)) waiting
 
 -- the call of this client and timestamp is in the new view
-abbrev pub IsBegun : List BegunCall → ℕ → ℕ → Type 0
-IsBegun begun client timestamp = Has (λ b. (b.client ≡ client) × (b.timestamp ≡ timestamp)) begun
+abbrev pub IsInNewView : List BegunCall → ℕ → ℕ → Type 0
+IsInNewView begun client timestamp = Has (λ b. (b.client ≡ client) × (b.timestamp ≡ timestamp)) begun
 
 -- the call has a number in the view v, or has none
-abbrev pub HasNumber : Configuration → ℕ → ℕ → List Entry → Call → Type 0
-HasNumber c me v history call = IsNumbered c me history v call.client call.timestamp
+abbrev pub CallHasNumber : Configuration → ℕ → ℕ → List Entry → Call → Type 0
+CallHasNumber c me v history call = IsNumbered c me history v call.client call.timestamp
 
-abbrev pub HasNone : Configuration → ℕ → ℕ → List Entry → Call → Type 0
-HasNone c me v history call = HasNumber c me v history call → ⊥
+abbrev pub CallHasNoNumber : Configuration → ℕ → ℕ → List Entry → Call → Type 0
+CallHasNoNumber c me v history call = CallHasNumber c me v history call → ⊥
 
 -- the request has a number exactly if its flag says so
 abbrev pub IsRightly : Configuration → ℕ → ℕ → List Entry → Waiting → Type 0
-IsRightly c me v history w = either w.numbered (HasNumber c me v history w.call) (HasNone c me v history w.call)
+IsRightly c me v history w = either w.numbered (CallHasNumber c me v history w.call) (CallHasNoNumber c me v history w.call)
 
 -- In the view v each number above the low mark has a batch, up to the greatest assigned one, and none above has one.
 -- The waiting requests are of different clients, and each has the right flag. The calls that began the view have
@@ -97,7 +97,7 @@ pub record FitsNumbers (c : Configuration) (me v used : ℕ) (begun : List Begun
   pub rightly : Each (IsRightly c me v history) entries
   pub numbered : Each (λ b. IsNumbered c me history v b.client b.timestamp) begun
   pub known : (client timestamp : ℕ) → IsNumbered c me history v client timestamp
-      → IsKnown st waiting client timestamp ⊎ IsBegun begun client timestamp
+      → CallIsKnown st waiting client timestamp ⊎ IsInNewView begun client timestamp
   pub differ : AllPairs (λ call twin. call.client ≢ twin.client) waiting
 
 -- Before the first entry no request has a number.

@@ -21,7 +21,7 @@ use Rattle.protocol.specs.Replica.Owed.{IsSaying, SendsMessage, HasRequest, IsNu
 use Rattle.state_transfer.specs.Transfer.{TransferData}
 use Rattle.replica_histories.specs.Desk.{Desk, Snapshot, snapshot_of, kept_from, desk_from}
 use Rattle.replica_histories.specs.Marks.{checked_log}
-use Rattle.replica_histories.specs.Transfers.{RestsOnState, MayAsk, still_open}
+use Rattle.replica_histories.specs.Transfers.{RestsOnState, TransferMayAsk, still_open}
 use Rattle.replica_histories.specs.Events.{Start, after_outputs, Fits}
 
 -- ---- votes
@@ -149,7 +149,7 @@ abbrev pub InstallationsFit : Type 0
 InstallationsFit =
     (c : Configuration) (me : ℕ) (s : Start) (desk : Desk) (log : LogData) (outputs : List Entry) (t : TransferData)
     (st : State) (frames : List (List ℕ))
-    → MayAsk c me t desk.state.number (after_outputs s outputs) → RestsOnState t desk.state → root_of_pages t.held ≡ t.root
+    → TransferMayAsk c me t desk.state.number (after_outputs s outputs) → RestsOnState t desk.state → root_of_pages t.held ≡ t.root
     → IsReplicatedState st → st.number ≡ t.number → pages_of st ≡ t.held → t.number < 2 ^ 48
     → ((client : ℕ) → last_time desk.state client ≤ last_time st client)
     → ((i : ℕ) → logs.due_prepare log i ≡ None)

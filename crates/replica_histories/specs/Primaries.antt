@@ -12,7 +12,7 @@ use Rattle.protocol.specs.Replica.Selection.{ascending, null_batch}
 use Rattle.protocol.specs.Replica.RightReplica.{Point, HistoryReaches}
 use Rattle.claims.specs.ClaimsView.{ClaimsData, digests_of}
 use Rattle.view_change.specs.ReceivedData.{HeldData, pairs_for}
-use Rattle.view_change.specs.Selecting.{meets, IsPart, NothingSelects}
+use Rattle.view_change.specs.Selecting.{meets, IsPartOfSet, NothingSelects}
 use Rattle.replica_histories.specs.Logs.{FitsLog}
 use Rattle.replica_histories.specs.Events.{LeavesNoView}
 use Rattle.replica_histories.specs.Changes.{Changes, FitsChanges}
@@ -25,7 +25,7 @@ IsClaimed claims batch = (batch ≡ null_batch) ⊎ Has (λ claim. claim.digest 
 abbrev pub SelectsNothing : Configuration → ℕ → List (Option HeldData) → ClaimsData → Type 0
 SelectsNothing c view held claims =
     (part : List (ℕ × ViewChangeData)) (start : ℕ) (root : List ℕ) (batches : List (List ℕ))
-    → IsPart part (pairs_for view held) → ascending part ≡ true → Each (IsClaimed claims) batches
+    → IsPartOfSet part (pairs_for view held) → ascending part ≡ true → Each (IsClaimed claims) batches
     → meets c view part start root batches ≡ false
 
 -- ---- laws

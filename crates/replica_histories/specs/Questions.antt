@@ -38,8 +38,8 @@ ordered_from call =
     record { sender = client_party call.client; message = Request call.timestamp modes.Ordered call.op }
 
 -- An event whose input is a read owes the reply from the executed state.
-abbrev pub AnswersReads : Configuration → ℕ → List Entry → Entry → List Entry → Point → Type 0
-AnswersReads c me before input outputs old =
+abbrev pub OwesReadReply : Configuration → ℕ → List Entry → Entry → List Entry → Point → Type 0
+OwesReadReply c me before input outputs old =
     (client timestamp : ℕ) (op : Operation) → Hears c me (read_from client timestamp op) before input
     → is_read_only op ≡ true → SendsMessage me (read_reply old.state client timestamp op) outputs
 
@@ -65,8 +65,8 @@ AnswersWaiting c me before input outputs old =
 
 -- An event in which the replica has to move to a view owes a view change for that view or a later one, unless its keys
 -- are spent. Only a view change within its bounds that a frame can spell is owed.
-abbrev pub MovesOn : Configuration → ℕ → List Entry → Entry → List Entry → Point → Type 0
-MovesOn c me before input outputs old =
+abbrev pub OwesViewChange : Configuration → ℕ → List Entry → Entry → List Entry → Point → Type 0
+OwesViewChange c me before input outputs old =
     (vc : ViewChangeData) (bytes : List ℕ) → HasToMove c me before input old.waiting vc.view
     → IsNewViewChange c me (input ∷ before) old vc → is_within c vc ≡ true
     → said bytes ≡ Some (record { sender = me; message = ViewChange vc })
@@ -75,9 +75,9 @@ MovesOn c me before input outputs old =
 -- All that an event owes to its input.
 abbrev pub AnswersInput : Configuration → ℕ → List Entry → Entry → List Entry → Point → ℕ → Type 0
 AnswersInput c me before input outputs old executed =
-    AnswersFetches c me before input outputs old × AnswersReads c me before input outputs old
+    AnswersFetches c me before input outputs old × OwesReadReply c me before input outputs old
     × AnswersDigests c me before input outputs old executed × AnswersPages c me before input outputs old executed
-    × AnswersWaiting c me before input outputs old × MovesOn c me before input outputs old
+    × AnswersWaiting c me before input outputs old × OwesViewChange c me before input outputs old
 
 -- a message asks for a part, is a request, or is a part
 abbrev pub asks_part : Body → Bool
@@ -126,7 +126,7 @@ abbrev pub OthersOweNoPart : Type 0
 OthersOweNoPart =
     (c : Configuration) (me : ℕ) (before : List Entry) (input : Entry) (outputs : List Entry) (old : Point)
     (executed : ℕ) → brings_part c me input ≡ false
-    → AnswersFetches c me before input outputs old × AnswersReads c me before input outputs old
+    → AnswersFetches c me before input outputs old × OwesReadReply c me before input outputs old
     × AnswersDigests c me before input outputs old executed × AnswersPages c me before input outputs old executed
     × AnswersWaiting c me before input outputs old
 

@@ -11,7 +11,7 @@ use Rattle.protocol.specs.Replica.Certificates.{view, latest_change}
 use Rattle.protocol.specs.Replica.RightReplica.{HasSeen, sought_view, JoinsOthers}
 use Rattle.protocol.specs.Replica.Owed.{BringsChange}
 use Rattle.view_change.specs.declared.change_fault.ChangeFault.{ChangeFault}
-use Rattle.view_change.specs.ReceivedData.{HeldData, held_of, refusal_of, with_held, AreHeldFrom, later_views, IsJoined}
+use Rattle.view_change.specs.ReceivedData.{HeldData, held_of, view_change_refusal, with_held, AreHeldFrom, later_views, IsJoined}
 
 -- the view of a replica's stored view change, else 0
 abbrev pub held_view : List (Option HeldData) → ℕ → ℕ
@@ -55,7 +55,7 @@ abbrev pub RefusedBringNone : Type 0
 RefusedBringNone =
     (c : Configuration) (me s : ℕ) (bytes : List ℕ) (past : List Entry) (held : List (Option HeldData))
     (x : ℕ × ViewChangeData) (fault : ChangeFault)
-    → signed_change c bytes ≡ Some x → refusal_of c (view c past) held x ≡ Some fault → s ≢ me
+    → signed_change c bytes ≡ Some x → view_change_refusal c (view c past) held x ≡ Some fault → s ≢ me
     → FitsReceived c me past held → latest_change c (Got me bytes ∷ past) s ≡ latest_change c past s
 
 -- A view change that is taken is stored in its sender's place.
@@ -63,7 +63,7 @@ abbrev pub ReceivedTakes : Type 0
 ReceivedTakes =
     (c : Configuration) (me s : ℕ) (bytes : List ℕ) (past : List Entry) (held : List (Option HeldData))
     (vc : ViewChangeData)
-    → signed_change c bytes ≡ Some (s, vc) → refusal_of c (view c past) held (s, vc) ≡ None → s < length held
+    → signed_change c bytes ≡ Some (s, vc) → view_change_refusal c (view c past) held (s, vc) ≡ None → s < length held
     → FitsReceived c me past held
     → FitsReceived c me (Got me bytes ∷ past) (with_held (record { sender = s; change = vc; frame = bytes }) held)
 

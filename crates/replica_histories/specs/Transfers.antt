@@ -17,7 +17,7 @@ use Rattle.protocol.specs.Replica.Selection.{is_quorum}
 use Rattle.protocol.specs.Replica.Certificates.{count_checkpoints}
 use Rattle.protocol.specs.Replica.State.{State, IsReplicatedState, pages_of, page_text}
 use Rattle.protocol.specs.Replica.RightReplica.{Point, IsStep, IsRootWanted, IsAskedAgain, MayFetch, still_waiting}
-use Rattle.protocol.specs.Replica.Transfers.{place_from, fetching, asked_last, took, in_place, GotBelow, NoneAsked, IsNext}
+use Rattle.protocol.specs.Replica.Transfers.{place_from, fetching, asked_last, took, in_place, GotBelow, NoneAsked, IsNextPart}
 use Rattle.protocol.specs.Replica.Owed.{IsWanted, Counts}
 use Rattle.state_transfer.specs.declared.place.Place.{Place}
 use Rattle.state_transfer.specs.Places.{page_place}
@@ -40,7 +40,7 @@ abbrev pub HasQuorum : Configuration → List Entry → ℕ → List ℕ → Typ
 HasQuorum c history k root = is_quorum c (count_checkpoints c history (record { number = k; digest = root })) ≡ true
 
 -- The root may be fetched, and the known digests were received: those below each place with their digest.
-pub record Aims (c : Configuration) (me : ℕ) (t : TransferData) (history : List Entry) : Type 0 where
+pub record TransferAims (c : Configuration) (me : ℕ) (t : TransferData) (history : List Entry) : Type 0 where
   pub root_wanted : IsRootWanted c history t.number t.root
   pub inner : (digests : List (List ℕ)) → t.part_digests ≡ Some digests
       → GotBelow c me history levels.Root 0 t.root digests
@@ -60,15 +60,15 @@ NoneTaken c me next history = (i : ℕ) → i < PAGES → took c me next history
 -- The transfer's place was asked for last, for its number, the greatest that anything was fetched for. The replica took
 -- the fetched pages.
 pub record FitsTransfer (c : Configuration) (me : ℕ) (t : TransferData) (history : List Entry) : Type 0 where
-  pub aims : Aims c me t history
+  pub aims : TransferAims c me t history
   pub asked : asked_last history ≡ Some (t.number, (t.asked.level, t.asked.index))
   pub newest : fetching history ≡ t.number
   pub taken : AreTaken c me None t history
 
 -- The transfer is above the executed number, and nothing above it was fetched. An event that goes on for its number
 -- takes the fetched pages. So its next place may be asked for, or its state installed.
-pub record MayAsk (c : Configuration) (me : ℕ) (t : TransferData) (number : ℕ) (history : List Entry) : Type 0 where
-  pub aims : Aims c me t history
+pub record TransferMayAsk (c : Configuration) (me : ℕ) (t : TransferData) (number : ℕ) (history : List Entry) : Type 0 where
+  pub aims : TransferAims c me t history
   pub newest : fetching history ≤ t.number
   pub ahead : number < t.number
   pub taken : AreTaken c me (Some t.number) t history
@@ -76,7 +76,7 @@ pub record MayAsk (c : Configuration) (me : ℕ) (t : TransferData) (number : �
 -- The transfer's place is the next part, over the state st, or is asked for again.
 abbrev pub AsksNext : Configuration → ℕ → TransferData → State → List Entry → Type 0
 AsksNext c me t st history =
-    IsNext c me history (in_place c me t.number history st) t.number t.root t.asked.level t.asked.index
+    IsNextPart c me history (in_place c me t.number history st) t.number t.root t.asked.level t.asked.index
     ⊎ IsAskedAgain history t.number t.asked.level t.asked.index
 
 -- the digests of the root's children are known
@@ -85,9 +85,9 @@ IsTold t = (digests : List (List ℕ)) × (t.part_digests ≡ Some digests)
 
 -- The transfer that is open at a replica of this executed number is above that number. If none is open, nothing above
 -- the number was fetched, and no page is taken.
-abbrev pub FitsOpen : Configuration → ℕ → Option TransferData → ℕ → List Entry → Type 0
-FitsOpen c me None number history = (fetching history ≤ number) × NoneTaken c me None history
-FitsOpen c me (Some t) number history = FitsTransfer c me t history × (number < t.number)
+abbrev pub FitsOpenTransfer : Configuration → ℕ → Option TransferData → ℕ → List Entry → Type 0
+FitsOpenTransfer c me None number history = (fetching history ≤ number) × NoneTaken c me None history
+FitsOpenTransfer c me (Some t) number history = FitsTransfer c me t history × (number < t.number)
 
 -- The pages that were not fetched are the state's.
 abbrev pub RestsOnState : TransferData → State → Type 0
@@ -120,7 +120,7 @@ abbrev pub WantedByHistory : Type 0
 WantedByHistory =
     (c : Configuration) (me : ℕ) (t : TransferData) (history : List Entry) (level : Level) (index : ℕ)
     (digest : List ℕ)
-    → Aims c me t history → wanted_at t level index ≡ Some digest → IsWanted c me history t.number level index digest
+    → TransferAims c me t history → wanted_at t level index ≡ Some digest → IsWanted c me history t.number level index digest
 
 -- Digests, and a page, count if the place was asked for and they have the digest that it has to have.
 abbrev pub DigestsCount : Type 0
@@ -128,7 +128,7 @@ DigestsCount =
     (c : Configuration) (me : ℕ) (t : TransferData) (history : List Entry) (point : Point) (bytes : List ℕ) (s : ℕ)
     (place : Place) (digests : List (List ℕ))
     → t.asked ≡ place → wanted t place ≡ Some (digest_of_children digests)
-    → FitsOpen c me (Some t) point.state.number history
+    → FitsOpenTransfer c me (Some t) point.state.number history
     → Counts c me history point bytes s (Meta t.number place.level place.index digests)
 
 abbrev pub PagesCount : Type 0
@@ -136,7 +136,7 @@ PagesCount =
     (c : Configuration) (me : ℕ) (t : TransferData) (history : List Entry) (point : Point) (bytes : List ℕ)
     (s index : ℕ) (text : List ℕ)
     → t.asked ≡ page_place index → wanted t (page_place index) ≡ Some (sha256 text)
-    → FitsOpen c me (Some t) point.state.number history
+    → FitsOpenTransfer c me (Some t) point.state.number history
     → Counts c me history point bytes s (Page t.number index text)
 
 -- ---- laws: from one entry to the next
@@ -145,7 +145,7 @@ PagesCount =
 abbrev pub AimsStay : Type 0
 AimsStay =
     (c : Configuration) (me : ℕ) (t : TransferData) (past : List Entry) (e : Entry)
-    → Aims c me t past → Aims c me t (e ∷ past)
+    → TransferAims c me t past → TransferAims c me t (e ∷ past)
 
 -- An entry that asks for no part leaves the last place asked for, and its number.
 abbrev pub AskedStays : Type 0
@@ -161,16 +161,16 @@ LeavesState e = elim e [ Executed r n batch ↦ ⊥ | Installed r n root ↦ ⊥
 abbrev pub OpenStays : Type 0
 OpenStays =
     (c : Configuration) (me : ℕ) (open_one : Option TransferData) (number : ℕ) (past : List Entry) (e : Entry)
-    → place_sent e ≡ None → LeavesState e → FitsOpen c me open_one number past
-    → FitsOpen c me open_one number (e ∷ past)
+    → place_sent e ≡ None → LeavesState e → FitsOpenTransfer c me open_one number past
+    → FitsOpenTransfer c me open_one number (e ∷ past)
 
 -- An execution ends a transfer up to its number, and leaves one above it.
 abbrev pub OpenExecutes : Type 0
 OpenExecutes =
     (c : Configuration) (me : ℕ) (open_one : Option TransferData) (number later : ℕ) (past : List Entry)
     (batch : List ℕ)
-    → number ≤ later → FitsOpen c me open_one number past
-    → FitsOpen c me (still_open later open_one) later (Executed me later batch ∷ past)
+    → number ≤ later → FitsOpenTransfer c me open_one number past
+    → FitsOpenTransfer c me (still_open later open_one) later (Executed me later batch ∷ past)
 
 -- ---- laws: the parts that a transfer takes
 
@@ -183,7 +183,7 @@ DigestsTaken =
     → heard (members c) me bytes
     ≡ Some (record { sender = s; message = Meta n place.level place.index digests })
     → wanted t place ≡ Some (digest_of_children digests)
-    → Aims c me t past → Aims c me (with_digests t place digests) (Got me bytes ∷ past)
+    → TransferAims c me t past → TransferAims c me (with_digests t place digests) (Got me bytes ∷ past)
 
 abbrev pub DigestsOpen : Type 0
 DigestsOpen =
@@ -192,8 +192,8 @@ DigestsOpen =
     → heard (members c) me bytes
     ≡ Some (record { sender = s; message = Meta n place.level place.index digests })
     → wanted t place ≡ Some (digest_of_children digests)
-    → FitsOpen c me (Some t) number past
-    → FitsOpen c me (Some (with_digests t place digests)) number (Got me bytes ∷ past)
+    → FitsOpenTransfer c me (Some t) number past
+    → FitsOpenTransfer c me (Some (with_digests t place digests)) number (Got me bytes ∷ past)
 
 -- After them the transfer may ask for any place, since no page arrived.
 abbrev pub DigestsMayAsk : Type 0
@@ -203,8 +203,8 @@ DigestsMayAsk =
     → heard (members c) me bytes
     ≡ Some (record { sender = s; message = Meta n place.level place.index digests })
     → wanted t place ≡ Some (digest_of_children digests)
-    → FitsOpen c me (Some t) number past
-    → MayAsk c me (with_digests t place digests) number (Got me bytes ∷ past)
+    → FitsOpenTransfer c me (Some t) number past
+    → TransferMayAsk c me (with_digests t place digests) number (Got me bytes ∷ past)
 
 -- A received page that was asked for last is taken by an event that goes on.
 abbrev pub PagesMayAsk : Type 0
@@ -213,15 +213,15 @@ PagesMayAsk =
     (s index : ℕ) (text : List ℕ)
     → heard (members c) me bytes ≡ Some (record { sender = s; message = Page t.number index text })
     → t.asked ≡ page_place index → length t.held ≡ PAGES → length t.fetched ≡ PAGES
-    → FitsOpen c me (Some t) number past
-    → MayAsk c me (with_page t index text) number (Got me bytes ∷ past)
+    → FitsOpenTransfer c me (Some t) number past
+    → TransferMayAsk c me (with_page t index text) number (Got me bytes ∷ past)
 
 -- After a tick the open transfer may ask again.
 abbrev pub TicksMayAsk : Type 0
 TicksMayAsk =
     (c : Configuration) (me : ℕ) (t : TransferData) (number : ℕ) (st : State) (past : List Entry)
-    → FitsOpen c me (Some t) number past
-    → MayAsk c me t number (Tick me ∷ past) × AsksNext c me t st (Tick me ∷ past)
+    → FitsOpenTransfer c me (Some t) number past
+    → TransferMayAsk c me t number (Tick me ∷ past) × AsksNext c me t st (Tick me ∷ past)
 
 -- A page that is given back leaves the transfer as it was.
 abbrev pub PagesGiveBack : Type 0
@@ -235,8 +235,8 @@ PagesRested =
     (c : Configuration) (me : ℕ) (pages : List (List ℕ)) (old new : TransferData) (number : ℕ)
     (history : List Entry)
     → IsRested old pages new
-    → (FitsOpen c me (Some old) number history → FitsOpen c me (Some new) number history)
-    × (MayAsk c me old number history → MayAsk c me new number history)
+    → (FitsOpenTransfer c me (Some old) number history → FitsOpenTransfer c me (Some new) number history)
+    × (TransferMayAsk c me old number history → TransferMayAsk c me new number history)
 
 -- ---- laws: a transfer starts, moves, and asks
 
@@ -249,12 +249,12 @@ QuorumsWant =
 abbrev pub TransfersStart : Type 0
 TransfersStart =
     (c : Configuration) (me k : ℕ) (root : List ℕ) (pages : List (List ℕ)) (history : List Entry)
-    → IsRootWanted c history k root → Aims c me (new_transfer k root pages) history
+    → IsRootWanted c history k root → TransferAims c me (new_transfer k root pages) history
 
 abbrev pub TransfersMove : Type 0
 TransfersMove =
     (c : Configuration) (me k : ℕ) (root : List ℕ) (t : TransferData) (history : List Entry)
-    → IsRootWanted c history k root → Aims c me t history → Aims c me (moved_to t k root) history
+    → IsRootWanted c history k root → TransferAims c me t history → TransferAims c me (moved_to t k root) history
 
 -- So a quorum above the executed state and the open transfer starts a transfer, or moves the open one. Any other above
 -- the executed number is at or below what was fetched.
@@ -262,42 +262,42 @@ abbrev pub QuorumsOpen : Type 0
 QuorumsOpen =
     (c : Configuration) (me : ℕ) (open_one : Option TransferData) (number k : ℕ) (root : List ℕ)
     (pages : List (List ℕ)) (st : State) (history : List Entry)
-    → HasQuorum c history k root → open_number number open_one < k → FitsOpen c me open_one number history
-    → MayAsk c me (transfer_to open_one k root pages) number history
+    → HasQuorum c history k root → open_number number open_one < k → FitsOpenTransfer c me open_one number history
+    → TransferMayAsk c me (transfer_to open_one k root pages) number history
     × AsksNext c me (transfer_to open_one k root pages) st history
 
 abbrev pub LowerAreFetched : Type 0
 LowerAreFetched =
     (c : Configuration) (me : ℕ) (open_one : Option TransferData) (number k : ℕ) (history : List Entry)
-    → number < k → k ≤ open_number number open_one → FitsOpen c me open_one number history → k ≤ fetching history
+    → number < k → k ≤ open_number number open_one → FitsOpenTransfer c me open_one number history → k ≤ fetching history
 
 -- A transfer that may ask may ask for any place.
 abbrev pub MayAskAny : Type 0
 MayAskAny =
     (c : Configuration) (me : ℕ) (t : TransferData) (place : Option Place) (number : ℕ) (history : List Entry)
-    → MayAsk c me t number history → MayAsk c me (asking place t) number history
+    → TransferMayAsk c me t number history → TransferMayAsk c me (asking place t) number history
 
 -- If a transfer may ask, and the event sent no fetch, the first missing place is the next part.
 abbrev pub NextsAreFirst : Type 0
 NextsAreFirst =
     (c : Configuration) (me : ℕ) (t : TransferData) (st : State) (history : List Entry) (place : Place)
-    → MayAsk c me t st.number history → RestsOnState t st → length t.held ≡ PAGES → NoneAsked history → IsTold t
+    → TransferMayAsk c me t st.number history → RestsOnState t st → length t.held ≡ PAGES → NoneAsked history → IsTold t
     → next_place t ≡ Some place
-    → IsNext c me history (in_place c me t.number history st) t.number t.root place.level place.index
+    → IsNextPart c me history (in_place c me t.number history st) t.number t.root place.level place.index
 
 -- A transfer that may ask for its place asks for a part of a state that may be installed. After the fetch of its place
 -- it is open.
 abbrev pub TransfersMayFetch : Type 0
 TransfersMayFetch =
     (c : Configuration) (me : ℕ) (t : TransferData) (past : List Entry) (point : Point)
-    → MayAsk c me t point.state.number past → AsksNext c me t point.state past
+    → TransferMayAsk c me t point.state.number past → AsksNext c me t point.state past
     → MayFetch c me past point t.number t.asked.level t.asked.index
 
 abbrev pub TransfersAsk : Type 0
 TransfersAsk =
     (c : Configuration) (me : ℕ) (t : TransferData) (number : ℕ) (past : List Entry) (bytes : List ℕ)
     → said bytes ≡ Some (record { sender = me; message = Fetch t.number t.asked.level t.asked.index })
-    → MayAsk c me t number past → FitsOpen c me (Some t) number (Sent me bytes ∷ past)
+    → TransferMayAsk c me t number past → FitsOpenTransfer c me (Some t) number (Sent me bytes ∷ past)
 
 -- ---- laws: the pages that are not fetched are the state's
 
@@ -329,7 +329,7 @@ installed_point old st =
 abbrev pub TransfersInstall : Type 0
 TransfersInstall =
     (c : Configuration) (me : ℕ) (t : TransferData) (past : List Entry) (point : Point) (st : State)
-    → MayAsk c me t point.state.number past → RestsOnState t point.state → root_of_pages t.held ≡ t.root
+    → TransferMayAsk c me t point.state.number past → RestsOnState t point.state → root_of_pages t.held ≡ t.root
     → IsReplicatedState st → st.number ≡ t.number → pages_of st ≡ t.held
     → IsStep c me past point (Installed me t.number t.root) (installed_point point st)
-    × FitsOpen c me None st.number (Installed me t.number t.root ∷ past)
+    × FitsOpenTransfer c me None st.number (Installed me t.number t.root ∷ past)

@@ -21,17 +21,17 @@ use Rattle.claims.specs.ClaimsView.{ClaimsData}
 use Rattle.replica_histories.specs.Claims.{FitsClaims}
 use Rattle.replica_histories.specs.Desk.{Desk, Snapshot, desk_from, snapshot_of}
 use Rattle.replica_histories.specs.Logs.{FitsLog}
-use Rattle.replica_histories.specs.Transfers.{MayAsk, AsksNext, transfer_to, open_number}
+use Rattle.replica_histories.specs.Transfers.{TransferMayAsk, AsksNext, transfer_to, open_number}
 use Rattle.replica_histories.specs.Events.{Start, after_outputs, Fits, Holds, start_at}
 
 -- ---- leaving a view
 
 -- how a view change lists kept states: their numbers and roots, ascending
-abbrev pub entry_of : Snapshot → CheckpointEntry
-entry_of snapshot = record { number = snapshot.number; digest = root_of_pages snapshot.pages }
+abbrev pub checkpoint_entry_of : Snapshot → CheckpointEntry
+checkpoint_entry_of snapshot = record { number = snapshot.number; digest = root_of_pages snapshot.pages }
 
 abbrev pub entries_of : List Snapshot → List CheckpointEntry
-entries_of snapshots = reverse (map entry_of snapshots)
+entries_of snapshots = reverse (map checkpoint_entry_of snapshots)
 
 -- The view change is that of the history, for a view above the current one and above the views of earlier view changes.
 -- It has a reason.
@@ -151,7 +151,7 @@ StartsMayAsk =
     → Once (λ past e. taken c past e ≡ Some new) (after_outputs s outputs)
     → open_number desk.state.number desk.transfer < new.start
     → Fits c me s desk log due outputs
-    → MayAsk c me (transfer_to desk.transfer new.start new.root pages) desk.state.number (after_outputs s outputs)
+    → TransferMayAsk c me (transfer_to desk.transfer new.start new.root pages) desk.state.number (after_outputs s outputs)
     × AsksNext c me (transfer_to desk.transfer new.start new.root pages) desk.state (after_outputs s outputs)
 
 -- ---- which messages count

@@ -2,7 +2,7 @@
 
 ghost use Rattle.replica_histories.specs.Events.{EventsEnd, HeldAreSettled, KeptAreAbove};
 ghost use Rattle.replica_histories.specs.Outputs.{PreparesFit, CommitsFit, BatchesFit, ExecutesFit, RepliesFit, CheckpointsFit, InstallationsFit, PreparesGoAgain, CommitsGoAgain, BatchesGoAgain, CheckpointsGoAgain};
-ghost use Rattle.replica_histories.specs.Inputs.{InputsFit, CheckpointsEnter, TicksFit, BatchesCount, PreparesCount, CommitsCount, CheckpointsCount, RequestsCount, BatchesDrop, PreparesDrop, CommitsDrop, CheckpointsDrop, EarlyCheckpointsDrop, OthersDrop, InputsPass, TicksPass};
+ghost use Rattle.replica_histories.specs.Inputs.{InputsFit, CheckpointsEnter, TicksFit, BatchesCount, PreparesAreCounted, CommitsAreCounted, CheckpointsCount, RequestsCount, BatchesDrop, PreparesDrop, CommitsDrop, CheckpointsDrop, EarlyCheckpointsDrop, OthersDrop, InputsPass, TicksPass};
 ghost use Rattle.replica_histories.specs.Marks.{MarksMove, InstallationsMove, CutsAskNoMore, StableAreLow, StableAreCut};
 ghost use Rattle.replica_histories.specs.Histories.{FirstHold, HeldAreReplicas};
 ghost use Rattle.replica_histories.specs.Transfers.{WantedByHistory, DigestsCount, PagesCount, AimsStay, AskedStays, OpenStays, OpenExecutes, DigestsTaken, DigestsOpen, DigestsMayAsk, PagesMayAsk, TicksMayAsk, PagesGiveBack, PagesRested, QuorumsWant, TransfersStart, TransfersMove, QuorumsOpen, LowerAreFetched, MayAskAny, NextsAreFirst, TransfersMayFetch, TransfersAsk, StartedRests, DigestsRest, PagesRest, RestedRests, TransfersInstall};
@@ -56,8 +56,8 @@ pub fn inputs_fit()
 /// older than its waiting one.
 pub fn messages_count()
     ensures batches { BatchesCount }
-    ensures prepares { PreparesCount }
-    ensures commits { CommitsCount }
+    ensures prepares { PreparesAreCounted }
+    ensures commits { CommitsAreCounted }
     ensures checkpoints { CheckpointsCount }
     ensures requests { RequestsCount }
 {}

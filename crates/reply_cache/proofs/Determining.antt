@@ -8,8 +8,8 @@ use Rattle.tuple_codec.specs.Spelling.{outcome_spelling}
 use Rattle.tuple_codec.specs.Reading.{outcome_at}
 use Rattle.tuple_codec.proofs.Grammar.{one}
 use Rattle.tuple_codec.proofs.OperationLaws.{outcome_reads}
-use Rattle.reply_cache.specs.Replies.{Kept, Replies, last_of, IsKept, IsReply, AreReplies}
-use Rattle.reply_cache.specs.Pages.{kept_text, reply_text, page_text}
+use Rattle.reply_cache.specs.Replies.{Kept, Replies, last_of, IsKeptReply, IsReply, AreReplies}
+use Rattle.reply_cache.specs.Pages.{kept_text, reply_text, reply_page_text}
 
 bytes_same : (a b : ℕ) → a < 2 ^ 64 → b < 2 ^ 64 → to_be_bytes w64 a ≡ to_be_bytes w64 b → a ≡ b
 bytes_same a b l m e = sym (from_be_bytes-to_be_bytes_8 a l) ∙ ap (from_be_bytes w64) e ∙ from_be_bytes-to_be_bytes_8 b m
@@ -25,7 +25,7 @@ outcome_same r s h k e =
     (one IsOutcome outcome_spelling outcome_at outcome_reads (outcome_spelling r) (outcome_spelling s) [] [] r s (record { valid = h; spelled = refl }) (record { valid = k; spelled = refl })
     (ap (λ bs. bs ++ []) e)).1
 
-pub kept_same : (j k : Kept) → IsKept j → IsKept k → kept_text j ≡ kept_text k → j ≡ k
+pub kept_same : (j k : Kept) → IsKeptReply j → IsKeptReply k → kept_text j ≡ kept_text k → j ≡ k
 kept_same j k f g e =
     let s = number_split j.timestamp k.timestamp _ _ f.timestamp_fits g.timestamp_fits e in
     let rest = s.1 in
@@ -42,6 +42,6 @@ reply_same None (Some k) f g e = absurd (let h : ⊥ = cc in h)
 reply_same (Some j) None f g e = absurd (let h : ⊥ = cc in h)
 reply_same (Some j) (Some k) f g e = ap Some (kept_same j k f g e)
 
-pub pages_determine : (rs qs : Replies) → AreReplies rs → AreReplies qs → ((client : ℕ) → client < 256 → page_text rs client ≡ page_text qs client) → rs ≡ qs
+pub pages_determine : (rs qs : Replies) → AreReplies rs → AreReplies qs → ((client : ℕ) → client < 256 → reply_page_text rs client ≡ reply_page_text qs client) → rs ≡ qs
 pages_determine rs qs h k pages =
     ext_get_or None rs qs (h.all ∙ sym k.all) (λ i l. reply_same (last_of rs i) (last_of qs i) (h.each i) (k.each i) (pages i (omega (arith, h.all))))

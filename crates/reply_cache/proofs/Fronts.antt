@@ -14,8 +14,8 @@ use Rattle.tuple_tree.proofs.Readers.{bytes_drop}
 use Rattle.tuple_tree.proofs.Numbers.{number_found}
 use Rattle.reply_cache.specs.declared.cache.Reply.{Reply}
 use Rattle.reply_cache.specs.Replies.{Kept, Replies, last_of, IsReply}
-use Rattle.reply_cache.specs.ReplyView.{reply_of, padded, AreSlots}
-use Rattle.reply_cache.specs.Pages.{reply_text, ArePages}
+use Rattle.reply_cache.specs.ReplyView.{kept_if_any, padded, AreSlots}
+use Rattle.reply_cache.specs.Pages.{reply_text, ArePagesOfReplies}
 use Rattle.reply_cache.specs.Reading.{SpellsReply, EachSpelled, AreRead}
 use Rattle.reply_cache.proofs.Slots.{last-padded, AreReplies-padded}
 use Rattle.reply_cache.proofs.Determining.{reply_same, pages_determine}
@@ -66,21 +66,21 @@ module _ (texts : List (List ℕ)) (slots : List (Option Reply)) (h : AreRead te
     few = omega (arith, h.long);
     each = λ client. elim (cases_lt client 256) [
       | inl l ↦ (h.each client l).valid
-      | inr l ↦ subst (λ o. IsReply (reply_of o)) (sym (get_or_past slots client None (omega (arith, h.long)))) tt
+      | inr l ↦ subst (λ o. IsReply (kept_if_any o)) (sym (get_or_past slots client None (omega (arith, h.long)))) tt
     ];
   }
 
-  pub ArePages-read : length texts ≡ 256 → ArePages texts (padded slots)
+  pub ArePages-read : length texts ≡ 256 → ArePagesOfReplies texts (padded slots)
   ArePages-read all = record {
     replies = AreReplies-padded slots AreSlots-read;
     all = all;
     each = λ client l. (h.each client l).spelled ∙ ap reply_text (sym (last-padded slots client));
   }
 
-pub ArePages-one : (texts : List (List ℕ)) (rs qs : Replies) → ArePages texts rs → ArePages texts qs → rs ≡ qs
+pub ArePages-one : (texts : List (List ℕ)) (rs qs : Replies) → ArePagesOfReplies texts rs → ArePagesOfReplies texts qs → rs ≡ qs
 ArePages-one texts rs qs h k = pages_determine rs qs h.replies k.replies (λ client l. sym (h.each client l) ∙ k.each client l)
 
-pub SpellsReply-of : (texts : List (List ℕ)) (rs : Replies) (client : ℕ) (text : List ℕ) → ArePages texts rs → client < 256 → get_or texts client [] ≡ text → SpellsReply text (last_of rs client)
+pub SpellsReply-of : (texts : List (List ℕ)) (rs : Replies) (client : ℕ) (text : List ℕ) → ArePagesOfReplies texts rs → client < 256 → get_or texts client [] ≡ text → SpellsReply text (last_of rs client)
 SpellsReply-of texts rs client text h l is = record { valid = h.replies.each client; spelled = sym is ∙ h.each client l }
 
 -- ---- texts that spell replies each are the pages of replies
@@ -110,7 +110,7 @@ EachSpelled-more texts count text h is found client l = elim (cases_eq client co
   | inr other ↦ h client (omega arith)
 ]
 
-pub ArePages-each : (texts : List (List ℕ)) → EachSpelled texts 256 → length texts ≡ 256 → (rs : Replies) × ArePages texts rs
+pub ArePages-each : (texts : List (List ℕ)) → EachSpelled texts 256 → length texts ≡ 256 → (rs : Replies) × ArePagesOfReplies texts rs
 ArePages-each texts h all =
     let found = collected texts 256 h in
     let rs : Replies = found.0 in

@@ -6,8 +6,8 @@ use Rattle.std.specs.Prelude.{option_map, OnErr}
 use Rattle.std.specs.Option.{option_copied}
 use Rattle.std.specs.Borrow.{Bor}
 use Rattle.reply_cache.specs.declared.cache.Reply.{Reply}
-use Rattle.reply_cache.specs.Replies.{Kept, Replies, no_replies, last_of, with_reply, IsKept, IsReply, AreReplies}
-use Rattle.reply_cache.specs.ReplyView.{kept_of, reply_of, padded, AreSlots}
+use Rattle.reply_cache.specs.Replies.{Kept, Replies, no_replies, last_of, with_reply, IsKeptReply, IsReply, AreReplies}
+use Rattle.reply_cache.specs.ReplyView.{kept_of_reply, kept_if_any, padded, AreSlots}
 
 abbrev empty : ℕ → Replies
 empty n = replicate n None
@@ -18,18 +18,18 @@ get_or-empty n i = elim (cases_lt i n) [
   | inr l ↦ get_or_past (empty n) i None (omega (arith, length-replicate {A = Option Kept} n None))
 ]
 
-pub last-padded : (slots : List (Option Reply)) (i : ℕ) → last_of (padded slots) i ≡ reply_of (get_or slots i None)
+pub last-padded : (slots : List (Option Reply)) (i : ℕ) → last_of (padded slots) i ≡ kept_if_any (get_or slots i None)
 unfolding padded
 last-padded slots i =
     let rest : Replies = empty (256 - length slots) in
     elim (cases_lt i (length slots)) [
-      | inl l ↦ get_or_append_left (map reply_of slots) rest None i (omega (arith, length-map slots reply_of)) ∙ get_or-map reply_of slots i None None l
-      | inr l ↦ get_or-append_right (map reply_of slots) rest (length slots) i None (length-map slots reply_of) l ∙ get_or-empty (256 - length slots) (i - length slots) ∙ sym (ap reply_of (get_or_past slots i None l))
+      | inl l ↦ get_or_append_left (map kept_if_any slots) rest None i (omega (arith, length-map slots kept_if_any)) ∙ get_or-map kept_if_any slots i None None l
+      | inr l ↦ get_or-append_right (map kept_if_any slots) rest (length slots) i None (length-map slots kept_if_any) l ∙ get_or-empty (256 - length slots) (i - length slots) ∙ sym (ap kept_if_any (get_or_past slots i None l))
     ]
 
 pub length-padded : (slots : List (Option Reply)) → length slots ≤ 256 → length (padded slots) ≡ 256
 unfolding padded
-length-padded slots l = omega (arith, length-append (map reply_of slots) (empty (256 - length slots)), length-map slots reply_of, length-replicate {A = Option Kept} (256 - length slots) None)
+length-padded slots l = omega (arith, length-append (map kept_if_any slots) (empty (256 - length slots)), length-map slots kept_if_any, length-replicate {A = Option Kept} (256 - length slots) None)
 
 same_replies : (rs qs : Replies) → length rs ≡ 256 → length qs ≡ 256 → ((i : ℕ) → last_of rs i ≡ last_of qs i) → rs ≡ qs
 same_replies rs qs l m h = ext_get_or None rs qs (l ∙ sym m) (λ i k. h i)
@@ -48,15 +48,15 @@ get_or_push_none (s ∷ slots) (suc i) = get_or_push_none slots i
 pub padded_push : (slots : List (Option Reply)) → length slots < 256 → padded (slots ++ None ∷ []) ≡ padded slots
 padded_push slots l =
     same_replies (padded (slots ++ None ∷ [])) (padded slots) (length-padded (slots ++ None ∷ []) (omega (arith, length_push slots None))) (length-padded slots (omega arith))
-    (λ i. last-padded (slots ++ None ∷ []) i ∙ ap reply_of (get_or_push_none slots i) ∙ sym (last-padded slots i))
+    (λ i. last-padded (slots ++ None ∷ []) i ∙ ap kept_if_any (get_or_push_none slots i) ∙ sym (last-padded slots i))
 
 pub AreSlots_push : (slots : List (Option Reply)) → length slots < 256 → AreSlots slots → AreSlots (slots ++ None ∷ [])
 AreSlots_push slots l h = record {
   few = omega (arith, length_push slots None);
-  each = λ client. subst (λ o. IsReply (reply_of o)) (sym (get_or_push_none slots client)) (h.each client);
+  each = λ client. subst (λ o. IsReply (kept_if_any o)) (sym (get_or_push_none slots client)) (h.each client);
 }
 
-pub AreReplies-with : (rs : Replies) (client : ℕ) (k : Kept) → AreReplies rs → IsKept k → client < 256 → AreReplies (with_reply rs client k)
+pub AreReplies-with : (rs : Replies) (client : ℕ) (k : Kept) → AreReplies rs → IsKeptReply k → client < 256 → AreReplies (with_reply rs client k)
 AreReplies-with rs client k h valid l = record {
   all = omega (arith, length-set rs client (Some k), h.all);
   each = λ i. elim (cases_eq i client) [
@@ -65,24 +65,24 @@ AreReplies-with rs client k h valid l = record {
   ];
 }
 
-pub padded-set : (slots : List (Option Reply)) (client : ℕ) (r : Reply) → client < length slots → length slots ≤ 256 → padded (set slots client (Some r)) ≡ with_reply (padded slots) client (kept_of r)
+pub padded-set : (slots : List (Option Reply)) (client : ℕ) (r : Reply) → client < length slots → length slots ≤ 256 → padded (set slots client (Some r)) ≡ with_reply (padded slots) client (kept_of_reply r)
 padded-set slots client r within few =
-    same_replies (padded (set slots client (Some r))) (with_reply (padded slots) client (kept_of r))
+    same_replies (padded (set slots client (Some r))) (with_reply (padded slots) client (kept_of_reply r))
     (length-padded (set slots client (Some r)) (omega (arith, length-set slots client (Some r))))
-    (length-set (padded slots) client (Some (kept_of r)) ∙ length-padded slots few)
+    (length-set (padded slots) client (Some (kept_of_reply r)) ∙ length-padded slots few)
     (λ i. last-padded (set slots client (Some r)) i ∙ elim (cases_eq i client) [
       | inl same ↦
-          rw same (ap reply_of (get_or-set_same slots client (Some r) None within) ∙ sym (get_or-set_same (padded slots) client (Some (kept_of r)) None (omega (arith, length-padded slots few))))
+          rw same (ap kept_if_any (get_or-set_same slots client (Some r) None within) ∙ sym (get_or-set_same (padded slots) client (Some (kept_of_reply r)) None (omega (arith, length-padded slots few))))
       | inr other ↦
-          ap reply_of (get_or-set_other slots client i (Some r) None other) ∙ sym (last-padded slots i) ∙ sym (get_or-set_other (padded slots) client i (Some (kept_of r)) None other)
+          ap kept_if_any (get_or-set_other slots client i (Some r) None other) ∙ sym (last-padded slots i) ∙ sym (get_or-set_other (padded slots) client i (Some (kept_of_reply r)) None other)
     ])
 
-pub AreSlots-set : (slots : List (Option Reply)) (client : ℕ) (r : Reply) → AreSlots slots → IsKept (kept_of r) → client < length slots → AreSlots (set slots client (Some r))
+pub AreSlots-set : (slots : List (Option Reply)) (client : ℕ) (r : Reply) → AreSlots slots → IsKeptReply (kept_of_reply r) → client < length slots → AreSlots (set slots client (Some r))
 AreSlots-set slots client r h valid within = record {
   few = let l = h.few in omega (arith, length-set slots client (Some r));
   each = λ i. elim (cases_eq i client) [
-    | inl same ↦ subst (λ o. IsReply (reply_of o)) (sym (ap (λ j. get_or (set slots client (Some r)) j None) same ∙ get_or-set_same slots client (Some r) None within)) valid
-    | inr other ↦ subst (λ o. IsReply (reply_of o)) (sym (get_or-set_other slots client i (Some r) None other)) (h.each i)
+    | inl same ↦ subst (λ o. IsReply (kept_if_any o)) (sym (ap (λ j. get_or (set slots client (Some r)) j None) same ∙ get_or-set_same slots client (Some r) None within)) valid
+    | inr other ↦ subst (λ o. IsReply (kept_if_any o)) (sym (get_or-set_other slots client i (Some r) None other)) (h.each i)
   ];
 }
 
@@ -101,6 +101,6 @@ pub on_err : {T E P : Type 0} (r : Result T E) → P → OnErr r P
 on_err (Ok x) p = tt
 on_err (Err e) p = p
 
-pub kept-copied : (o : Option (Bor Reply)) (slot : Option Reply) → option_copied o ≡ slot → option_map (λ (r : Bor Reply). kept_of r.now) o ≡ reply_of slot
-kept-copied None slot e = ap reply_of e
-kept-copied (Some r) slot e = ap reply_of e
+pub kept-copied : (o : Option (Bor Reply)) (slot : Option Reply) → option_copied o ≡ slot → option_map (λ (r : Bor Reply). kept_of_reply r.now) o ≡ kept_if_any slot
+kept-copied None slot e = ap kept_if_any e
+kept-copied (Some r) slot e = ap kept_if_any e

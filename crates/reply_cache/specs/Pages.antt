@@ -14,11 +14,11 @@ abbrev pub reply_text : Option Kept → List ℕ
 reply_text None = []
 reply_text (Some k) = kept_text k
 
-abbrev pub page_text : Replies → ℕ → List ℕ
-page_text rs client = reply_text (last_of rs client)
+abbrev pub reply_page_text : Replies → ℕ → List ℕ
+reply_page_text rs client = reply_text (last_of rs client)
 
 -- The texts are the pages of these replies.
-pub record ArePages (texts : List (List ℕ)) (rs : Replies) : Type 0 where
+pub record ArePagesOfReplies (texts : List (List ℕ)) (rs : Replies) : Type 0 where
   pub replies : AreReplies rs
   pub all : length texts ≡ MAX_CLIENTS
-  pub each : (client : ℕ) → client < MAX_CLIENTS → slice_index_or texts client [] ≡ page_text rs client
+  pub each : (client : ℕ) → client < MAX_CLIENTS → slice_index_or texts client [] ≡ reply_page_text rs client

@@ -2,8 +2,8 @@
 use Rattle.std.specs.Prelude.{◌≡◌, ℕ, ◌<◌, List, [], length, map, slice_index_or, Option, None}
 use Rattle.std.specs.Borrow.{Bor}
 use Rattle.reply_cache.specs.Replies.{Kept, Replies, IsReply}
-use Rattle.reply_cache.specs.Pages.{reply_text, ArePages}
-use Rattle.reply_cache.specs.ReplyView.{reply_of}
+use Rattle.reply_cache.specs.Pages.{reply_text, ArePagesOfReplies}
+use Rattle.reply_cache.specs.ReplyView.{kept_if_any}
 use Rattle.reply_cache.specs.declared.cache.Reply.{Reply}
 
 -- the text of a page spells this reply
@@ -21,7 +21,7 @@ EachSpelled texts count =
 pub record AreRead (texts : List (List ℕ)) (slots : List (Option Reply)) (count : ℕ) : Type 0 where
   pub long : length slots ≡ count
   pub each : (client : ℕ) → client < count
-      → SpellsReply (slice_index_or texts client []) (reply_of (slice_index_or slots client None))
+      → SpellsReply (slice_index_or texts client []) (kept_if_any (slice_index_or slots client None))
 
 -- the text of each page
 abbrev pub texts_of : List (Bor (List ℕ)) → List (List ℕ)
@@ -29,4 +29,4 @@ texts_of pages = map (λ page. page.now) pages
 
 -- the texts are the pages of some replies
 abbrev pub AreSomePages : List (List ℕ) → Type 0
-AreSomePages texts = (rs : Replies) × ArePages texts rs
+AreSomePages texts = (rs : Replies) × ArePagesOfReplies texts rs

@@ -33,7 +33,7 @@ with_reply rs client k = slice_set rs client (Some k)
 abbrev pub IsAbove : ℕ → Replies → Type 0
 IsAbove client rs = (other : ℕ) → client ≤ other → last_of rs other ≡ None
 
-pub record IsKept (k : Kept) : Type 0 where
+pub record IsKeptReply (k : Kept) : Type 0 where
   pub first : 1 ≤ k.timestamp
   pub timestamp_fits : k.timestamp < 2 ^ 64
   pub number_fits : k.number < 2 ^ 64
@@ -41,7 +41,7 @@ pub record IsKept (k : Kept) : Type 0 where
 
 abbrev pub IsReply : Option Kept → Type 0
 IsReply None = Unit {0}
-IsReply (Some k) = IsKept k
+IsReply (Some k) = IsKeptReply k
 
 pub record AreReplies (rs : Replies) : Type 0 where
   pub all : length rs ≡ MAX_CLIENTS

@@ -7,8 +7,8 @@ use Rattle.tuple_codec.specs.declared.operations.Answer.{Answer}
 use Rattle.reply_cache.specs.Replies.{Kept, Replies, IsReply, with_reply}
 use Rattle.reply_cache.specs.declared.cache.Reply.{Reply}
 
-abbrev pub kept_of : Reply → Kept
-kept_of r = record { timestamp = r.timestamp; number = r.number; outcome = outcome_of r.answer }
+abbrev pub kept_of_reply : Reply → Kept
+kept_of_reply r = record { timestamp = r.timestamp; number = r.number; outcome = outcome_of r.answer }
 
 -- the replies with one more to a client, of these parts
 abbrev pub with_answer : {A : Type 0} → Replies → ClientId → ℕ → ℕ → Answer A → Replies
@@ -16,15 +16,15 @@ with_answer rs client timestamp number answer =
     with_reply rs client.number
     (record { timestamp = timestamp; number = number; outcome = outcome_of answer })
 
-abbrev pub reply_of : Option Reply → Option Kept
-reply_of None = None
-reply_of (Some r) = Some (kept_of r)
+abbrev pub kept_if_any : Option Reply → Option Kept
+kept_if_any None = None
+kept_if_any (Some r) = Some (kept_of_reply r)
 
 -- Slots for the clients below some number stand for those of all 256 clients.
 unfoldable pub padded : List (Option Reply) → Replies
-padded slots = map reply_of slots ++ replicate (MAX_CLIENTS - length slots) None
+padded slots = map kept_if_any slots ++ replicate (MAX_CLIENTS - length slots) None
 
 -- the invariant of the slots
 pub record AreSlots (slots : List (Option Reply)) : Type 0 where
   pub few : length slots ≤ MAX_CLIENTS
-  pub each : (client : ℕ) → IsReply (reply_of (slice_index_or slots client None))
+  pub each : (client : ℕ) → IsReply (kept_if_any (slice_index_or slots client None))

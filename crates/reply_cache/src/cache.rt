@@ -3,8 +3,8 @@
 ghost use Rattle.std.specs.Prelude.{◌≡◌, ℕ, ◌≤◌, ◌<◌, ◌++◌, ◌∷◌, [], OnOk, OnErr, IfOk, IsTrue, length, option_map};
 ghost use Rattle.tuple_codec.specs.Gives.{GivesEach};
 ghost use Rattle.reply_cache.specs.Replies.{Replies, no_replies, last_of, seen_of, IsAbove, AreReplies};
-ghost use Rattle.reply_cache.specs.ReplyView.{kept_of, padded, AreSlots, with_answer};
-ghost use Rattle.reply_cache.specs.Pages.{page_text, ArePages};
+ghost use Rattle.reply_cache.specs.ReplyView.{kept_of_reply, padded, AreSlots, with_answer};
+ghost use Rattle.reply_cache.specs.Pages.{reply_page_text, ArePagesOfReplies};
 ghost use Rattle.reply_cache.specs.Reading.{EachSpelled, texts_of, AreSomePages};
 
 use crate::pages::{is_page, put_reply, read_reply};
@@ -56,7 +56,7 @@ impl ReplyCache {
 
     /// The reply to the client's last request. Takes no memory.
     pub fn last(&self, client: ClientId) -> Option<&Reply>
-        ensures { option_map (λ reply. kept_of reply.now) result ≡ last_of self.now client.number }
+        ensures { option_map (λ reply. kept_of_reply reply.now) result ≡ last_of self.now client.number }
     {
         if (client.number as usize) < self.slots.len() {
             self.slots[client.number as usize].as_ref()
@@ -105,7 +105,7 @@ impl ReplyCache {
     /// The text of the client's page: empty without a reply, else the timestamp and the number in 8 bytes each, high
     /// byte first, and the spelling of the answer. NoMemory if memory runs out.
     pub fn page_text(&self, client: ClientId) -> Result<Vec<u8>, NoMemory>
-        ensures { IfOk result (λ text. text.items ≡ page_text self.now client.number) }
+        ensures { IfOk result (λ text. text.items ≡ reply_page_text self.now client.number) }
     {
         let mut text = Vec::new(*self.slots.allocator());
         if let Some(reply) = self.last(client) {
@@ -122,13 +122,13 @@ impl ReplyCache {
     /// texts. That is judged before memory is allocated. NoMemory if memory runs out.
     pub fn from_pages(alloc: Global, pages: &[&[u8]]) -> Result<ReplyCache, Bad>
         // The replies that were read have these pages.
-        ensures found { IfOk result (λ c. ArePages (texts_of pages.now) c) }
+        ensures found { IfOk result (λ c. ArePagesOfReplies (texts_of pages.now) c) }
 
         // Texts that are the pages of no replies are refused as malformed, whatever memory there is.
         ensures memory { (result ≡ Err Bad.NoMemory) → AreSomePages (texts_of pages.now) }
 
         // The replies with these pages are read, unless memory runs out.
-        ensures only { GivesEach Bad.NoMemory (λ c. c) (ArePages (texts_of pages.now)) result }
+        ensures only { GivesEach Bad.NoMemory (λ c. c) (ArePagesOfReplies (texts_of pages.now)) result }
     {
         if pages.len() != MAX_CLIENTS {
             return Err(Bad::Malformed);
@@ -149,7 +149,7 @@ impl ReplyCache {
 fn are_pages(pages: &[&[u8]]) -> bool
     requires { length pages.now ≡ MAX_CLIENTS }
     ensures found { IsTrue result → EachSpelled (texts_of pages.now) MAX_CLIENTS }
-    ensures only { (rs : Replies) → ArePages (texts_of pages.now) rs → IsTrue result }
+    ensures only { (rs : Replies) → ArePagesOfReplies (texts_of pages.now) rs → IsTrue result }
 {
     for text in pages {
         if !is_page(text) {

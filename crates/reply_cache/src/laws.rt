@@ -1,10 +1,10 @@
 //! Laws of replies and their pages.
 
-ghost use Rattle.reply_cache.specs.Laws.{PagesDetermine, RepliesStay};
+ghost use Rattle.reply_cache.specs.Laws.{PagesDetermineReplies, RepliesStay};
 
 /// Replies with equal pages are equal.
 pub fn pages_determine()
-    ensures { PagesDetermine }
+    ensures { PagesDetermineReplies }
 {}
 
 /// A reply that is added to replies leaves replies.

@@ -5,7 +5,7 @@ ghost use Rattle.tuple_codec.specs.Gives.{GivesEach};
 ghost use Rattle.tuple_codec.specs.OperationView.{outcome_of};
 ghost use Rattle.tuple_codec.specs.Spelling.{SpellsOutcome};
 ghost use Rattle.reply_cache.specs.Replies.{Kept};
-ghost use Rattle.reply_cache.specs.ReplyView.{kept_of, reply_of};
+ghost use Rattle.reply_cache.specs.ReplyView.{kept_of_reply, kept_if_any};
 ghost use Rattle.reply_cache.specs.Pages.{kept_text};
 ghost use Rattle.reply_cache.specs.Reading.{SpellsReply};
 
@@ -20,7 +20,7 @@ const NUMBERS_LEN: usize = 16;
 
 /// Appends the text of a reply.
 pub fn put_reply(reply: &Reply, out: &mut Vec<u8>) -> Result<(), NoMemory>
-    ensures { OnOk result (out.new.items ≡ out.old.items ++ kept_text (kept_of reply.now)) }
+    ensures { OnOk result (out.new.items ≡ out.old.items ++ kept_text (kept_of_reply reply.now)) }
 {
     out.extend_from_slice(&reply.timestamp.to_be_bytes())?;
     out.extend_from_slice(&reply.number.to_be_bytes())?;
@@ -62,8 +62,8 @@ pub fn is_page(text: &[u8]) -> bool
 
 /// The reply that a page's text spells.
 pub fn read_reply(alloc: Global, text: &[u8]) -> Result<Option<Reply>, Bad>
-    ensures found { IfOk result (λ r. SpellsReply text.now (reply_of r)) }
-    ensures only { GivesEach Bad.NoMemory reply_of (SpellsReply text.now) result }
+    ensures found { IfOk result (λ r. SpellsReply text.now (kept_if_any r)) }
+    ensures only { GivesEach Bad.NoMemory kept_if_any (SpellsReply text.now) result }
 {
     if text.is_empty() {
         return Ok(None);

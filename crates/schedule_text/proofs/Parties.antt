@@ -6,7 +6,7 @@ use Rattle.std.proofs.lemmas.Bool.{ltb-true, ltb-false, le-ltb}
 use Rattle.std.proofs.lemmas.List.{take_rest, take-append-drop}
 use Rattle.std.proofs.lemmas.List.Elements.{All-nil, All-cons, All-head, All-tail}
 use Rattle.std.proofs.lemmas.Fmt.{decimal_by_steps}
-use Rattle.schedule_text.specs.Steps.{party_text, more_parties_text, parties_text, IsParty}
+use Rattle.schedule_text.specs.Steps.{party_text, more_parties_text, parties_text, IsPartyNumber}
 use Rattle.schedule_text.specs.Reading.{PartyText, ClientText, PartiesText}
 use Rattle.schedule_text.proofs.Numbers.{differ}
 use Rattle.schedule_text.proofs.Pieces.{NoneBefore}
@@ -67,7 +67,7 @@ no_comma_case : (p : ℕ) (s : Bool) → p < 2 ^ 16 → NoComma (cond s (114 ∷
 no_comma_case p true h = (λ e. omega arith, no_comma_decimal p (omega arith))
 no_comma_case p false h = (λ e. omega arith, no_comma_decimal (p - 256) (omega arith))
 
-no_comma_party : (p : ℕ) → IsParty p → NoComma (party_text p)
+no_comma_party : (p : ℕ) → IsPartyNumber p → NoComma (party_text p)
 no_comma_party p h = no_comma_case p (nat_lt p 256) h
 
 commas_more : (ps : List ℕ) → Commas (more_parties_text ps)
@@ -102,13 +102,13 @@ commas_in (b ∷ bs) (suc n) within found = commas_in bs n (omega arith) (λ p. 
 
 -- A list of parties whose text is parted at a comma: the first party stands before the comma, the others after it.
 abbrev Parted : List ℕ → List ℕ → ℕ → List ℕ → Type 0
-Parted front behind q qs = PartyText q front × (behind ≡ more_parties_text qs) × All IsParty qs
+Parted front behind q qs = PartyText q front × (behind ≡ more_parties_text qs) × All IsPartyNumber qs
 
 parted : (front behind : List ℕ) → NoComma front → Commas behind → (q : ℕ) (qs : List ℕ) → PartiesText (q ∷ qs) (front ++ behind) → Parted front behind q qs
 parted front behind none comma q qs h =
-    let one : IsParty q = All-head IsParty q qs h.2 in
+    let one : IsPartyNumber q = All-head IsPartyNumber q qs h.2 in
     let r = parts_once front (party_text q) behind (more_parties_text qs) none (no_comma_party q one) comma (commas_more qs) h.1 in
-    ((r.0, one), r.1, All-tail IsParty q qs h.2)
+    ((r.0, one), r.1, All-tail IsPartyNumber q qs h.2)
 
 -- the first of a list of parties, whose text this is
 first_party : (front behind : List ℕ) → NoComma front → Commas behind → (qs : List ℕ) → PartiesText qs (front ++ behind) → (q : ℕ) × PartyText q front
@@ -128,10 +128,10 @@ with_first p front more [] h k = absurd (k.0 refl)
 with_first p front more (q ∷ qs) h k = (
   (λ e. let g : ⊥ = cc in g),
   ap (λ t. t ++ 44 ∷ more) h.0 ∙ ap (λ t. party_text p ++ 44 ∷ t) k.1,
-  All-cons IsParty p (q ∷ qs) h.1 k.2,
+  All-cons IsPartyNumber p (q ∷ qs) h.1 k.2,
 )
 
-others : (more qs : List ℕ) → 44 ∷ more ≡ more_parties_text qs → All IsParty qs → PartiesText qs more
+others : (more qs : List ℕ) → 44 ∷ more ≡ more_parties_text qs → All IsPartyNumber qs → PartiesText qs more
 others more [] e h = absurd (let g : ⊥ = cc in g)
 others more (q ∷ qs) e h = ((λ n. let g : ⊥ = cc in g), (let g : more ≡ parties_text (q ∷ qs) = cc in g), h)
 
@@ -155,7 +155,7 @@ leaves_more done rest word front more p l none e h = record {
 -- the last party is read
 leaves_none : (done word front : List ℕ) (p : ℕ) → Leaves done front word → PartyText p front → PartiesText (done ++ p ∷ []) word
 leaves_none done word front p l h =
-    l.forth (p ∷ []) ((λ e. let g : ⊥ = cc in g), h.0 ∙ sym (append-nil (party_text p)), All-cons IsParty p [] h.1 (All-nil IsParty))
+    l.forth (p ∷ []) ((λ e. let g : ⊥ = cc in g), h.0 ∙ sym (append-nil (party_text p)), All-cons IsPartyNumber p [] h.1 (All-nil IsPartyNumber))
 
 -- ---- the turns of the loop
 

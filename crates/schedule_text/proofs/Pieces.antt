@@ -3,7 +3,7 @@ use Rattle.std.proofs.Common.{◌≡◌, ◌≢◌, ℕ, zero, suc, ◌<◌, ◌
 use Rattle.std.specs.Prelude.{slice_index}
 use Rattle.std.proofs.lemmas.Bool.{eq-eqb, ne_eqb}
 use Rattle.schedule_text.specs.Words.{trimmed, before_blank, from_blank, first_word}
-use Rattle.schedule_text.specs.Reading.{IsFirst}
+use Rattle.schedule_text.specs.Reading.{IsFirstWord}
 
 abbrev pub NoneBefore : ℕ → List ℕ → ℕ → Type 0
 NoneBefore byte xs n = (k : ℕ) → k < n → slice_index xs k ≢ byte
@@ -52,7 +52,7 @@ pub next_word : (line left word behind rest : List ℕ) (n : ℕ)
     → left ≡ trimmed line → left ≢ []
     → n ≤ length left → NoneBefore 32 left n → (n < length left → slice_index left n ≡ 32)
     → word ≡ take n left → behind ≡ drop n left → rest ≡ trimmed behind
-    → IsFirst line word rest
+    → IsFirstWord line word rest
 next_word line left word behind rest n e some within before found w b r =
     let p : Parts left n = parts left n within before found in
     let first : first_word line ≡ word = ap before_blank (sym e) ∙ sym p.0 ∙ sym w in

@@ -5,9 +5,9 @@ use Rattle.tuple_text.specs.Texts.{AreBlanks}
 use Rattle.tuple_text.specs.Lines.{IsSkipped, IsComment}
 use Rattle.protocol.specs.System.Schedule as schedules
 use Rattle.schedule_text.specs.Words.{trimmed, before_blank}
-use Rattle.schedule_text.specs.Steps.{IsStep, Arguments}
-use Rattle.schedule_text.specs.Reading.{IsFirst, IsNamed, Because}
-use Rattle.schedule_text.specs.Judged.{IsNone, Refuses}
+use Rattle.schedule_text.specs.Steps.{IsStepLine, Arguments}
+use Rattle.schedule_text.specs.Reading.{IsFirstWord, IsNamed, Because}
+use Rattle.schedule_text.specs.Judged.{IsNone, RefusesStep}
 use Rattle.schedule_text.specs.declared.fault.StepFault.{StepFault}
 use Rattle.schedule_text.specs.declared.fault.StepFault.TheVariants.{Refused, NoMemory}
 
@@ -23,18 +23,18 @@ pub trimmed_blanks : (line : List ℕ) → trimmed line ≡ [] → AreBlanks lin
 trimmed_blanks [] h = tt
 trimmed_blanks (b ∷ bs) h = blanks_case b bs (b == 32) refl (trimmed_blanks bs) h
 
-pub not_skipped : (line word rest : List ℕ) → IsFirst line word rest → (IsComment line → ⊥) → IsSkipped line → ⊥
+pub not_skipped : (line word rest : List ℕ) → IsFirstWord line word rest → (IsComment line → ⊥) → IsSkipped line → ⊥
 not_skipped line word rest first plain (inl blanks) = first.some (sym first.first ∙ ap before_blank (blanks_trimmed line blanks))
 not_skipped line word rest first plain (inr comment) = plain comment
 
-named : (line word rest : List ℕ) → IsFirst line word rest → (step : schedules.Step) → IsStep step line → IsNamed word rest step
+named : (line word rest : List ℕ) → IsFirstWord line word rest → (step : schedules.Step) → IsStepLine step line → IsNamed word rest step
 named line word rest first step h = record {
   named = sym h.named ∙ first.first;
   arguments = subst (Arguments step) (sym first.behind) h.arguments;
   range = h.range;
 }
 
-pub is_none : (line word rest : List ℕ) → IsFirst line word rest → (IsComment line → ⊥)
+pub is_none : (line word rest : List ℕ) → IsFirstWord line word rest → (IsComment line → ⊥)
     → ((step : schedules.Step) → IsNamed word rest step → ⊥) → IsNone line
 is_none line word rest first plain none = (
   not_skipped line word rest first plain,
@@ -42,7 +42,7 @@ is_none line word rest first plain none = (
 )
 
 -- a reason to refuse the words after the name is one to refuse the line
-pub refuses : (line word rest : List ℕ) → IsFirst line word rest → (IsComment line → ⊥) → (fault : StepFault)
-    → Because fault ((step : schedules.Step) → IsNamed word rest step → ⊥) → Refuses fault line
+pub refuses : (line word rest : List ℕ) → IsFirstWord line word rest → (IsComment line → ⊥) → (fault : StepFault)
+    → Because fault ((step : schedules.Step) → IsNamed word rest step → ⊥) → RefusesStep fault line
 refuses line word rest first plain Refused h = is_none line word rest first plain h
 refuses line word rest first plain NoMemory h = tt

@@ -6,7 +6,7 @@ use Rattle.protocol.specs.System.Schedule as schedules
 use Rattle.schedule_text.specs.declared.step.Step.{Step}
 use Rattle.schedule_text.specs.declared.fault.StepFault.{StepFault}
 use Rattle.schedule_text.specs.declared.fault.StepFault.TheVariants.{Refused, NoMemory}
-use Rattle.schedule_text.specs.Steps.{party_text, parties_text, IsParty, IsWord, HasRange, Arguments, name}
+use Rattle.schedule_text.specs.Steps.{party_text, parties_text, IsPartyNumber, IsWord, HasRange, Arguments, step_name}
 use Rattle.schedule_text.specs.StepView.{step_of}
 use Rattle.schedule_text.specs.Words.{first_word, after_word}
 
@@ -15,13 +15,13 @@ abbrev pub NumberText : ℕ → List ℕ → Type 0
 NumberText n word = (word ≡ decimal n) × IsWord n
 
 abbrev pub PartyText : ℕ → List ℕ → Type 0
-PartyText p word = (word ≡ party_text p) × IsParty p
+PartyText p word = (word ≡ party_text p) × IsPartyNumber p
 
 abbrev pub ClientText : ℕ → List ℕ → Type 0
-ClientText k word = (word ≡ decimal k) × IsParty (client_party k)
+ClientText k word = (word ≡ decimal k) × IsPartyNumber (client_party k)
 
 abbrev pub PartiesText : List ℕ → List ℕ → Type 0
-PartiesText ps word = (ps ≢ []) × (word ≡ parties_text ps) × All IsParty ps
+PartiesText ps word = (ps ≢ []) × (word ≡ parties_text ps) × All IsPartyNumber ps
 
 -- a refusal says why, unless memory ran out
 abbrev pub Because : StepFault → Type 0 → Type 0
@@ -29,18 +29,18 @@ Because Refused why = why
 Because NoMemory why = Unit {0}
 
 -- The text is that of the value, or of no value.
-abbrev pub JudgesText : {V S : Type 0} → (V → S) → (S → List ℕ → Type 0) → List ℕ → Result V StepFault → Type 0
-JudgesText view IsText text result =
+abbrev pub JudgesWord : {V S : Type 0} → (V → S) → (S → List ℕ → Type 0) → List ℕ → Result V StepFault → Type 0
+JudgesWord view IsText text result =
     MatchResult result (λ v. IsText (view v) text) (λ fault. Because fault ((s : _) → IsText s text → ⊥))
 
 -- the first word, which is not empty, and the rest after it
-pub record IsFirst (line word rest : List ℕ) : Type 0 where
+pub record IsFirstWord (line word rest : List ℕ) : Type 0 where
   pub some : word ≢ []
   pub first : first_word line ≡ word
   pub behind : rest ≡ after_word line
 
 -- the first word is the text of the value
-pub record Passes (IsText : List ℕ → Type 0) (line rest : List ℕ) : Type 0 where
+pub record FirstWordIsText (IsText : List ℕ → Type 0) (line rest : List ℕ) : Type 0 where
   pub some : first_word line ≢ []
   pub text : IsText (first_word line)
   pub behind : rest ≡ after_word line
@@ -48,12 +48,12 @@ pub record Passes (IsText : List ℕ → Type 0) (line rest : List ℕ) : Type 0
 -- The first word is the text of the value and is passed, or is the text of no value.
 abbrev pub ReadsWord : {V S : Type 0} → (V → S) → (S → List ℕ → Type 0) → List ℕ → Result V StepFault → List ℕ → Type 0
 ReadsWord view IsText line result rest =
-    MatchResult result (λ v. Passes (IsText (view v)) line rest)
+    MatchResult result (λ v. FirstWordIsText (IsText (view v)) line rest)
     (λ fault. Because fault ((s : _) → first_word line ≢ [] → IsText s (first_word line) → ⊥))
 
 -- a step of this name, with this rest of the line after the name
 pub record IsNamed (name_read rest : List ℕ) (step : schedules.Step) : Type 0 where
-  pub named : name step ≡ name_read
+  pub named : step_name step ≡ name_read
   pub arguments : Arguments step rest
   pub range : HasRange step
 

@@ -27,14 +27,14 @@ parties_text (p ∷ ps) = party_text p ++ more_parties_text ps
 abbrev pub IsHex : List ℕ → List ℕ → Type 0
 IsHex bytes digits = decode_of digits ≡ Ok bytes
 
-abbrev pub name : Step → List ℕ
-name (calls client op) = codes "invoke"
-name (deliver frame party) = codes "deliver"
-name (feed party bytes) = codes "bytes"
-name (seal sender receivers body) = codes "seal"
-name (sign replica leaf receivers body) = codes "sign"
-name (ticks party) = codes "tick"
-name flush = codes "flush"
+abbrev pub step_name : Step → List ℕ
+step_name (calls client op) = codes "invoke"
+step_name (deliver frame party) = codes "deliver"
+step_name (feed party bytes) = codes "bytes"
+step_name (seal sender receivers body) = codes "seal"
+step_name (sign replica leaf receivers body) = codes "sign"
+step_name (ticks party) = codes "tick"
+step_name flush = codes "flush"
 
 -- the words after the name
 abbrev pub Arguments : Step → List ℕ → Type 0
@@ -52,23 +52,23 @@ Arguments (ticks party) rest = HasWords (party_text party ∷ []) rest
 Arguments flush rest = HasWords [] rest
 
 -- The number of a party has two bytes, as in frames, and other numbers have eight.
-abbrev pub IsParty : ℕ → Type 0
-IsParty p = p < 2 ^ 16
+abbrev pub IsPartyNumber : ℕ → Type 0
+IsPartyNumber p = p < 2 ^ 16
 
 abbrev pub IsWord : ℕ → Type 0
 IsWord n = n < 2 ^ 64
 
 abbrev pub HasRange : Step → Type 0
-HasRange (calls client op) = IsParty (client_party client)
-HasRange (deliver frame party) = IsWord frame × IsParty party
-HasRange (feed party bytes) = IsParty party
-HasRange (seal sender receivers body) = IsParty sender × All IsParty receivers
-HasRange (sign replica leaf receivers body) = IsParty replica × IsWord leaf × All IsParty receivers
-HasRange (ticks party) = IsParty party
+HasRange (calls client op) = IsPartyNumber (client_party client)
+HasRange (deliver frame party) = IsWord frame × IsPartyNumber party
+HasRange (feed party bytes) = IsPartyNumber party
+HasRange (seal sender receivers body) = IsPartyNumber sender × All IsPartyNumber receivers
+HasRange (sign replica leaf receivers body) = IsPartyNumber replica × IsWord leaf × All IsPartyNumber receivers
+HasRange (ticks party) = IsPartyNumber party
 HasRange flush = Unit {0}
 
 -- the line is the text of the step
-pub record IsStep (step : Step) (line : List ℕ) : Type 0 where
-  pub named : first_word line ≡ name step
+pub record IsStepLine (step : Step) (line : List ℕ) : Type 0 where
+  pub named : first_word line ≡ step_name step
   pub arguments : Arguments step (after_word line)
   pub range : HasRange step

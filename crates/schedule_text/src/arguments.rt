@@ -3,7 +3,7 @@
 ghost use Rattle.std.specs.Prelude.{map};
 ghost use Rattle.terms.specs.Parties.{party_number};
 ghost use Rattle.schedule_text.specs.Steps.{IsHex};
-ghost use Rattle.schedule_text.specs.Reading.{JudgesText, NumberText, PartyText, ClientText, PartiesText};
+ghost use Rattle.schedule_text.specs.Reading.{JudgesWord, NumberText, PartyText, ClientText, PartiesText};
 
 use crate::fault::StepFault;
 use crate::words::len_before;
@@ -17,7 +17,7 @@ const LAST_CLIENT: u16 = 65_279;
 
 /// The number of this decimal text, without a sign or a leading zero.
 pub(crate) fn number_of(word: &[u8]) -> Result<u64, StepFault>
-    ensures { JudgesText (λ n. n) NumberText word.now result }
+    ensures { JudgesWord (λ n. n) NumberText word.now result }
 {
     let Ok(text) = str::from_utf8(word) else {
         return Err(StepFault::Refused);
@@ -35,7 +35,7 @@ pub(crate) fn number_of(word: &[u8]) -> Result<u64, StepFault>
 
 /// The party of this text: replica 0 is `r0`, client 0 is `c0`.
 pub(crate) fn party_of(word: &[u8]) -> Result<Party, StepFault>
-    ensures { JudgesText party_number PartyText word.now result }
+    ensures { JudgesWord party_number PartyText word.now result }
 {
     match word {
         [b'r', digits @ ..] => match u8::try_from(number_of(digits)?) {
@@ -49,7 +49,7 @@ pub(crate) fn party_of(word: &[u8]) -> Result<Party, StepFault>
 
 /// The client of this number.
 pub(crate) fn client_of(digits: &[u8]) -> Result<ClientId, StepFault>
-    ensures { JudgesText (λ k. k.number) ClientText digits.now result }
+    ensures { JudgesWord (λ k. k.number) ClientText digits.now result }
 {
     match u16::try_from(number_of(digits)?) {
         Ok(number) => {
@@ -64,7 +64,7 @@ pub(crate) fn client_of(digits: &[u8]) -> Result<ClientId, StepFault>
 
 /// The parties of this text, with commas between them.
 pub(crate) fn parties_of(alloc: Global, word: &[u8]) -> Result<Vec<Party>, StepFault>
-    ensures { JudgesText (λ ps. map party_number ps.items) PartiesText word.now result }
+    ensures { JudgesWord (λ ps. map party_number ps.items) PartiesText word.now result }
 {
     let mut parties = Vec::new(alloc);
     let mut rest = word;
@@ -80,7 +80,7 @@ pub(crate) fn parties_of(alloc: Global, word: &[u8]) -> Result<Vec<Party>, StepF
 
 /// The bytes of these hexadecimal digits, two a byte, in either case.
 pub(crate) fn bytes_of(alloc: Global, digits: &[u8]) -> Result<Vec<u8>, StepFault>
-    ensures { JudgesText (λ bs. bs.items) IsHex digits.now result }
+    ensures { JudgesWord (λ bs. bs.items) IsHex digits.now result }
 {
     Ok(hex::decode(alloc, digits)?)
 }

@@ -3,8 +3,8 @@
 ghost use Rattle.std.specs.Prelude.{◌≡◌, ◌↔◌, codes, IsTrue};
 ghost use Rattle.tuple_codec.specs.OperationView.{operation_of};
 ghost use Rattle.tuple_text.specs.Lines.{IsLine, IsSkipped, IsComment};
-ghost use Rattle.schedule_text.specs.Judged.{JudgesLine};
-ghost use Rattle.schedule_text.specs.Reading.{JudgesNamed, JudgesText};
+ghost use Rattle.schedule_text.specs.Judged.{JudgesStepLine};
+ghost use Rattle.schedule_text.specs.Reading.{JudgesNamed, JudgesWord};
 
 use crate::fault::StepFault;
 use crate::step::Step;
@@ -22,7 +22,7 @@ use tuple_text::read_line;
 /// Refused if the line is the text of no step, and NoMemory if memory runs out.
 pub fn read_step(alloc: Global, line: &[u8]) -> Result<Option<Step>, StepFault>
     // The given step is that of the line, and a refused line is the text of no step.
-    ensures answer { JudgesLine line.now result }
+    ensures answer { JudgesStepLine line.now result }
     ensures skipped { IsSkipped line.now → result ≡ Ok None }
 {
     if is_comment(line) {
@@ -80,7 +80,7 @@ fn read_invoke(alloc: Global, mut words: Words<'_>) -> Result<Step, StepFault>
 }
 
 fn read_op(alloc: Global, line: &[u8]) -> Result<Op<Global>, StepFault>
-    ensures { JudgesText operation_of (λ op text. IsLine op text) line.now result }
+    ensures { JudgesWord operation_of (λ op text. IsLine op text) line.now result }
 {
     match read_line(alloc, line)? {
         Some(op) => Ok(op),

@@ -4,7 +4,7 @@ ghost use Rattle.std.specs.Prelude.{◌≡◌, ◌≢◌, ◌≤◌, ◌<◌, �
 ghost use Rattle.terms.specs.Parties.{party_number};
 ghost use Rattle.schedule_text.specs.Words.{trimmed};
 ghost use Rattle.schedule_text.specs.Steps.{IsHex};
-ghost use Rattle.schedule_text.specs.Reading.{Because, IsFirst, ReadsWord, NumberText, PartyText, ClientText, PartiesText};
+ghost use Rattle.schedule_text.specs.Reading.{Because, IsFirstWord, ReadsWord, NumberText, PartyText, ClientText, PartiesText};
 
 use crate::arguments::{bytes_of, client_of, number_of, parties_of, party_of};
 use crate::fault::StepFault;
@@ -46,7 +46,7 @@ impl<'a> Words<'a> {
     /// The next word. It is passed, with the blanks around it.
     pub(crate) fn next(&mut self) -> Option<&'a [u8]>
         ensures { MatchOption result (trimmed self.old.rest.now ≡ [])
-            (λ w. IsFirst self.old.rest.now w.now self.new.rest.now) }
+            (λ w. IsFirstWord self.old.rest.now w.now self.new.rest.now) }
     {
         self.pass_blanks();
         if self.rest.is_empty() {
@@ -68,7 +68,7 @@ impl<'a> Words<'a> {
 
     /// The next word, or Refused if there is none.
     pub(crate) fn word(&mut self) -> Result<&'a [u8], StepFault>
-        ensures { MatchResult result (λ w. IsFirst self.old.rest.now w.now self.new.rest.now)
+        ensures { MatchResult result (λ w. IsFirstWord self.old.rest.now w.now self.new.rest.now)
             (λ fault. trimmed self.old.rest.now ≡ []) }
     {
         match self.next() {

@@ -23,8 +23,8 @@ use Rattle.client_cert.specs.Steps as client_steps
 use Rattle.client_cert.specs.declared.client.Event.{Event as ClientEvent}
 use Rattle.client_cert.specs.declared.client.Event.TheVariants as client_events
 use Rattle.schedule_world.specs.declared.stage.Seat.{Seat}
-use Rattle.schedule_world.specs.Stages.{Attend, FitsReplica, FitsSeat}
-use Rattle.schedule_world.specs.Moving.{AreOf, Moves, MovesClient, Calls}
+use Rattle.schedule_world.specs.Stages.{PartiesFitTrace, FitsReplica, FitsSeat}
+use Rattle.schedule_world.specs.Moving.{AreOf, MovesReplica, MovesClient, ClientCalls}
 use Rattle.schedule_world.proofs.Projecting.{own_entry, other_entry, own_entries, other_entries}
 
 pub apart_from : (p q : ℕ) → (q == p) ≡ false → q ≢ p
@@ -47,15 +47,15 @@ replica_input p replica_events.Timeout = (refl, refl)
 abbrev pub AreNumbered : Configuration → List ReplicaData → Type 0
 AreNumbered c rs = (length rs ≡ replicas c) × ((p : ℕ) (d : ReplicaData) → p < length rs → replica_fits.me_of (get_or rs p d) ≡ p)
 
-pub are_replicas : (c : Configuration) (trace : List Entry) (rs : List ReplicaData) (seats : List Seat) (d : ReplicaData) → AreNumbered c rs → Attend c trace rs seats
+pub are_replicas : (c : Configuration) (trace : List Entry) (rs : List ReplicaData) (seats : List Seat) (d : ReplicaData) → AreNumbered c rs → PartiesFitTrace c trace rs seats
     → (q : ℕ) → is_correct_replica c q ≡ true → IsReplica c q (history_of q trace)
 are_replicas c trace rs seats d numbered attend q correct =
     let below = replica_below c q correct in
     subst (λ n. IsReplica c n (history_of q trace)) (numbered.1 q d (omega (arith, numbered.0, below))) (attend.replicas q d correct).0.0.right
 
 pub attend_replica : (c : Configuration) (trace : List Entry) (rs new : List ReplicaData) (seats : List Seat) (p : ℕ) (event : ReplicaEvent) (outs : List Output)
-    → IsConfiguration c → AreNumbered c rs → Attend c trace rs seats → is_correct_replica c p ≡ true → Moves rs p event outs new → AreOf p (map (entry_of p) outs)
-    → Attend c (after_entries (map (entry_of p) outs) (replica_inputs.input_of p event ∷ trace)) new seats
+    → IsConfiguration c → AreNumbered c rs → PartiesFitTrace c trace rs seats → is_correct_replica c p ≡ true → MovesReplica rs p event outs new → AreOf p (map (entry_of p) outs)
+    → PartiesFitTrace c (after_entries (map (entry_of p) outs) (replica_inputs.input_of p event ∷ trace)) new seats
 attend_replica c trace rs new seats p event outs valid numbered attend correct m of =
     record {
       replicas = λ q e h. fits q e h (q == p) refl;
@@ -128,8 +128,8 @@ client_input p client_events.Retry = (refl, refl, λ h. refl)
 
 -- if one client's seat fits the longer history, all attend
 attend_seat : (c : Configuration) (trace : List Entry) (rs : List ReplicaData) (seats new : List Seat) (k : ℕ) (input : Entry) (entries : List Entry) (after : Seat)
-    → IsConfiguration c → Attend c trace rs seats → k < length seats → new ≡ set seats k after → party_of input ≡ 256 + k → AreOf (256 + k) entries
-    → FitsSeat c after (after_entries entries (input ∷ history_of (256 + k) trace)) → Attend c (after_entries entries (input ∷ trace)) rs new
+    → IsConfiguration c → PartiesFitTrace c trace rs seats → k < length seats → new ≡ set seats k after → party_of input ≡ 256 + k → AreOf (256 + k) entries
+    → FitsSeat c after (after_entries entries (input ∷ history_of (256 + k) trace)) → PartiesFitTrace c (after_entries entries (input ∷ trace)) rs new
 attend_seat c trace rs seats new k input entries after valid attend within becomes at of fit =
     record {
       replicas = λ q e h.
@@ -156,9 +156,9 @@ attend_seat c trace rs seats new k input entries after valid attend within becom
         rw (kept, others (256 + j) (λ z. apart (omega (arith, z)))) (attend.clients j d h)
 
 pub attend_client : (c : Configuration) (trace : List Entry) (rs : List ReplicaData) (seats new : List Seat) (k : ℕ) (event : ClientEvent) (outs : List Output)
-    → IsConfiguration c → Attend c trace rs seats → k < length seats → ((d : Seat) → (get_or seats k d).client.number ≡ k) → is_correct_client c (256 + k) ≡ true
+    → IsConfiguration c → PartiesFitTrace c trace rs seats → k < length seats → ((d : Seat) → (get_or seats k d).client.number ≡ k) → is_correct_client c (256 + k) ≡ true
     → MovesClient seats k event outs new → AreOf (256 + k) (map (entry_of (256 + k)) outs)
-    → Attend c (after_entries (map (entry_of (256 + k)) outs) (client_steps.input_of (256 + k) event ∷ trace)) rs new
+    → PartiesFitTrace c (after_entries (map (entry_of (256 + k)) outs) (client_steps.input_of (256 + k) event ∷ trace)) rs new
 attend_client c trace rs seats new k event outs valid attend within numbers correct m of =
     attend_seat c trace rs seats new k (client_steps.input_of (256 + k) event) (map (entry_of (256 + k)) outs) m.after valid attend within m.becomes is.0 of
     (led, last_behind (256 + k) outs (client_steps.input_of (256 + k) event ∷ history) ∙ is.2 history ∙ fit.1 ∙ sym m.calls, silent)
@@ -187,9 +187,9 @@ closed None e = refl
 closed (Some x) e = absurd cc
 
 pub attend_call : (c : Configuration) (trace : List Entry) (rs : List ReplicaData) (seats new : List Seat) (k : ℕ) (op : Operation) (timestamp : ℕ) (outs : List Output)
-    → IsConfiguration c → Attend c trace rs seats → k < length seats → ((d : Seat) → (get_or seats k d).client.number ≡ k) → is_correct_client c (256 + k) ≡ true
-    → open_call (history_of (256 + k) trace) ≡ None → Calls seats k op timestamp outs new → AreOf (256 + k) (map (entry_of (256 + k)) outs)
-    → Attend c (after_entries (map (entry_of (256 + k)) outs) (Invoke k timestamp op ∷ trace)) rs new
+    → IsConfiguration c → PartiesFitTrace c trace rs seats → k < length seats → ((d : Seat) → (get_or seats k d).client.number ≡ k) → is_correct_client c (256 + k) ≡ true
+    → open_call (history_of (256 + k) trace) ≡ None → ClientCalls seats k op timestamp outs new → AreOf (256 + k) (map (entry_of (256 + k)) outs)
+    → PartiesFitTrace c (after_entries (map (entry_of (256 + k)) outs) (Invoke k timestamp op ∷ trace)) rs new
 attend_call c trace rs seats new k op timestamp outs valid attend within numbers correct none m of =
     attend_seat c trace rs seats new k (Invoke k timestamp op) (map (entry_of (256 + k)) outs) m.after valid attend within m.becomes refl of
     (led, last_behind (256 + k) outs (Invoke k timestamp op ∷ history) ∙ sym m.calls, silent)
@@ -220,7 +220,7 @@ attend_call c trace rs seats new k op timestamp outs valid attend within numbers
 -- ---- to whom outputs go
 
 pub replica_meant : (c : Configuration) (trace : List Entry) (rs new : List ReplicaData) (seats : List Seat) (p : ℕ) (event : ReplicaEvent) (outs : List Output)
-    → AreNumbered c rs → Attend c trace rs seats → is_correct_replica c p ≡ true → Moves rs p event outs new → AreSentAsMeant c p outs
+    → AreNumbered c rs → PartiesFitTrace c trace rs seats → is_correct_replica c p ≡ true → MovesReplica rs p event outs new → AreSentAsMeant c p outs
 replica_meant c trace rs new seats p event outs numbered attend correct m =
     let below = replica_below c p correct in
     let within : p < length rs = omega (arith, numbered.0, below) in
@@ -229,7 +229,7 @@ replica_meant c trace rs new seats p event outs numbered attend correct m =
     subst (λ n. AreSentAsMeant c n outs) number (m.meant c (history_of p trace) fit)
 
 pub client_meant : (c : Configuration) (trace : List Entry) (rs : List ReplicaData) (seats : List Seat) (k : ℕ) (before : Seat) (outs : List Output)
-    → Attend c trace rs seats → ((d : Seat) → (get_or seats k d).client.number ≡ k) → is_correct_client c (256 + k) ≡ true
+    → PartiesFitTrace c trace rs seats → ((d : Seat) → (get_or seats k d).client.number ≡ k) → is_correct_client c (256 + k) ≡ true
     → ((d : Seat) → get_or seats k d ≡ before) → client_steps.SendsAsMeant before.client outs → AreSentAsMeant c (256 + k) outs
 client_meant c trace rs seats k before outs attend numbers correct was meant =
     let number : before.client.number ≡ k = ap (λ (s : Seat). s.client.number) (sym (was before)) ∙ numbers before in

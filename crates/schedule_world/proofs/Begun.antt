@@ -6,7 +6,7 @@ use Rattle.protocol.specs.System.Configuration.{Configuration, IsConfiguration}
 use Rattle.protocol.specs.System.Schedule.{new_world}
 use Rattle.schedule_world.specs.declared.stage.Stage.{Stage}
 use Rattle.schedule_world.specs.Opening.{AreNewReplicas, AreNewSeats}
-use Rattle.schedule_world.specs.Stages.{IsSeated, At}
+use Rattle.schedule_world.specs.Stages.{IsSeated, StageIsAfterSteps}
 use Rattle.replica.specs.State.{has_stopped}
 use Rattle.schedule_world.proofs.Attending.{replica_below, apart_from}
 use Rattle.schedule_world.proofs.Pools.{pool_new}
@@ -50,7 +50,7 @@ seated_first c s valid rs seats = record {
   client_numbers = λ k d lt. (seats.each k d lt).number;
 }
 
-pub at_first : (c : Configuration) (s : Stage) → AreNewReplicas c s.replicas.items → AreNewSeats c s.seats.items → s.pool ≡ [] → s.trace.items ≡ [] → s.accepted.items ≡ [] → At c [] [] s
+pub at_first : (c : Configuration) (s : Stage) → AreNewReplicas c s.replicas.items → AreNewSeats c s.seats.items → s.pool ≡ [] → s.trace.items ≡ [] → s.accepted.items ≡ [] → StageIsAfterSteps c [] [] s
 at_first c s rs seats pool trace accepted = record {
   world = new_world;
   stands = record {

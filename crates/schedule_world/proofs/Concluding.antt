@@ -17,7 +17,7 @@ use Rattle.schedule_text.specs.StepView.{step_of}
 use Rattle.schedule_world.specs.declared.report.Report.{Report}
 use Rattle.schedule_world.specs.declared.stage.Seat.{Seat}
 use Rattle.schedule_world.specs.declared.stage.Stage.{Stage}
-use Rattle.schedule_world.specs.Stages.{IsSeated, StageIsAt, At, acceptance_of}
+use Rattle.schedule_world.specs.Stages.{IsSeated, StageIsAt, StageIsAfterSteps, acceptance_of}
 use Rattle.schedule_world.specs.Reporting.{IsReportOf}
 use Rattle.schedule_world.specs.Reports.{ReportIsRight, StopsHere}
 use Rattle.schedule_world.proofs.Attending.{are_replicas, replica_below}
@@ -55,7 +55,7 @@ module _ (c : Configuration) (s : Stage) (seated : IsSeated c s) (w : World) (st
 shown : (c : Configuration) (s : Stage) (w : World) (report : Report) → StageIsAt c w s → IsReportOf c s report → reverse report.trace.items ≡ w.past
 shown c s w report st of = ap (λ v. reverse v.items) of.trace ∙ st.shows.past
 
-pub tells : (c : Configuration) (steps : List Step) (s : Stage) (report : Report) → IsSeated c s → At c (map step_of steps) [] s → IsReportOf c s report → ReportIsRight c steps report
+pub tells : (c : Configuration) (steps : List Step) (s : Stage) (report : Report) → IsSeated c s → StageIsAfterSteps c (map step_of steps) [] s → IsReportOf c s report → ReportIsRight c steps report
 tells c steps s report seated at of =
     let same : reverse report.trace.items ≡ at.world.past = shown c s at.world report at.stands of in
     let run : IsRun c at.world.past = is_run c s seated at.world at.stands in
@@ -70,7 +70,7 @@ tells c steps s report seated at of =
       linear = rw (same, are) (λ unforged apart. points_are_linear c seated.valid at.world.past run unforged apart);
     }
 
-pub stops_here : (c : Configuration) (steps : List Step) (n : ℕ) (s : Stage) (step : Step) (report : Report) → IsSeated c s → At c (map step_of (take n steps)) [] s → slice_get steps n ≡ Some step
+pub stops_here : (c : Configuration) (steps : List Step) (n : ℕ) (s : Stage) (step : Step) (report : Report) → IsSeated c s → StageIsAfterSteps c (map step_of (take n steps)) [] s → slice_get steps n ≡ Some step
     → ((w : World) → StageIsAt c w s → IsAllowed c w (step_of step) → ⊥) → IsReportOf c s report → StopsHere c steps n report
 stops_here c steps n s step report seated at is refused of =
     let same : reverse report.trace.items ≡ at.world.past = shown c s at.world report at.stands of in
@@ -85,12 +85,12 @@ stops_here c steps n s step report seated at is refused of =
 
 -- ---- the loop over the steps
 
-pub one_step_more : (c : Configuration) (steps : List Step) (i : ℕ) (step : Step) (s : Stage) → slice_get steps i ≡ Some step → At c (map step_of (take i steps) ++ step_of step ∷ []) [] s
-    → At c (map step_of (take (i + 1) steps)) [] s
+pub one_step_more : (c : Configuration) (steps : List Step) (i : ℕ) (step : Step) (s : Stage) → slice_get steps i ≡ Some step → StageIsAfterSteps c (map step_of (take i steps) ++ step_of step ∷ []) [] s
+    → StageIsAfterSteps c (map step_of (take (i + 1) steps)) [] s
 one_step_more c steps i step s is at =
     let within : i < length steps = slice_get_within steps i step is in
     let more : take (i + 1) steps ≡ take i steps ++ step ∷ [] = take_more steps i step within ∙ ap (λ x. take i steps ++ x ∷ []) (get_or_from_slice_get steps i step step is) in
-    subst (λ xs. At c xs [] s) (sym (ap (map step_of) more ∙ map-append step_of (take i steps) (step ∷ []))) at
+    subst (λ xs. StageIsAfterSteps c xs [] s) (sym (ap (map step_of) more ∙ map-append step_of (take i steps) (step ∷ []))) at
 
-pub all_steps : (c : Configuration) (steps : List Step) (i : ℕ) (s : Stage) → length steps ≤ i → At c (map step_of (take i steps)) [] s → At c (map step_of steps) [] s
-all_steps c steps i s all at = subst (λ xs. At c (map step_of xs) [] s) (take_all i steps all) at
+pub all_steps : (c : Configuration) (steps : List Step) (i : ℕ) (s : Stage) → length steps ≤ i → StageIsAfterSteps c (map step_of (take i steps)) [] s → StageIsAfterSteps c (map step_of steps) [] s
+all_steps c steps i s all at = subst (λ xs. StageIsAfterSteps c (map step_of xs) [] s) (take_all i steps all) at

@@ -9,7 +9,7 @@ use Rattle.protocol.specs.System.Schedule as schedules
 use Rattle.protocol.specs.System.Schedule.Step.{calls, deliver}
 use Rattle.protocol.specs.System.Run.{OnlyTheseStopped}
 use Rattle.protocol.specs.Client.RightClient.{Reacts, reaction}
-use Rattle.protocol.specs.Laws.Schedules.{IsInputOf, is_sent}
+use Rattle.protocol.specs.Laws.Schedules.{IsInputOfStep, is_sent}
 use Rattle.protocol.proofs.Words.Scheduling.{feeds_each_step, allows_sent}
 use Rattle.protocol.proofs.Words.Options.{some_injective}
 use Rattle.protocol.proofs.Words.Elements.{has_filter, has_filtered}
@@ -32,7 +32,7 @@ earlier : (e : Entry) (outputs past : List Entry) → Has IsSent [] ⊎ Has IsSe
 earlier e outputs past (inl s) = absurd s
 earlier e outputs past (inr s) = inr (inr s)
 
-sends : (c : Configuration) (me k : ℕ) (op : Operation) (outputs history : List Entry) → Reacts c me (reaction c me) outputs history → Has (IsInputOf (calls k op)) history
+sends : (c : Configuration) (me k : ℕ) (op : Operation) (outputs history : List Entry) → Reacts c me (reaction c me) outputs history → Has (IsInputOfStep (calls k op)) history
     → Has IsSent outputs ⊎ Has IsSent history
 sends c me k op outputs [] r h = absurd h
 sends c me k op outputs (Invoke client t o ∷ past) r (inl h) = let request = r.1.1 in inl (subst (Has IsSent) (sym request.1) (inl refl))
@@ -47,7 +47,7 @@ sends c me k op outputs (_ ∷ past) r (inl h) = absurd h
 
 -- ---- so it is in the trace
 
-calls_own : (k : ℕ) (op : Operation) (e : Entry) → IsInputOf (calls k op) e → (party_of e == (256 + k)) ≡ true
+calls_own : (k : ℕ) (op : Operation) (e : Entry) → IsInputOfStep (calls k op) e → (party_of e == (256 + k)) ≡ true
 calls_own k op (Invoke client t o) h = eq-eqb (256 + client) (256 + k) (ap (λ n. 256 + n) h.0)
 calls_own k op _ h = absurd h
 
@@ -64,8 +64,8 @@ counted (e ∷ trace) h = go (is_sent e) refl h (counted trace)
 pub first_frame : (c : Configuration) (k p : ℕ) (op : Operation) (trace : List Entry) → is_correct_client c (256 + k) ≡ true → is_correct c p ≡ true
     → (feeds : schedules.Feeds c (calls k op ∷ []) trace) → (schedules.IsAllowed c feeds.0 (deliver 0 p) → ⊥) → OnlyTheseStopped c [] trace → ⊥
 first_frame c k p op trace correct to feeds refused only =
-    let called : Has (IsInputOf (calls k op)) trace = feeds_each_step c (calls k op ∷ []) (calls k op) trace (inl refl) refl feeds in
-    let own = has_filtered (IsInputOf (calls k op)) (λ e. party_of e == (256 + k)) (calls_own k op) trace called in
+    let called : Has (IsInputOfStep (calls k op)) trace = feeds_each_step c (calls k op ∷ []) (calls k op) trace (inl refl) refl feeds in
+    let own = has_filtered (IsInputOfStep (calls k op)) (λ e. party_of e == (256 + k)) (calls_own k op) trace called in
     let some = counted trace (has_filter IsSent (λ e. party_of e == (256 + k)) trace
     (sent (sends c (256 + k) k op [] (history_of (256 + k) trace) (only.clients (256 + k) correct refl) own))) in
     let one : 0 < length (filter is_sent trace) = omega (arith, some) in

@@ -10,20 +10,20 @@ use Rattle.protocol.specs.System.Schedule.{Step, Made, World, with_entry, is_del
 use Rattle.protocol.specs.System.Schedule.Step.{flush}
 use Rattle.protocol.proofs.Words.Options.{some_injective, or_else_cases}
 use Rattle.schedule_world.specs.declared.stage.Stage.{Stage}
-use Rattle.schedule_world.specs.Pooled.{HasBytes, IsNext, IsServed, noted}
-use Rattle.schedule_world.specs.Stages.{StageIsAt, IsStanding, At, with_entries, acceptance_of}
-use Rattle.schedule_world.specs.Moving.{Behind, Comes, Delivers, LeadsBy}
-use Rattle.schedule_world.specs.Reaching.{Within}
+use Rattle.schedule_world.specs.Pooled.{HasBytes, IsFirstWaiting, IsServed, noted}
+use Rattle.schedule_world.specs.Stages.{StageIsAt, IsStanding, StageIsAfterSteps, with_entries, acceptance_of}
+use Rattle.schedule_world.specs.Moving.{StageIsBehind, InputComes, FrameIsDelivered, LeadsBy}
+use Rattle.schedule_world.specs.Reaching.{StepsReachWithin}
 use Rattle.schedule_world.proofs.Pools.{pool_bytes, pool_forgets, pool_next, pool_served}
 use Rattle.schedule_world.proofs.Reached.{within_output, reaches_within, within_flush, reaches_flushed}
 
 -- the frame was delivered to the party in mid
 pub delivers : (c : Configuration) (old mid new : Stage) (frame p : ℕ) (bytes : List ℕ) → HasBytes old.pool frame bytes → mid.pool ≡ noted old.pool frame p
-    → mid.trace ≡ old.trace → mid.accepted ≡ old.accepted → mid.replicas ≡ old.replicas → mid.seats ≡ old.seats → Comes c (Got p bytes) mid new → Delivers c frame p old new
+    → mid.trace ≡ old.trace → mid.accepted ≡ old.accepted → mid.replicas ≡ old.replicas → mid.seats ≡ old.seats → InputComes c (Got p bytes) mid new → FrameIsDelivered c frame p old new
 delivers c old mid new frame p bytes has forgets trace accepted rs seats comes w st = (
   made.0,
   made.1,
-  subst (λ (b : List ℕ). Behind c (record (with_entry c w (Got p b)) { delivered = (frame, p) ∷ w.delivered }) new) (sym made.2) (comes v stands),
+  subst (λ (b : List ℕ). StageIsBehind c (record (with_entry c w (Got p b)) { delivered = (frame, p) ∷ w.delivered }) new) (sym made.2) (comes v stands),
 )
   where
     made : (m : Made) × (slice_get w.frames frame ≡ Some m) × (m.bytes ≡ bytes)
@@ -45,11 +45,11 @@ delivers c old mid new frame p bytes has forgets trace accepted rs seats comes w
 
 -- ---- how the steps go on
 
-within_outputs : (c : Configuration) (done left : List Step) (entries : List Entry) (w : World) → AreOutputs entries → Within c done left w → Within c done left (with_entries c w entries)
+within_outputs : (c : Configuration) (done left : List Step) (entries : List Entry) (w : World) → AreOutputs entries → StepsReachWithin c done left w → StepsReachWithin c done left (with_entries c w entries)
 within_outputs c done left [] w are h = h
 within_outputs c done left (e ∷ entries) w are h = within_outputs c done left entries (with_entry c w e) are.1 (within_output c done left w e are.0 h)
 
-pub at_behind : (c : Configuration) (done left : List Step) (w : World) (s : Stage) → Within c done left w → Behind c w s → At c done left s
+pub at_behind : (c : Configuration) (done left : List Step) (w : World) (s : Stage) → StepsReachWithin c done left w → StageIsBehind c w s → StageIsAfterSteps c done left s
 at_behind c done left w s within behind = record {
   world = with_entries c w behind.outputs;
   stands = behind.stands;
@@ -60,7 +60,7 @@ at_behind c done left w s within behind = record {
 
 -- in the midst of a flush: any steps that lead to the old stage lead to this one, with the flush done in part
 abbrev pub Flushes : Configuration → Stage → Stage → Type 0
-Flushes c old s = (done : List Step) → At c done [] old → At c done (flush ∷ []) s
+Flushes c old s = (done : List Step) → StageIsAfterSteps c done [] old → StageIsAfterSteps c done (flush ∷ []) s
 
 -- what a flush delivers next is for a correct party
 receiver_is_correct : (c : Configuration) (delivered : List (ℕ × ℕ)) (frame : ℕ) (receivers : List ℕ) (x : ℕ × ℕ) → next_receiver c delivered frame receivers ≡ Some x → is_correct c x.1 ≡ true
@@ -82,10 +82,10 @@ pair_is_correct c delivered frame (made ∷ frames) x h =
     go (inl here) later = receiver_is_correct c delivered frame made.receivers x here
     go (inr there) later = later there
 
-pub next_is_correct : (c : Configuration) (s : Stage) (n p : ℕ) → IsStanding c s → IsNext s.pool n p → is_correct c p ≡ true
+pub next_is_correct : (c : Configuration) (s : Stage) (n p : ℕ) → IsStanding c s → IsFirstWaiting s.pool n p → is_correct c p ≡ true
 next_is_correct c s n p st next = pair_is_correct c st.0.delivered 0 st.0.frames (n, p) (pool_next c st.0 s.pool n p st.1.shows.frames next)
 
-pub flush_more : (c : Configuration) (old s new : Stage) (n p : ℕ) → IsNext s.pool n p → Delivers c n p s new → Flushes c old s → Flushes c old new
+pub flush_more : (c : Configuration) (old s new : Stage) (n p : ℕ) → IsFirstWaiting s.pool n p → FrameIsDelivered c n p s new → Flushes c old s → Flushes c old new
 flush_more c old s new n p next delivery h done first =
     let at = h done first in
     let d = delivery at.world at.stands in
@@ -93,7 +93,7 @@ flush_more c old s new n p next delivery h done first =
     at_behind c done (flush ∷ []) (record (with_entry c at.world (Got p d.0.bytes)) { delivered = (n, p) ∷ at.world.delivered }) new
     (within_flush c done at.world at.reaches n p d.0 pends (slice_get_within at.world.frames n d.0 d.1, next_is_correct c s n p (at.world, at.stands) next) d.1) d.2
 
-pub stands_more : (c : Configuration) (s new : Stage) (n p : ℕ) → Delivers c n p s new → IsStanding c s → IsStanding c new
+pub stands_more : (c : Configuration) (s new : Stage) (n p : ℕ) → FrameIsDelivered c n p s new → IsStanding c s → IsStanding c new
 stands_more c s new n p delivery st = let d = delivery st.0 st.1 in (with_entries c _ d.2.outputs, d.2.stands)
 
 pub flush_last : (c : Configuration) (old s : Stage) → All IsServed s.pool → Flushes c old s → LeadsBy c flush old s

@@ -11,14 +11,14 @@ use Rattle.replica.specs.declared.replica.Event.{Event as ReplicaEvent}
 use Rattle.client_cert.specs.Steps as client_steps
 use Rattle.client_cert.specs.declared.client.Event.{Event as ClientEvent}
 use Rattle.schedule_world.specs.declared.stage.Seat.{Seat}
-use Rattle.schedule_world.specs.Moving.{Moves, MovesClient, Calls}
+use Rattle.schedule_world.specs.Moving.{MovesReplica, MovesClient, ClientCalls}
 
 was : {X : Type 0} (xs : List X) (i p : ℕ) (x : X) → i ≡ p → p < length xs → x ≡ get_or xs i x → (d : X) → get_or xs p d ≡ x
 was xs i p x same within is d = get_or_default xs p d x within ∙ ap (λ j. get_or xs j x) (sym same) ∙ sym is
 
 pub moves : (rs : List ReplicaData) (i p : ℕ) (before after : ReplicaData) (event : ReplicaEvent) (outs : List Output) → i ≡ p → p < length rs → before ≡ get_or rs i before
     → replica_fits.me_of after ≡ replica_fits.me_of before → replica_fits.EventLeads before event outs after → replica_fits.SendsAsMeant before outs
-    → (has_stopped after ≡ true → outs ≡ []) → Moves rs p event outs (set rs i after)
+    → (has_stopped after ≡ true → outs ≡ []) → MovesReplica rs p event outs (set rs i after)
 moves rs i p before after event outs same within is number leads meant silent = record {
   before = before;
   after = after;
@@ -49,7 +49,7 @@ pub makes_call : (seats : List Seat) (i k : ℕ) (before after : Seat) (op : Ope
     → after.client.number ≡ before.client.number → timestamp ≡ suc before.calls → after.calls ≡ timestamp
     → (is_some before.client.call ≡ false → client_steps.HistoryStaysRight before.client (Invoke before.client.number (suc before.client.calls) op) outs after.client)
     → client_steps.SendsAsMeant before.client outs → (is_some before.client.call ≡ false → after.client.stopped ≡ true → outs ≡ [])
-    → Calls seats k op timestamp outs (set seats i after)
+    → ClientCalls seats k op timestamp outs (set seats i after)
 makes_call seats i k before after op timestamp outs same within is number next calls leads meant silent = record {
   before = before;
   after = after;

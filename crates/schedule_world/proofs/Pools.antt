@@ -7,8 +7,8 @@ use Rattle.protocol.specs.System.Configuration.{Configuration, is_correct}
 use Rattle.protocol.specs.System.Trace.{Entry}
 use Rattle.protocol.specs.System.Trace.Entry.{Sent}
 use Rattle.protocol.specs.System.Schedule.{Made, World, made_by, new_world, with_entry, with_frame, is_delivered, next_receiver, next_pair, pending}
-use Rattle.schedule_world.specs.Pooled.{Frame, added, others, noted, IsServed, IsNext, HasBytes}
-use Rattle.schedule_world.specs.Pooling.{is_due, pooled, pooled_from, IsPool}
+use Rattle.schedule_world.specs.Pooled.{Frame, added, numbers_without, noted, IsServed, IsFirstWaiting, HasBytes}
+use Rattle.schedule_world.specs.Pooling.{delivery_is_due, pooled, pooled_from, IsPool}
 use Rattle.events.specs.Outputs.{receivers_in}
 use Rattle.schedule_world.specs.Receiving.{correct_in}
 
@@ -57,25 +57,25 @@ left_out false e b = refl
 
 module _ (c : Configuration) (delivered : List (ℕ × ℕ)) (n p : ℕ) where
   -- of another frame
-  other_due : (k q : ℕ) → (n ≡ k → ⊥) → is_due c ((n, p) ∷ delivered) k q ≡ is_due c delivered k q
+  other_due : (k q : ℕ) → (n ≡ k → ⊥) → delivery_is_due c ((n, p) ∷ delivered) k q ≡ delivery_is_due c delivered k q
   other_due k q h = ap (λ b. is_correct c q && not ((b && (p == q)) || is_delivered delivered k q)) (same_false n k h)
 
   other_frame : (k : ℕ) (m : Made) → (n ≡ k → ⊥) → pooled c ((n, p) ∷ delivered) k m ≡ pooled c delivered k m
   other_frame k m h =
       ap (λ ws. record { bytes = m.bytes; waiting = ws })
-      (filter_agree (is_due c ((n, p) ∷ delivered) k) (is_due c delivered k) (λ q. other_due k q h) m.receivers)
+      (filter_agree (delivery_is_due c ((n, p) ∷ delivered) k) (delivery_is_due c delivered k) (λ q. other_due k q h) m.receivers)
 
   -- of this one
-  own_due : (k q : ℕ) → n ≡ k → is_due c ((n, p) ∷ delivered) k q ≡ (is_due c delivered k q && not (q == p))
+  own_due : (k q : ℕ) → n ≡ k → delivery_is_due c ((n, p) ∷ delivered) k q ≡ (delivery_is_due c delivered k q && not (q == p))
   own_due k q e =
       ap (λ b. is_correct c q && not ((b && (p == q)) || is_delivered delivered k q)) (eq-eqb n k e)
       ∙ left_out (is_correct c q) (p == q) (is_delivered delivered k q)
-      ∙ ap (λ b. is_due c delivered k q && not b) (same_turned p q)
+      ∙ ap (λ b. delivery_is_due c delivered k q && not b) (same_turned p q)
 
-  own_waiting : (k : ℕ) (rs : List ℕ) → n ≡ k → filter (is_due c ((n, p) ∷ delivered) k) rs ≡ others p (filter (is_due c delivered k) rs)
+  own_waiting : (k : ℕ) (rs : List ℕ) → n ≡ k → filter (delivery_is_due c ((n, p) ∷ delivered) k) rs ≡ numbers_without p (filter (delivery_is_due c delivered k) rs)
   own_waiting k rs e =
-      filter_agree (is_due c ((n, p) ∷ delivered) k) (λ q. is_due c delivered k q && not (q == p)) (λ q. own_due k q e) rs
-      ∙ sym (filter_twice (λ q. not (q == p)) (is_due c delivered k) rs)
+      filter_agree (delivery_is_due c ((n, p) ∷ delivered) k) (λ q. delivery_is_due c delivered k q && not (q == p)) (λ q. own_due k q e) rs
+      ∙ sym (filter_twice (λ q. not (q == p)) (delivery_is_due c delivered k) rs)
 
   later_frames : (k : ℕ) (ms : List Made) → n < k → pooled_from c ((n, p) ∷ delivered) k ms ≡ pooled_from c delivered k ms
   later_frames k [] h = refl
@@ -112,7 +112,7 @@ new_frame : (c : Configuration) (delivered : List (ℕ × ℕ)) (n : ℕ) (m : M
     → pooled c delivered n m ≡ record { bytes = m.bytes; waiting = correct_in c m.receivers }
 new_frame c delivered n m h =
     ap (λ ws. record { bytes = m.bytes; waiting = ws })
-    (filter_agree (is_due c delivered n) (is_correct c)
+    (filter_agree (delivery_is_due c delivered n) (is_correct c)
     (λ q. ap (λ b. is_correct c q && not b) (not_delivered delivered n q h) ∙ and_nothing (is_correct c q)) m.receivers)
 
 -- ---- the laws
@@ -190,11 +190,11 @@ due_case : (c : Configuration) (delivered : List (ℕ × ℕ)) (k p q : ℕ) (ws
 due_case c delivered k p q ws later rs true h e = ap (λ xs. Some (k, get_or xs 0 q)) e
 due_case c delivered k p q ws later rs false h e = h e
 
-first_due : (c : Configuration) (delivered : List (ℕ × ℕ)) (k p : ℕ) (rs later : List ℕ) → filter (is_due c delivered k) rs ≡ p ∷ later
+first_due : (c : Configuration) (delivered : List (ℕ × ℕ)) (k p : ℕ) (rs later : List ℕ) → filter (delivery_is_due c delivered k) rs ≡ p ∷ later
     → next_receiver c delivered k rs ≡ Some (k, p)
 first_due c delivered k p [] later e = absurd (omega (arith, ap length e))
 first_due c delivered k p (q ∷ rs) later e =
-    due_case c delivered k p q (filter (is_due c delivered k) rs) later rs (is_due c delivered k q) (first_due c delivered k p rs later) e
+    due_case c delivered k p q (filter (delivery_is_due c delivered k) rs) later rs (delivery_is_due c delivered k q) (first_due c delivered k p rs later) e
 
 none_case : (c : Configuration) (delivered : List (ℕ × ℕ)) (k q : ℕ) (ws : List ℕ) (rs : List ℕ) (b : Bool)
     → (ws ≡ [] → next_receiver c delivered k rs ≡ None)
@@ -202,13 +202,13 @@ none_case : (c : Configuration) (delivered : List (ℕ × ℕ)) (k q : ℕ) (ws 
 none_case c delivered k q ws rs true h e = absurd (omega (arith, ap length e))
 none_case c delivered k q ws rs false h e = h e
 
-none_due : (c : Configuration) (delivered : List (ℕ × ℕ)) (k : ℕ) (rs : List ℕ) → filter (is_due c delivered k) rs ≡ []
+none_due : (c : Configuration) (delivered : List (ℕ × ℕ)) (k : ℕ) (rs : List ℕ) → filter (delivery_is_due c delivered k) rs ≡ []
     → next_receiver c delivered k rs ≡ None
 none_due c delivered k [] e = refl
 none_due c delivered k (q ∷ rs) e =
-    none_case c delivered k q (filter (is_due c delivered k) rs) rs (is_due c delivered k q) (none_due c delivered k rs) e
+    none_case c delivered k q (filter (delivery_is_due c delivered k) rs) rs (delivery_is_due c delivered k q) (none_due c delivered k rs) e
 
-next_from : (c : Configuration) (delivered : List (ℕ × ℕ)) (k n j p : ℕ) (ms : List Made) → j ≡ k + n → IsNext (pooled_from c delivered k ms) n p
+next_from : (c : Configuration) (delivered : List (ℕ × ℕ)) (k n j p : ℕ) (ms : List Made) → j ≡ k + n → IsFirstWaiting (pooled_from c delivered k ms) n p
     → next_pair c delivered k ms ≡ Some (j, p)
 next_from c delivered k n j p [] e h = absurd (omega (arith, h.there))
 next_from c delivered k zero j p (m ∷ ms) e h =
@@ -228,8 +228,8 @@ none_from c delivered k (m ∷ ms) h =
     ∙ none_from c delivered (suc k) ms (λ i d b. h (suc i) d (omega (arith, b)))
 
 -- the first frame that somebody waits for is delivered next
-pub pool_next : (c : Configuration) (w : World) (pool : List Frame) (n p : ℕ) → IsPool c w pool → IsNext pool n p → pending c w ≡ Some (n, p)
-pool_next c w pool n p h next = next_from c w.delivered 0 n n p w.frames (omega arith) (subst (λ fs. IsNext fs n p) h.frames next)
+pub pool_next : (c : Configuration) (w : World) (pool : List Frame) (n p : ℕ) → IsPool c w pool → IsFirstWaiting pool n p → pending c w ≡ Some (n, p)
+pool_next c w pool n p h next = next_from c w.delivered 0 n n p w.frames (omega arith) (subst (λ fs. IsFirstWaiting fs n p) h.frames next)
 
 -- nothing is left if nobody waits
 pub pool_served : (c : Configuration) (w : World) (pool : List Frame) → IsPool c w pool → All IsServed pool → pending c w ≡ None

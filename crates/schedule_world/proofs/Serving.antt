@@ -7,24 +7,24 @@ use Rattle.std.proofs.lemmas.List.Elements.{All-more}
 use Rattle.terms.specs.Parties.{party_number}
 use Rattle.terms.specs.declared.parties.Party.{Party}
 use Rattle.schedule_world.specs.declared.pool.Made.{Made}
-use Rattle.schedule_world.specs.Pooled.{Frame, IsServed, AreServed, IsNext, others, noted}
-use Rattle.schedule_world.specs.PoolView.{frame_of}
+use Rattle.schedule_world.specs.Pooled.{Frame, IsServed, AreServed, IsFirstWaiting, numbers_without, noted}
+use Rattle.schedule_world.specs.PoolView.{frame_in_pool}
 
-frame_at : (ms : List Made) (i : ℕ) (d : Made) (e : Frame) → i < length ms → get_or (map frame_of ms) i e ≡ frame_of (get_or ms i d)
-frame_at ms i d e h = get_or-map frame_of ms i d e h
+frame_at : (ms : List Made) (i : ℕ) (d : Made) (e : Frame) → i < length ms → get_or (map frame_in_pool ms) i e ≡ frame_in_pool (get_or ms i d)
+frame_at ms i d e h = get_or-map frame_in_pool ms i d e h
 
 pub next_served : (ms : List Made) (i : ℕ) (d : Made) → i < length ms → (get_or ms i d).waiting.items ≡ []
-    → AreServed (map frame_of ms) i → AreServed (map frame_of ms) (i + 1)
+    → AreServed (map frame_in_pool ms) i → AreServed (map frame_in_pool ms) (i + 1)
 next_served ms i d within none served =
-    let all : length (map frame_of ms) ≡ length ms = length-map ms frame_of in
-    let there : i < length (map frame_of ms) = omega arith in
-    All-more IsServed (map frame_of ms) i (frame_of d) there served
-    (ap (λ f. f.waiting) (frame_at ms i d (frame_of d) within) ∙ ap (map party_number) none)
+    let all : length (map frame_in_pool ms) ≡ length ms = length-map ms frame_in_pool in
+    let there : i < length (map frame_in_pool ms) = omega arith in
+    All-more IsServed (map frame_in_pool ms) i (frame_in_pool d) there served
+    (ap (λ f. f.waiting) (frame_at ms i d (frame_in_pool d) within) ∙ ap (map party_number) none)
 
-pub all_served : (ms : List Made) (n : ℕ) → length ms ≤ n → AreServed (map frame_of ms) n → All IsServed (map frame_of ms)
+pub all_served : (ms : List Made) (n : ℕ) → length ms ≤ n → AreServed (map frame_in_pool ms) n → All IsServed (map frame_in_pool ms)
 all_served ms n h served =
-    let all : length (map frame_of ms) ≡ length ms = length-map ms frame_of in
-    subst (All IsServed) (take_all n (map frame_of ms) (omega arith)) served
+    let all : length (map frame_in_pool ms) ≡ length ms = length-map ms frame_in_pool in
+    subst (All IsServed) (take_all n (map frame_in_pool ms) (omega arith)) served
 
 abbrev Waits : Party → List Party → Type 0
 Waits p xs = (others : List ℕ) × (map party_number xs ≡ party_number p ∷ others)
@@ -34,9 +34,9 @@ waits p [] some e = absurd (omega arith)
 waits p (x ∷ xs) some e = (map party_number xs, ap (λ q. party_number q ∷ map party_number xs) (sym e))
 
 pub is_next : (ms : List Made) (i : ℕ) (d : Made) (p : Party) → i < length ms → 0 < length (get_or ms i d).waiting.items
-    → p ≡ get_or (get_or ms i d).waiting.items 0 p → AreServed (map frame_of ms) i → IsNext (map frame_of ms) i (party_number p)
+    → p ≡ get_or (get_or ms i d).waiting.items 0 p → AreServed (map frame_in_pool ms) i → IsFirstWaiting (map frame_in_pool ms) i (party_number p)
 is_next ms i d p within some first served =
-    let all : length (map frame_of ms) ≡ length ms = length-map ms frame_of in
+    let all : length (map frame_in_pool ms) ≡ length ms = length-map ms frame_in_pool in
     let w = waits p (get_or ms i d).waiting.items some first in
     record {
       served = served;
@@ -77,11 +77,11 @@ nobody (x ∷ xs) e = absurd (let g : ⊥ = cc in g)
 
 -- of the parties that waited for a frame one is forgotten
 pub forgotten_served : (ms : List Made) (i n : ℕ) (m d : Made) → i < length ms → d ≡ get_or ms i d
-    → (d.waiting.items ≡ [] → m.waiting.items ≡ []) → AreServed (map frame_of ms) n → AreServed (map frame_of (set ms i m)) n
+    → (d.waiting.items ≡ [] → m.waiting.items ≡ []) → AreServed (map frame_in_pool ms) n → AreServed (map frame_in_pool (set ms i m)) n
 forgotten_served ms i n m d within e g h =
-    subst (λ fs. AreServed fs n) (sym (map-set frame_of ms i m))
-    (served_set (map frame_of ms) i n (frame_of m)
-    (λ x s. ap (map party_number) (g (nobody d.waiting.items (ap (λ t. t.waiting) (ap frame_of e ∙ sym (frame_at ms i d x within)) ∙ s)))) h)
+    subst (λ fs. AreServed fs n) (sym (map-set frame_in_pool ms i m))
+    (served_set (map frame_in_pool ms) i n (frame_in_pool m)
+    (λ x s. ap (map party_number) (g (nobody d.waiting.items (ap (λ t. t.waiting) (ap frame_in_pool e ∙ sym (frame_at ms i d x within)) ∙ s)))) h)
 
 -- ---- a party that doesn't wait any more
 
@@ -94,13 +94,13 @@ map_filter f p [] = refl
 map_filter f p (x ∷ xs) = map_case f x (filter (λ y. p (f y)) xs) (p (f x)) (filter p (map f xs)) (map_filter f p xs)
 
 pub noted_set : (ms : List Made) (i p : ℕ) (m d : Made) → i < length ms → d ≡ get_or ms i d → m.bytes ≡ d.bytes
-    → map party_number m.waiting.items ≡ others p (map party_number d.waiting.items) → map frame_of (set ms i m) ≡ noted (map frame_of ms) i p
+    → map party_number m.waiting.items ≡ numbers_without p (map party_number d.waiting.items) → map frame_in_pool (set ms i m) ≡ noted (map frame_in_pool ms) i p
 noted_set [] i p m d within e b w = absurd (omega arith)
 noted_set (x ∷ ms) zero p m d within e b w =
     let bytes : m.bytes ≡ x.bytes = b ∙ ap (λ t. t.bytes) e in
-    let waiting : map party_number m.waiting.items ≡ others p (map party_number x.waiting.items) = w ∙ ap (λ t. others p (map party_number t.waiting.items)) e in
-    λ t. record { bytes = bytes t; waiting = waiting t } ∷ map frame_of ms
-noted_set (x ∷ ms) (suc i) p m d within e b w = ap (λ fs. frame_of x ∷ fs) (noted_set ms i p m d (omega arith) e b w)
+    let waiting : map party_number m.waiting.items ≡ numbers_without p (map party_number x.waiting.items) = w ∙ ap (λ t. numbers_without p (map party_number t.waiting.items)) e in
+    λ t. record { bytes = bytes t; waiting = waiting t } ∷ map frame_in_pool ms
+noted_set (x ∷ ms) (suc i) p m d within e b w = ap (λ fs. frame_in_pool x ∷ fs) (noted_set ms i p m d (omega arith) e b w)
 
 pub noted_none : (fs : List Frame) (i p : ℕ) → length fs ≤ i → noted fs i p ≡ fs
 noted_none [] i p h = refl

@@ -14,8 +14,8 @@ use Rattle.schedule_world.specs.declared.report.Acceptance.{Acceptance}
 use Rattle.schedule_world.specs.declared.stage.Stage.{Stage}
 use Rattle.schedule_world.specs.Pooled.{Frame, added}
 use Rattle.schedule_world.specs.Pooling.{IsPool}
-use Rattle.schedule_world.specs.Stages.{Shows, acceptance_of, with_entries}
-use Rattle.schedule_world.specs.Moving.{Adds, AddsAll, AddsIfMeant, AddsAllIfMeant, AreOf, IsOutputOf, IsPlain, KeepsRecords}
+use Rattle.schedule_world.specs.Stages.{StageShowsWorld, acceptance_of, with_entries}
+use Rattle.schedule_world.specs.Moving.{StageAddsEntry, AddsAll, AddsIfMeant, AddsAllIfMeant, AreOf, IsOutputOf, IsPlainEntry, KeepsRecords}
 use Rattle.schedule_world.proofs.Pools.{pool_kept, pool_sent}
 
 -- one more at the end
@@ -26,20 +26,20 @@ reverse_more xs x = reverse-append xs (x ∷ [])
 reverse_first : {X : Type 0} (xs : List X) (x : X) → reverse (x ∷ xs) ≡ reverse xs ++ x ∷ []
 reverse_first xs x = reverse-append (x ∷ []) xs
 
-plain_makes : (c : Configuration) (e : Entry) → IsPlain e → made_by c e ≡ []
+plain_makes : (c : Configuration) (e : Entry) → IsPlainEntry e → made_by c e ≡ []
 plain_makes c (Sent p bytes) h = absurd h
 plain_makes c (Accepted k t a) h = absurd h
 plain_makes c _ h = refl
 
-plain_accepts : (e : Entry) (past : List Entry) → IsPlain e → acceptances (e ∷ past) ≡ acceptances past
+plain_accepts : (e : Entry) (past : List Entry) → IsPlainEntry e → acceptances (e ∷ past) ≡ acceptances past
 plain_accepts (Sent p bytes) past h = absurd h
 plain_accepts (Accepted k t a) past h = absurd h
 plain_accepts _ past h = refl
 
-past_more : (c : Configuration) (w : World) (old new : Stage) (e : Entry) → Shows c w old → new.trace.items ≡ old.trace.items ++ e ∷ [] → reverse new.trace.items ≡ e ∷ w.past
+past_more : (c : Configuration) (w : World) (old new : Stage) (e : Entry) → StageShowsWorld c w old → new.trace.items ≡ old.trace.items ++ e ∷ [] → reverse new.trace.items ≡ e ∷ w.past
 past_more c w old new e shows trace = ap reverse trace ∙ reverse_more old.trace.items e ∙ ap (λ (xs : List Entry). e ∷ xs) shows.past
 
-pub adds_plain : (c : Configuration) (e : Entry) (old new : Stage) → IsPlain e → new.trace.items ≡ old.trace.items ++ e ∷ [] → new.pool ≡ old.pool → new.accepted.items ≡ old.accepted.items → Adds c e old new
+pub adds_plain : (c : Configuration) (e : Entry) (old new : Stage) → IsPlainEntry e → new.trace.items ≡ old.trace.items ++ e ∷ [] → new.pool ≡ old.pool → new.accepted.items ≡ old.accepted.items → StageAddsEntry c e old new
 adds_plain c e old new plain trace pool accepted w shows = record {
   past = past_more c w old new e shows trace;
   frames = pool_kept c w new.pool e (plain_makes c e plain) (subst (λ (p : List Frame). IsPool c w p) (sym pool) shows.frames);
@@ -47,7 +47,7 @@ adds_plain c e old new plain trace pool accepted w shows = record {
 }
 
 pub adds_sent : (c : Configuration) (p : ℕ) (bytes waiting : List ℕ) (old new : Stage) → waiting ≡ filter (is_correct c) (receivers_in c p bytes)
-    → new.trace.items ≡ old.trace.items ++ Sent p bytes ∷ [] → new.pool ≡ added old.pool bytes waiting → new.accepted.items ≡ old.accepted.items → Adds c (Sent p bytes) old new
+    → new.trace.items ≡ old.trace.items ++ Sent p bytes ∷ [] → new.pool ≡ added old.pool bytes waiting → new.accepted.items ≡ old.accepted.items → StageAddsEntry c (Sent p bytes) old new
 adds_sent c p bytes waiting old new right trace pool accepted w shows = record {
   past = past_more c w old new (Sent p bytes) shows trace;
   frames = subst (IsPool c (with_entry c w (Sent p bytes))) (ap (added old.pool bytes) (sym right) ∙ sym pool) (pool_sent c w old.pool p bytes shows.frames);
@@ -58,7 +58,7 @@ abbrev of : ℕ → ℕ → ℕ → Outcome → schedules.Acceptance
 of i j u b = record { position = i; client = j; timestamp = u; answer = b }
 
 pub adds_accepted : (c : Configuration) (k t : ℕ) (a : Outcome) (x : Acceptance) (old new : Stage) → x.position ≡ length old.trace.items → x.client.number ≡ k → x.timestamp.0 ≡ t → (acceptance_of x).answer ≡ a
-    → new.trace.items ≡ old.trace.items ++ Accepted k t a ∷ [] → new.pool ≡ old.pool → new.accepted.items ≡ old.accepted.items ++ x ∷ [] → Adds c (Accepted k t a) old new
+    → new.trace.items ≡ old.trace.items ++ Accepted k t a ∷ [] → new.pool ≡ old.pool → new.accepted.items ≡ old.accepted.items ++ x ∷ [] → StageAddsEntry c (Accepted k t a) old new
 adds_accepted c k t a x old new position client timestamp answer trace pool accepted w shows = record {
   past = past_more c w old new (Accepted k t a) shows trace;
   frames = pool_kept c w new.pool (Accepted k t a) refl (subst (IsPool c w) (sym pool) shows.frames);
@@ -80,10 +80,10 @@ pub entries_more : (c : Configuration) (me : ℕ) (w : World) (outs : List Outpu
 entries_more c me w [] output = refl
 entries_more c me w (o ∷ outs) output = entries_more c me (with_entry c w (entry_of me o)) outs output
 
-pub adds_more : (c : Configuration) (me : ℕ) (outs : List Output) (output : Output) (old mid new : Stage) → AddsAll c (map (entry_of me) outs) old mid → Adds c (entry_of me output) mid new
+pub adds_more : (c : Configuration) (me : ℕ) (outs : List Output) (output : Output) (old mid new : Stage) → AddsAll c (map (entry_of me) outs) old mid → StageAddsEntry c (entry_of me output) mid new
     → AddsAll c (map (entry_of me) (outs ++ output ∷ [])) old new
 adds_more c me outs output old mid new before adds w shows =
-    subst (λ v. Shows c v new) (sym (entries_more c me w outs output)) (adds (with_entries c w (map (entry_of me) outs)) (before w shows))
+    subst (λ v. StageShowsWorld c v new) (sym (entries_more c me w outs output)) (adds (with_entries c w (map (entry_of me) outs)) (before w shows))
 
 -- the frames of the outputs, and that of one more
 parted : (c : Configuration) (me : ℕ) (outs : List Output) (output : Output) → AreSentAsMeant c me (outs ++ output ∷ []) → AreSentAsMeant c me outs × IsSentAsMeant c me output
@@ -100,7 +100,7 @@ pub own_more : (me : ℕ) (outs : List Output) (output : Output) → AreOf me (m
 own_more me [] output all own = (own, tt)
 own_more me (o ∷ outs) output all own = (all.0, own_more me outs output all.1 own)
 
-pub shows_same : (c : Configuration) (w : World) (old new : Stage) → KeepsRecords old new → Shows c w old → Shows c w new
+pub shows_same : (c : Configuration) (w : World) (old new : Stage) → KeepsRecords old new → StageShowsWorld c w old → StageShowsWorld c w new
 shows_same c w old new kept shows = record {
   past = ap (λ (v : _). reverse v.items) kept.trace ∙ shows.past;
   frames = subst (IsPool c w) (sym kept.pool) shows.frames;

@@ -13,28 +13,28 @@ use Rattle.protocol.specs.Client.RightClient.{open_call}
 use Rattle.schedule_world.specs.declared.stage.Seat.{Seat}
 use Rattle.schedule_world.specs.declared.stage.Stage.{Stage}
 use Rattle.schedule_world.specs.Stages.{IsSeated, StageIsAt}
-use Rattle.schedule_world.specs.Moving.{Comes, CallComes, Delivers, Frames, LeadsBy}
+use Rattle.schedule_world.specs.Moving.{InputComes, CallComes, FrameIsDelivered, FrameIsMade, LeadsBy}
 use Rattle.schedule_world.proofs.Pools.{pool_length}
 use Rattle.schedule_world.proofs.Reached.{within_call, within_delivery, within_bytes, within_tick, reaches_sealed, reaches_signed}
 use Rattle.schedule_world.proofs.Standing.{client_within}
 use Rattle.schedule_world.proofs.Flushed.{at_behind}
 
-pub leads_tick : (c : Configuration) (old new : Stage) (p : ℕ) → is_correct c p ≡ true → Comes c (Tick p) old new → LeadsBy c (ticks p) old new
+pub leads_tick : (c : Configuration) (old new : Stage) (p : ℕ) → is_correct c p ≡ true → InputComes c (Tick p) old new → LeadsBy c (ticks p) old new
 leads_tick c old new p correct comes done at =
     at_behind c (done ++ ticks p ∷ []) [] (with_entry c at.world (Tick p)) new (within_tick c done at.world at.reaches p correct) (comes at.world at.stands)
 
-pub leads_feed : (c : Configuration) (old new : Stage) (p : ℕ) (text : List ℕ) → is_correct c p ≡ true → Comes c (Got p text) old new → LeadsBy c (feed p text) old new
+pub leads_feed : (c : Configuration) (old new : Stage) (p : ℕ) (text : List ℕ) → is_correct c p ≡ true → InputComes c (Got p text) old new → LeadsBy c (feed p text) old new
 leads_feed c old new p text correct comes done at =
     at_behind c (done ++ feed p text ∷ []) [] (with_entry c at.world (Got p text)) new (within_bytes c done at.world at.reaches p text correct) (comes at.world at.stands)
 
-pub leads_delivery : (c : Configuration) (old new : Stage) (frame p : ℕ) → is_correct c p ≡ true → Delivers c frame p old new → LeadsBy c (deliver frame p) old new
+pub leads_delivery : (c : Configuration) (old new : Stage) (frame p : ℕ) → is_correct c p ≡ true → FrameIsDelivered c frame p old new → LeadsBy c (deliver frame p) old new
 leads_delivery c old new frame p correct delivery done at =
     let d = delivery at.world at.stands in
     at_behind c (done ++ deliver frame p ∷ []) [] (record (with_entry c at.world (Got p d.0.bytes)) { delivered = (frame, p) ∷ at.world.delivered }) new
     (within_delivery c done at.world at.reaches frame p d.0 (slice_get_within at.world.frames frame d.0 d.1, correct) d.1) d.2
 
 pub leads_seal : (c : Configuration) (old new : Stage) (sender : ℕ) (receivers body bytes : List ℕ) → ((w : World) → IsAllowed c w (seal sender receivers body)) → bytes ≡ sealed_bytes c sender receivers body
-    → Frames c bytes receivers old new → LeadsBy c (seal sender receivers body) old new
+    → FrameIsMade c bytes receivers old new → LeadsBy c (seal sender receivers body) old new
 leads_seal c old new sender receivers body bytes allowed are frames done at = record {
   world = with_frame at.world (sealed_bytes c sender receivers body) receivers;
   stands = subst (λ b. StageIsAt c (with_frame at.world b receivers) new) are (frames at.world at.stands);
@@ -42,7 +42,7 @@ leads_seal c old new sender receivers body bytes allowed are frames done at = re
 }
 
 pub leads_sign : (c : Configuration) (old new : Stage) (replica leaf : ℕ) (receivers body bytes : List ℕ) → ((w : World) → IsAllowed c w (sign replica leaf receivers body)) → bytes ≡ signed_bytes c replica leaf body
-    → Frames c bytes receivers old new → LeadsBy c (sign replica leaf receivers body) old new
+    → FrameIsMade c bytes receivers old new → LeadsBy c (sign replica leaf receivers body) old new
 leads_sign c old new replica leaf receivers body bytes allowed are frames done at = record {
   world = with_frame at.world (signed_bytes c replica leaf body) receivers;
   stands = subst (λ b. StageIsAt c (with_frame at.world b receivers) new) are (frames at.world at.stands);

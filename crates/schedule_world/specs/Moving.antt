@@ -24,8 +24,8 @@ use Rattle.client_cert.specs.declared.client.Event.{Event as ClientEvent}
 use Rattle.wire_format.specs.Lists.{Each}
 use Rattle.schedule_world.specs.declared.stage.Seat.{Seat}
 use Rattle.schedule_world.specs.declared.stage.Stage.{Stage}
-use Rattle.schedule_world.specs.Pooled.{Frame, IsNext}
-use Rattle.schedule_world.specs.Stages.{Shows, StageIsAt, At, with_entries}
+use Rattle.schedule_world.specs.Pooled.{Frame, IsFirstWaiting}
+use Rattle.schedule_world.specs.Stages.{StageShowsWorld, StageIsAt, StageIsAfterSteps, with_entries}
 
 -- ---- parts that stay the same
 
@@ -43,14 +43,14 @@ pub record KeepsRecords (old new : Stage) : Type 0 where
 -- ---- entries
 
 -- the entry neither makes a frame nor accepts an answer
-abbrev pub IsPlain : Entry → Type 0
-IsPlain (Sent p bytes) = ⊥
-IsPlain (Accepted client timestamp answer) = ⊥
-IsPlain _ = ⊤
+abbrev pub IsPlainEntry : Entry → Type 0
+IsPlainEntry (Sent p bytes) = ⊥
+IsPlainEntry (Accepted client timestamp answer) = ⊥
+IsPlainEntry _ = ⊤
 
 -- the new stage has the entry more
-abbrev pub Adds : Configuration → Entry → Stage → Stage → Type 0
-Adds c e old new = (w : World) → Shows c w old → Shows c (with_entry c w e) new
+abbrev pub StageAddsEntry : Configuration → Entry → Stage → Stage → Type 0
+StageAddsEntry c e old new = (w : World) → StageShowsWorld c w old → StageShowsWorld c (with_entry c w e) new
 
 -- a party's outputs, as entries
 abbrev pub entry_by : Party → Output → Entry
@@ -63,15 +63,15 @@ entries_by party outs = map (entry_by party) outs.items
 abbrev pub AddsAccepted :
     {A : Type 0} → Configuration → ClientId → Timestamp → Answer A → Stage → Stage → Type 0
 AddsAccepted c client timestamp answer old new =
-    Adds c (Accepted client.number timestamp.0 (outcome_of answer)) old new
+    StageAddsEntry c (Accepted client.number timestamp.0 (outcome_of answer)) old new
 
 -- the new stage has these entries more, the oldest first
 abbrev pub AddsAll : Configuration → List Entry → Stage → Stage → Type 0
-AddsAll c entries old new = (w : World) → Shows c w old → Shows c (with_entries c w entries) new
+AddsAll c entries old new = (w : World) → StageShowsWorld c w old → StageShowsWorld c (with_entries c w entries) new
 
 -- the new stage has the party's output more if, where it is a frame, it goes to the parties for whom the frame is
 abbrev pub AddsIfMeant : Configuration → ℕ → Output → Stage → Stage → Type 0
-AddsIfMeant c p output old new = IsSentAsMeant c p output → Adds c (entry_of p output) old new
+AddsIfMeant c p output old new = IsSentAsMeant c p output → StageAddsEntry c (entry_of p output) old new
 
 -- so is a frame that the party sends to these receivers
 abbrev pub AddsSent : Configuration → Party → Vec Party Global → List ℕ → Stage → Stage → Type 0
@@ -93,7 +93,7 @@ AreOf p entries = Each (IsOutputOf p) entries
 
 -- Replica p takes the event and gives the outputs, and no other replica moves. If it has stopped then, it gives
 -- nothing.
-pub record Moves (old : List ReplicaData) (p : ℕ) (event : ReplicaEvent) (outs : List Output)
+pub record MovesReplica (old : List ReplicaData) (p : ℕ) (event : ReplicaEvent) (outs : List Output)
     (new : List ReplicaData) : Type 0 where
   pub before : ReplicaData
   pub after : ReplicaData
@@ -118,7 +118,7 @@ pub record MovesClient (old : List Seat) (k : ℕ) (event : ClientEvent) (outs :
   pub silent : after.client.stopped ≡ true → outs ≡ []
 
 -- client k calls the operation, with this timestamp, and gives the outputs, and no other client moves
-pub record Calls (old : List Seat) (k : ℕ) (op : Operation) (timestamp : ℕ) (outs : List Output)
+pub record ClientCalls (old : List Seat) (k : ℕ) (op : Operation) (timestamp : ℕ) (outs : List Output)
     (new : List Seat) : Type 0 where
   pub before : Seat
   pub after : Seat
@@ -135,49 +135,49 @@ pub record Calls (old : List Seat) (k : ℕ) (op : Operation) (timestamp : ℕ) 
 
 -- the same of the stage that they are in
 abbrev pub StepsReplica : Stage → ℕ → ReplicaEvent → List Output → Stage → Type 0
-StepsReplica old p event outs new = Moves old.replicas.items p event outs new.replicas.items
+StepsReplica old p event outs new = MovesReplica old.replicas.items p event outs new.replicas.items
 
 abbrev pub StepsClient : Stage → ℕ → ClientEvent → List Output → Stage → Type 0
 StepsClient old k event outs new = MovesClient old.seats.items k event outs new.seats.items
 
-abbrev pub Invokes : Stage → ℕ → Operation → Stage → Timestamp × Vec Output Global → Type 0
-Invokes old k op new given = Calls old.seats.items k op given.0.0 given.1.items new.seats.items
+abbrev pub StepsInvocation : Stage → ℕ → Operation → Stage → Timestamp × Vec Output Global → Type 0
+StepsInvocation old k op new given = ClientCalls old.seats.items k op given.0.0 given.1.items new.seats.items
 
 -- the frame is the first that a party waits for, and the party is the first that waits for it
 abbrev pub WaitsFirst : List Frame → ℕ × Party → Type 0
-WaitsFirst pool next = IsNext pool next.0 (party_number next.1)
+WaitsFirst pool next = IsFirstWaiting pool next.0 (party_number next.1)
 
 -- ---- events
 
 -- the stage stands at the world after this one and some outputs
-pub record Behind (c : Configuration) (w : World) (s : Stage) : Type 0 where
+pub record StageIsBehind (c : Configuration) (w : World) (s : Stage) : Type 0 where
   pub outputs : List Entry
   pub are : AreOutputs outputs
   pub stands : StageIsAt c (with_entries c w outputs) s
 
 -- the party takes the input, and then gives outputs
-abbrev pub Comes : Configuration → Entry → Stage → Stage → Type 0
-Comes c input old new = (w : World) → StageIsAt c w old → Behind c (with_entry c w input) new
+abbrev pub InputComes : Configuration → Entry → Stage → Stage → Type 0
+InputComes c input old new = (w : World) → StageIsAt c w old → StageIsBehind c (with_entry c w input) new
 
 -- the party takes the frame, and then gives outputs
-abbrev pub Delivers : Configuration → ℕ → ℕ → Stage → Stage → Type 0
-Delivers c frame party old new =
+abbrev pub FrameIsDelivered : Configuration → ℕ → ℕ → Stage → Stage → Type 0
+FrameIsDelivered c frame party old new =
     (w : World) → StageIsAt c w old
     → (made : Made) × (slice_get w.frames frame ≡ Some made)
-    × Behind c (record (with_entry c w (Got party made.bytes)) { delivered = (frame, party) ∷ w.delivered }) new
+    × StageIsBehind c (record (with_entry c w (Got party made.bytes)) { delivered = (frame, party) ∷ w.delivered }) new
 
 -- the client calls if it may, and then gives outputs
 abbrev pub CallComes : Configuration → ℕ → Operation → Stage → Stage → Type 0
 CallComes c k op old new =
     (w : World) → StageIsAt c w old → IsAllowed c w (calls k op)
-    → (timestamp : ℕ) × Behind c (with_entry c w (Invoke k timestamp op)) new
+    → (timestamp : ℕ) × StageIsBehind c (with_entry c w (Invoke k timestamp op)) new
 
 -- a frame is made for these receivers
-abbrev pub Frames : Configuration → List ℕ → List ℕ → Stage → Stage → Type 0
-Frames c bytes receivers old new = (w : World) → StageIsAt c w old → StageIsAt c (with_frame w bytes receivers) new
+abbrev pub FrameIsMade : Configuration → List ℕ → List ℕ → Stage → Stage → Type 0
+FrameIsMade c bytes receivers old new = (w : World) → StageIsAt c w old → StageIsAt c (with_frame w bytes receivers) new
 
-abbrev pub FramesFor : Configuration → List ℕ → List Party → Stage → Stage → Type 0
-FramesFor c bytes receivers old new = Frames c bytes (map party_number receivers) old new
+abbrev pub FrameIsMadeFor : Configuration → List ℕ → List Party → Stage → Stage → Type 0
+FrameIsMadeFor c bytes receivers old new = FrameIsMade c bytes (map party_number receivers) old new
 
 -- ---- steps
 
@@ -190,9 +190,9 @@ sign_of signer leaf receivers body = sign (party_number signer) leaf (map party_
 
 -- the step leads from the old stage to the new one
 abbrev pub LeadsBy : Configuration → Step → Stage → Stage → Type 0
-LeadsBy c step old new = (done : List Step) → At c done [] old → At c (done ++ step ∷ []) [] new
+LeadsBy c step old new = (done : List Step) → StageIsAfterSteps c done [] old → StageIsAfterSteps c (done ++ step ∷ []) [] new
 
 -- the step was taken; or it is not allowed, and nothing happened
-abbrev pub Takes : Configuration → Step → Stage → Stage → Bool → Type 0
-Takes c step old new true = LeadsBy c step old new
-Takes c step old new false = (new ≡ old) × ((w : World) → StageIsAt c w old → IsAllowed c w step → ⊥)
+abbrev pub StepIsTaken : Configuration → Step → Stage → Stage → Bool → Type 0
+StepIsTaken c step old new true = LeadsBy c step old new
+StepIsTaken c step old new false = (new ≡ old) × ((w : World) → StageIsAt c w old → IsAllowed c w step → ⊥)

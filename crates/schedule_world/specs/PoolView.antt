@@ -5,8 +5,8 @@ use Rattle.schedule_world.specs.declared.pool.Made.{Made}
 use Rattle.schedule_world.specs.declared.pool.Pool.TheInside.{Inside}
 use Rattle.schedule_world.specs.Pooled.{Frame}
 
-abbrev pub frame_of : Made → Frame
-frame_of m = record { bytes = m.bytes; waiting = map party_number m.waiting.items }
+abbrev pub frame_in_pool : Made → Frame
+frame_in_pool m = record { bytes = m.bytes; waiting = map party_number m.waiting.items }
 
-abbrev pub frames_of : Inside → List Frame
-frames_of p = map frame_of p.frames.items
+abbrev pub frames_in_pool : Inside → List Frame
+frames_in_pool p = map frame_in_pool p.frames.items

@@ -11,13 +11,13 @@ abbrev pub added : List Frame → List ℕ → List ℕ → List Frame
 added fs bytes waiting = fs ++ record { bytes = bytes; waiting = waiting } ∷ []
 
 -- the numbers without p
-abbrev pub others : ℕ → List ℕ → List ℕ
-others p = filter (λ q. not (q == p))
+abbrev pub numbers_without : ℕ → List ℕ → List ℕ
+numbers_without p = filter (λ q. not (q == p))
 
 -- Party p no longer waits for the frame of number n, if that was made.
 abbrev pub noted : List Frame → ℕ → ℕ → List Frame
 noted [] n p = []
-noted (f ∷ fs) zero p = record f { waiting = others p f.waiting } ∷ fs
+noted (f ∷ fs) zero p = record f { waiting = numbers_without p f.waiting } ∷ fs
 noted (f ∷ fs) (suc n) p = f ∷ noted fs n p
 
 -- nobody waits for the frame
@@ -29,7 +29,7 @@ abbrev pub AreServed : List Frame → ℕ → Type 0
 AreServed fs n = All IsServed (take n fs)
 
 -- The party is the first that waits for the frame, and nobody waits for one before it.
-pub record IsNext (fs : List Frame) (n p : ℕ) : Type 0 where
+pub record IsFirstWaiting (fs : List Frame) (n p : ℕ) : Type 0 where
   pub served : AreServed fs n
   pub there : n < length fs
   pub waits : (d : Frame) → (others : List ℕ) × ((slice_index_or fs n d).waiting ≡ p ∷ others)

@@ -5,13 +5,13 @@ use Rattle.protocol.specs.System.Schedule.{Made, World, is_delivered}
 use Rattle.schedule_world.specs.Pooled.{Frame}
 
 -- the party is correct, and the frame of this number was not delivered to it
-abbrev pub is_due : Configuration → List (ℕ × ℕ) → ℕ → ℕ → Bool
-is_due c delivered number party = is_correct c party && not (is_delivered delivered number party)
+abbrev pub delivery_is_due : Configuration → List (ℕ × ℕ) → ℕ → ℕ → Bool
+delivery_is_due c delivered number party = is_correct c party && not (is_delivered delivered number party)
 
 -- a frame of the world, of this number, with the receivers to which it is due
 abbrev pub pooled : Configuration → List (ℕ × ℕ) → ℕ → Made → Frame
 pooled c delivered number made =
-    record { bytes = made.bytes; waiting = filter (is_due c delivered number) made.receivers }
+    record { bytes = made.bytes; waiting = filter (delivery_is_due c delivered number) made.receivers }
 
 -- the same of each frame; they are numbered from this one on
 abbrev pub pooled_from : Configuration → List (ℕ × ℕ) → ℕ → List Made → List Frame

@@ -15,7 +15,7 @@ use Rattle.schedule_world.specs.declared.report.Acceptance.{Acceptance}
 use Rattle.schedule_world.specs.declared.stage.Seat.{Seat}
 use Rattle.schedule_world.specs.declared.stage.Stage.{Stage}
 use Rattle.schedule_world.specs.Pooling.{IsPool}
-use Rattle.schedule_world.specs.Reaching.{Reaches}
+use Rattle.schedule_world.specs.Reaching.{StepsReach}
 
 -- an acceptance of the program, as that of the definitions
 abbrev pub acceptance_of : Acceptance → schedules.Acceptance
@@ -43,7 +43,7 @@ IsOpen s k b = (d : Seat) → b ≡ is_some (slice_index_or s.seats.items k d).c
 -- ---- at any entry, also within an event
 
 -- The stage has the trace, the frames and the acceptances of the world.
-pub record Shows (c : Configuration) (w : World) (s : Stage) : Type 0 where
+pub record StageShowsWorld (c : Configuration) (w : World) (s : Stage) : Type 0 where
   pub past : reverse s.trace.items ≡ w.past
   pub frames : IsPool c w s.pool
   pub accepted : map acceptance_of s.accepted.items ≡ reverse (acceptances w.past)
@@ -66,7 +66,7 @@ FitsSeat c seat history =
     × (seat.client.stopped ≡ true → GaveNothingLast history)
 
 -- Each correct replica and each correct client fits its history of the trace.
-pub record Attend (c : Configuration) (trace : List Entry) (rs : List ReplicaData)
+pub record PartiesFitTrace (c : Configuration) (trace : List Entry) (rs : List ReplicaData)
     (seats : List Seat) : Type 0 where
   pub replicas : (p : ℕ) (d : ReplicaData) → is_correct_replica c p ≡ true
       → FitsReplica c (slice_index_or rs p d) (history_of p trace)
@@ -80,8 +80,8 @@ pub record IsOrderly (c : Configuration) (trace : List Entry) : Type 0 where
 
 -- The stage stands at this world: it shows it, its parties fit their histories, and the trace is orderly.
 pub record StageIsAt (c : Configuration) (w : World) (s : Stage) : Type 0 where
-  pub shows : Shows c w s
-  pub attend : Attend c w.past s.replicas.items s.seats.items
+  pub shows : StageShowsWorld c w s
+  pub attend : PartiesFitTrace c w.past s.replicas.items s.seats.items
   pub orderly : IsOrderly c w.past
 
 -- The stage stands at some world.
@@ -89,7 +89,7 @@ abbrev pub IsStanding : Configuration → Stage → Type 0
 IsStanding c s = (w : World) × StageIsAt c w s
 
 -- The stage stands at a world to which the steps done lead, with these steps done in part.
-pub record At (c : Configuration) (done left : List Step) (s : Stage) : Type 0 where
+pub record StageIsAfterSteps (c : Configuration) (done left : List Step) (s : Stage) : Type 0 where
   pub world : World
   pub stands : StageIsAt c world s
-  pub reaches : Reaches c done left world
+  pub reaches : StepsReach c done left world

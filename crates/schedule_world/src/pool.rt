@@ -2,7 +2,7 @@
 
 ghost use Rattle.std.specs.Prelude.{◌≡◌, ◌≤◌, [], map, length, All, MatchOption, OnOk, OnErr};
 ghost use Rattle.terms.specs.Parties.{party_number};
-ghost use Rattle.schedule_world.specs.Pooled.{HasBytes, IsNext, IsServed, added, noted, others};
+ghost use Rattle.schedule_world.specs.Pooled.{HasBytes, IsFirstWaiting, IsServed, added, noted, numbers_without};
 
 use events::SharedBytes;
 use std::alloc::Global;
@@ -30,11 +30,11 @@ impl Model for Pool {
 
     ghost Value = { List Frame };
 
-    ghost use Rattle.schedule_world.specs.PoolView.{frames_of};
+    ghost use Rattle.schedule_world.specs.PoolView.{frames_in_pool};
 
-    ghost view = { frames_of };
+    ghost view = { frames_in_pool };
 
-    ghost invariant = { λ p. (p.first ≤ length p.frames.items) × AreServed (frames_of p) p.first };
+    ghost invariant = { λ p. (p.first ≤ length p.frames.items) × AreServed (frames_in_pool p) p.first };
 }
 
 impl Pool {
@@ -76,7 +76,7 @@ impl Pool {
     /// The first frame that a party waits for, and the first party that does.
     pub(crate) fn next(&mut self) -> Option<(usize, Party)>
         ensures kept { self.new ≡ self.old }
-        ensures next { MatchOption result (All IsServed self.old) (λ n. IsNext self.old n.0 (party_number n.1)) }
+        ensures next { MatchOption result (All IsServed self.old) (λ n. IsFirstWaiting self.old n.0 (party_number n.1)) }
     {
         while self.first < self.frames.len() {
             if let Some(party) = self.frames[self.first].waiting.first() {
@@ -89,7 +89,7 @@ impl Pool {
 }
 
 fn forget(waiting: &mut Vec<Party>, party: Party)
-    ensures { map party_number waiting.new.items ≡ others (party_number party) (map party_number waiting.old.items) }
+    ensures { map party_number waiting.new.items ≡ numbers_without (party_number party) (map party_number waiting.old.items) }
 {
     let number = party.number();
     waiting.retain(|other| other.number() != number);

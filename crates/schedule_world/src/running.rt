@@ -6,7 +6,7 @@ ghost use Rattle.tuple_codec.specs.OperationView.{operation_of};
 ghost use Rattle.protocol.specs.System.Schedule.Step.{calls, ticks};
 ghost use Rattle.protocol.specs.System.Schedule.Step.{deliver as deliver_step, feed as feed_step};
 ghost use Rattle.schedule_text.specs.StepView.{step_of};
-ghost use Rattle.schedule_world.specs.Moving.{Takes, seal_of, sign_of};
+ghost use Rattle.schedule_world.specs.Moving.{StepIsTaken, seal_of, sign_of};
 ghost use Rattle.schedule_world.specs.Reporting.{IsReportOf};
 ghost use Rattle.schedule_world.specs.Reports.{ReportIsRight, FaultIsRight};
 ghost use Rattle.schedule_world.specs.Stages.{IsSeated, IsStanding};
@@ -121,7 +121,7 @@ fn take_step(
     requires seated { IsSeated config.now stage.old }
     requires stands { IsStanding config.now stage.old }
     ensures seated { OnOk result (IsSeated config.now stage.new) }
-    ensures takes { IfOk result (Takes config.now (step_of step.now) stage.old stage.new) }
+    ensures takes { IfOk result (StepIsTaken config.now (step_of step.now) stage.old stage.new) }
 {
     match step {
         Step::Invoke { client, op } => call(stage, alloc, config, *client, op),
@@ -171,7 +171,7 @@ fn call(
 ) -> Result<bool, NoMemory>
     requires seated { IsSeated config.now stage.old }
     ensures seated { OnOk result (IsSeated config.now stage.new) }
-    ensures takes { IfOk result (Takes config.now (calls client.number (operation_of op.now)) stage.old stage.new) }
+    ensures takes { IfOk result (StepIsTaken config.now (calls client.number (operation_of op.now)) stage.old stage.new) }
 {
     if !config.is_correct_client(Party::Client(client).number()) || stage.is_open(client) {
         return Ok(false);
@@ -192,7 +192,7 @@ fn deliver(
 ) -> Result<bool, NoMemory>
     requires seated { IsSeated config.now stage.old }
     ensures seated { OnOk result (IsSeated config.now stage.new) }
-    ensures takes { IfOk result (Takes config.now (deliver_step frame (party_number party)) stage.old stage.new) }
+    ensures takes { IfOk result (StepIsTaken config.now (deliver_step frame (party_number party)) stage.old stage.new) }
 {
     let frame = frame as usize;
     if !stage.has_frame(frame) || !is_correct(config, party) {
@@ -211,7 +211,7 @@ fn feed(
 ) -> Result<bool, NoMemory>
     requires seated { IsSeated config.now stage.old }
     ensures seated { OnOk result (IsSeated config.now stage.new) }
-    ensures takes { IfOk result (Takes config.now (feed_step (party_number party) bytes.now) stage.old stage.new) }
+    ensures takes { IfOk result (StepIsTaken config.now (feed_step (party_number party) bytes.now) stage.old stage.new) }
 {
     if !is_correct(config, party) {
         return Ok(false);
@@ -231,7 +231,7 @@ fn seal(
 ) -> Result<bool, NoMemory>
     requires seated { IsSeated config.now stage.old }
     ensures seated { OnOk result (IsSeated config.now stage.new) }
-    ensures takes { IfOk result (Takes config.now (seal_of sender receivers.now body.now) stage.old stage.new) }
+    ensures takes { IfOk result (StepIsTaken config.now (seal_of sender receivers.now body.now) stage.old stage.new) }
 {
     if !is_party(config, sender) || is_correct(config, sender) || !may_receive(config, receivers) {
         return Ok(false);
@@ -253,7 +253,7 @@ fn sign(
 ) -> Result<bool, NoMemory>
     requires seated { IsSeated config.now stage.old }
     ensures seated { OnOk result (IsSeated config.now stage.new) }
-    ensures takes { IfOk result (Takes config.now (sign_of signer leaf receivers.now body.now) stage.old stage.new) }
+    ensures takes { IfOk result (StepIsTaken config.now (sign_of signer leaf receivers.now body.now) stage.old stage.new) }
 {
     if !is_replica(config, signer) || is_correct(config, signer) {
         return Ok(false);
@@ -269,7 +269,7 @@ fn sign(
 fn tick(stage: &mut Stage, alloc: Global, config: &Config, party: Party) -> Result<bool, NoMemory>
     requires seated { IsSeated config.now stage.old }
     ensures seated { OnOk result (IsSeated config.now stage.new) }
-    ensures takes { IfOk result (Takes config.now (ticks (party_number party)) stage.old stage.new) }
+    ensures takes { IfOk result (StepIsTaken config.now (ticks (party_number party)) stage.old stage.new) }
 {
     if !is_correct(config, party) {
         return Ok(false);

@@ -9,13 +9,13 @@ ghost use Rattle.protocol.specs.System.Configuration.{is_correct, is_correct_cli
 ghost use Rattle.protocol.specs.System.Trace.Entry.{Got, Sent, Tick};
 ghost use Rattle.protocol.specs.System.Schedule.Step.{flush};
 ghost use Rattle.schedule_world.specs.Opening.{AreNewReplicas, AreNewSeats, IsNewSeat};
-ghost use Rattle.schedule_world.specs.Moving.{Adds, AddsAccepted, AddsAllIfMeant, AddsIfMeant, AddsSent, AreOf};
-ghost use Rattle.schedule_world.specs.Moving.{IsOutputOf, IsPlain, KeepsParties};
+ghost use Rattle.schedule_world.specs.Moving.{StageAddsEntry, AddsAccepted, AddsAllIfMeant, AddsIfMeant, AddsSent, AreOf};
+ghost use Rattle.schedule_world.specs.Moving.{IsOutputOf, IsPlainEntry, KeepsParties};
 ghost use Rattle.schedule_world.specs.Moving.{entries_by, entry_by};
-ghost use Rattle.schedule_world.specs.Moving.{CallComes, Comes, Delivers, FramesFor, LeadsBy, WaitsFirst};
-ghost use Rattle.schedule_world.specs.Moving.{Invokes, KeepsRecords, StepsClient, StepsReplica};
+ghost use Rattle.schedule_world.specs.Moving.{CallComes, InputComes, FrameIsDelivered, FrameIsMadeFor, LeadsBy, WaitsFirst};
+ghost use Rattle.schedule_world.specs.Moving.{StepsInvocation, KeepsRecords, StepsClient, StepsReplica};
 ghost use Rattle.schedule_world.specs.Pooled.{HasBytes, IsServed};
-ghost use Rattle.schedule_world.specs.Stages.{At, IsOpen, IsSeated, IsStanding};
+ghost use Rattle.schedule_world.specs.Stages.{StageIsAfterSteps, IsOpen, IsSeated, IsStanding};
 ghost use Rattle.schedule_world.specs.Stopped.{AddsParties, is_stopped_client, is_stopped_replica};
 ghost use Rattle.schedule_world.specs.Stopped.{stopped_clients, stopped_parties, stopped_replicas};
 
@@ -62,7 +62,7 @@ impl Stage {
     /// The world before the first step.
     pub(crate) fn new(alloc: Global, config: &Config) -> Result<Stage, NoMemory>
         ensures seated { IfOk result (λ s. IsSeated config.now s) }
-        ensures stands { IfOk result (λ s. At config.now [] [] s) }
+        ensures stands { IfOk result (λ s. StageIsAfterSteps config.now [] [] s) }
     {
         // The call shows that the configuration is valid.
         let _faults = config.faults();
@@ -125,7 +125,7 @@ impl Stage {
         requires correct { is_correct config.now (party_number party) ≡ true }
         requires made { frame < length self.old.pool }
         ensures seated { OnOk result (IsSeated config.now self.new) }
-        ensures delivers { OnOk result (Delivers config.now frame (party_number party) self.old self.new) }
+        ensures delivers { OnOk result (FrameIsDelivered config.now frame (party_number party) self.old self.new) }
     {
         let bytes = self.share_frame(frame)?;
         self.pool.note_delivered(frame, party);
@@ -155,7 +155,7 @@ impl Stage {
         requires seated { IsSeated config.now self.old }
         requires correct { is_correct config.now (party_number party) ≡ true }
         ensures seated { OnOk result (IsSeated config.now self.new) }
-        ensures comes { OnOk result (Comes config.now (Got (party_number party) bytes) self.old self.new) }
+        ensures comes { OnOk result (InputComes config.now (Got (party_number party) bytes) self.old self.new) }
     {
         let outputs = match party {
             Party::Replica(replica) => {
@@ -180,7 +180,7 @@ impl Stage {
         requires seated { IsSeated config.now self.old }
         requires correct { is_correct config.now (party_number party) ≡ true }
         ensures seated { OnOk result (IsSeated config.now self.new) }
-        ensures comes { OnOk result (Comes config.now (Tick (party_number party)) self.old self.new) }
+        ensures comes { OnOk result (InputComes config.now (Tick (party_number party)) self.old self.new) }
     {
         let outputs = match party {
             Party::Replica(replica) => self.step_replica(alloc, replica, Event::Timeout),
@@ -201,7 +201,7 @@ impl Stage {
     ) -> Result<(), NoMemory>
         requires seated { IsSeated config.now self.old }
         ensures seated { OnOk result (IsSeated config.now self.new) }
-        ensures frames { OnOk result (FramesFor config.now bytes.items receivers.now self.old self.new) }
+        ensures frames { OnOk result (FrameIsMadeFor config.now bytes.items receivers.now self.old self.new) }
     {
         let waiting = correct_of(alloc, config, receivers)?;
         self.pool.add(SharedBytes::new(bytes)?, waiting)?;
@@ -355,7 +355,7 @@ impl Stage {
         op: Op<Global>,
     ) -> Result<(Timestamp, Outputs), NoMemory>
         requires known { client.number < length self.old.seats.items }
-        ensures calls { IfOk result (Invokes self.old client.number (operation_of op) self.new) }
+        ensures calls { IfOk result (StepsInvocation self.old client.number (operation_of op) self.new) }
         ensures replicas { self.new.replicas ≡ self.old.replicas }
         ensures kept { KeepsRecords self.old self.new }
     {
@@ -374,8 +374,8 @@ impl Stage {
 
     // Adds an entry that makes no frame, and accepts nothing.
     fn add(&mut self, config: &Config, kind: EntryKind) -> Result<(), NoMemory>
-        requires plain { IsPlain (entry_of_kind kind) }
-        ensures adds { OnOk result (Adds config.now (entry_of_kind kind) self.old self.new) }
+        requires plain { IsPlainEntry (entry_of_kind kind) }
+        ensures adds { OnOk result (StageAddsEntry config.now (entry_of_kind kind) self.old self.new) }
         ensures kept { KeepsParties self.old self.new }
     {
         self.trace.push(Entry::new(kind))?;

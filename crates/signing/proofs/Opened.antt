@@ -14,7 +14,7 @@ use Rattle.authenticator.proofs.Refusing.{header_refused, header_opened, header_
 use Rattle.signing.specs.Signatures.{public_key}
 use Rattle.signing.specs.Faults.{hear_fault}
 use Rattle.signing.specs.Heard.{signs, has_signature, heard}
-use Rattle.signing.specs.Hearing.{HasNoSignature, IsOwn, Refuses, authenticator_holds, signature_holds}
+use Rattle.signing.specs.Hearing.{HasNoSignature, IsOfOwnName, RefusesBytes, authenticator_holds, signature_holds}
 use Rattle.signing.proofs.Heard.{opened_is_heard, heard_was_opened}
 
 -- of a frame that is to be signed an authenticator that holds is its sender's signature
@@ -33,7 +33,7 @@ module _ (m : Membership) (party : ℕ) (bytes : List ℕ) (header : HeaderData)
   header_is : (frame : FrameData) → SpellsFrame bytes frame → header ≡ header_of frame
   header_is frame s = has.2 ∙ ap header_of (one_frame bytes has.0 frame has.1 s)
 
-  not_own : header.sender ≢ party → ¬ IsOwn party bytes
+  not_own : header.sender ≢ party → ¬ IsOfOwnName party bytes
   not_own other own = other (ap (λ (h : HeaderData). h.sender) (header_is own.frame own.spelled) ∙ own.sender)
 
   pub own_not_heard : header.sender ≡ party → (body : BodyData) → heard m party bytes ≡ Some body → ⊥
@@ -45,7 +45,7 @@ module _ (m : Membership) (party : ℕ) (bytes : List ℕ) (header : HeaderData)
   refused_not_heard fault e body h =
       let w = heard_was_opened m party bytes body h in header_not_refused m party bytes header has fault w.frame e w.opens
 
-  pub refused_by_header : (fault : OpenFault) → Some fault ≡ header_refusal m party header → header.sender ≢ party → Refuses m party bytes (hear_fault fault)
+  pub refused_by_header : (fault : OpenFault) → Some fault ≡ header_refusal m party header → header.sender ≢ party → RefusesBytes m party bytes (hear_fault fault)
   refused_by_header open_faults.TooLarge e other = header_refused m party bytes header has open_faults.TooLarge e
   refused_by_header open_faults.Malformed e other = header_refused m party bytes header has open_faults.Malformed e
   refused_by_header open_faults.UnknownSender e other = inl (header_refused m party bytes header has open_faults.UnknownSender e)
@@ -68,7 +68,7 @@ module _ (m : Membership) (party : ℕ) (bytes : List ℕ) (header : HeaderData)
         let f = fails m.seed (body_spelling frame.body) frame.body.sender frame.authenticator (ap (signature_holds m.seed) (sym (header_is frame s)) ∙ h) in
         (sym s.valid.proved ∙ f.0, f.1)
 
-    pub unsigned_by_header : header.sender ≢ party → signature_holds m.seed header ≡ false → HasNoSignature m party bytes × ¬ IsOwn party bytes
+    pub unsigned_by_header : header.sender ≢ party → signature_holds m.seed header ≡ false → HasNoSignature m party bytes × ¬ IsOfOwnName party bytes
     unsigned_by_header other h =
         let u = unsigned has.0 has.1 h in (record { frame = has.0; opens = opens has.0 has.1; signed = u.0; unsigned = u.1 }, not_own other)
 

@@ -5,7 +5,7 @@ use Rattle.std.proofs.lemmas.Nat.Bits.{bit_at-lt}
 use Rattle.sha2.specs.Sha256.{sha256}
 use Rattle.sha2.proofs.Facts256.{length-sha256}
 use Rattle.authenticator.proofs.Lengths.{length-hmac_of}
-use Rattle.signing.specs.Joined.{joined}
+use Rattle.signing.specs.Joined.{end_to_end}
 use Rattle.signing.specs.Lamport.{secret, public_hash, leaf_digest, bit_of}
 use Rattle.signing.specs.Merkle.{node}
 use Rattle.signing.specs.Signatures.{public_key, signed_bit, sibling_digest, signature_of, shown_secret, shown_hash, shown_sibling, shown_pair, shown_digest, shown_root, Verifies}
@@ -41,10 +41,10 @@ module _ (seed : List ℕ) (leaf : ℕ) where
   length-sibling_digest : (level : ℕ) → length (sibling_digest (leaf_digest seed) leaf level) ≡ 32
   length-sibling_digest level = length-node (leaf_digest seed) (length-leaf_digest seed) level _
 
-  length-signed_bits : (hash : List ℕ) → length (joined 256 (signed_bit seed leaf hash)) ≡ 16384
+  length-signed_bits : (hash : List ℕ) → length (end_to_end 256 (signed_bit seed leaf hash)) ≡ 16384
   length-signed_bits hash = length-joined 256 64 _ (λ bit below. length-signed_bit hash bit)
 
-  length-siblings : length (joined 6 (sibling_digest (leaf_digest seed) leaf)) ≡ 192
+  length-siblings : length (end_to_end 6 (sibling_digest (leaf_digest seed) leaf)) ≡ 192
   length-siblings = length-joined 6 32 _ (λ level below. length-sibling_digest level)
 
   length-signature_of : (text : List ℕ) → length (signature_of seed leaf text) ≡ 16577
@@ -55,7 +55,7 @@ module _ (seed : List ℕ) (leaf : ℕ) where
   -- ---- the parts of a signature
 
   module _ (text : List ℕ) where
-    part-signed_bit : (bit : ℕ) → bit < 256 → take 64 (drop (64 * bit) (joined 256 (signed_bit seed leaf (sha256 text)))) ≡ signed_bit seed leaf (sha256 text) bit
+    part-signed_bit : (bit : ℕ) → bit < 256 → take 64 (drop (64 * bit) (end_to_end 256 (signed_bit seed leaf (sha256 text)))) ≡ signed_bit seed leaf (sha256 text) bit
     part-signed_bit bit below = joined-part 256 64 _ (λ other under. length-signed_bit (sha256 text) other) bit below
 
     shown_secret-signature_of : (bit : ℕ) → bit < 256 → shown_secret (signature_of seed leaf text) bit ≡ secret seed leaf bit (bit_of (sha256 text) bit)
@@ -119,7 +119,7 @@ signature_of-verifies seed text leaf below = record {
 }
 
 -- A signature, from the parts that are appended in turn.
-pub signature_of-appended : (seed text hash : List ℕ) (leaf : ℕ) (first second third : List ℕ) → hash ≡ sha256 text → first ≡ leaf ∷ [] → second ≡ first ++ joined 256 (signed_bit seed leaf hash) → third ≡ second ++ joined 6 (sibling_digest (leaf_digest seed) leaf) → third ≡ signature_of seed leaf text
+pub signature_of-appended : (seed text hash : List ℕ) (leaf : ℕ) (first second third : List ℕ) → hash ≡ sha256 text → first ≡ leaf ∷ [] → second ≡ first ++ end_to_end 256 (signed_bit seed leaf hash) → third ≡ second ++ end_to_end 6 (sibling_digest (leaf_digest seed) leaf) → third ≡ signature_of seed leaf text
 unfolding signature_of
 signature_of-appended seed text hash leaf first second third hashed one two three =
     rw (three, two, one, hashed) refl

@@ -6,7 +6,7 @@ use Rattle.wire.specs.Headers.{HeaderData}
 use Rattle.authenticator.specs.declared.sealed.OpenFault.TheVariants as open_faults
 use Rattle.authenticator.specs.Keys.{signing_seed}
 use Rattle.authenticator.specs.Membership.{Membership}
-use Rattle.authenticator.specs.Opening.{Opens, Refuses as RefusesToOpen}
+use Rattle.authenticator.specs.Opening.{Opens, RefusesFrame as RefusesToOpen}
 use Rattle.signing.specs.declared.hear_fault.HearFault.{HearFault}
 use Rattle.signing.specs.declared.hear_fault.HearFault.TheVariants as faults
 use Rattle.signing.specs.Signatures.{public_key, verifies}
@@ -20,21 +20,21 @@ pub record HasNoSignature (m : Membership) (party : ℕ) (bytes : List ℕ) : Ty
   pub unsigned : has_signature m.seed frame ≡ false
 
 -- The bytes are a frame in the party's own name.
-pub record IsOwn (party : ℕ) (bytes : List ℕ) : Type 0 where
+pub record IsOfOwnName (party : ℕ) (bytes : List ℕ) : Type 0 where
   pub frame : FrameData
   pub spelled : SpellsFrame bytes frame
   pub sender : frame.body.sender ≡ party
 
 -- The earlier refusal goes before a later one. A party's own name is no sender's.
-abbrev pub Refuses : Membership → ℕ → List ℕ → HearFault → Type 0
-Refuses m party bytes faults.TooLarge = RefusesToOpen m party bytes open_faults.TooLarge
-Refuses m party bytes faults.Malformed = RefusesToOpen m party bytes open_faults.Malformed
-Refuses m party bytes faults.UnknownSender =
-    RefusesToOpen m party bytes open_faults.UnknownSender ⊎ IsOwn party bytes
-Refuses m party bytes faults.BadMac =
-    RefusesToOpen m party bytes open_faults.BadMac × ¬ IsOwn party bytes
-Refuses m party bytes faults.BadSignature = HasNoSignature m party bytes × ¬ IsOwn party bytes
-Refuses m party bytes faults.NoMemory = (body : BodyData) × (heard m party bytes ≡ Some body)
+abbrev pub RefusesBytes : Membership → ℕ → List ℕ → HearFault → Type 0
+RefusesBytes m party bytes faults.TooLarge = RefusesToOpen m party bytes open_faults.TooLarge
+RefusesBytes m party bytes faults.Malformed = RefusesToOpen m party bytes open_faults.Malformed
+RefusesBytes m party bytes faults.UnknownSender =
+    RefusesToOpen m party bytes open_faults.UnknownSender ⊎ IsOfOwnName party bytes
+RefusesBytes m party bytes faults.BadMac =
+    RefusesToOpen m party bytes open_faults.BadMac × ¬ IsOfOwnName party bytes
+RefusesBytes m party bytes faults.BadSignature = HasNoSignature m party bytes × ¬ IsOfOwnName party bytes
+RefusesBytes m party bytes faults.NoMemory = (body : BodyData) × (heard m party bytes ≡ Some body)
 
 -- a signature of the text is its sender's; MACs are judged elsewhere
 abbrev pub authenticator_holds : List ℕ → ℕ → List ℕ → AuthenticatorData → Bool

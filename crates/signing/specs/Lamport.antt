@@ -5,7 +5,7 @@ use Rattle.std.specs.Int.{w16, to_be_bytes, bit_at}
 use Rattle.sha2.specs.Sha256.{sha256}
 use Rattle.authenticator.specs.Mac.{hmac_of}
 use Rattle.signing.specs.declared.secrets.TheConstants.{BITS}
-use Rattle.signing.specs.Joined.{joined}
+use Rattle.signing.specs.Joined.{end_to_end}
 
 -- the secret of a value, 0 or 1, of a bit, 0 to 255, under a leaf
 unfoldable pub secret : List ℕ → ℕ → ℕ → ℕ → List ℕ
@@ -18,7 +18,7 @@ public_hash seed leaf bit value = sha256 (secret seed leaf bit value)
 -- the hash of a leaf's public hashes, by bit, value 0 before 1
 unfoldable pub leaf_digest : List ℕ → ℕ → List ℕ
 leaf_digest seed leaf =
-    sha256 (joined BITS (λ bit. public_hash seed leaf bit 0 ++ public_hash seed leaf bit 1))
+    sha256 (end_to_end BITS (λ bit. public_hash seed leaf bit 0 ++ public_hash seed leaf bit 1))
 
 -- a bit of a hash: bit 0 is the highest of the first byte
 unfoldable pub bit_of : List ℕ → ℕ → ℕ

@@ -60,8 +60,8 @@ SignedWasSigned =
     → signed_body m bytes ≡ Some body → IsSignedFrame m bytes body
 
 -- the body with its sender's signature by a leaf
-abbrev pub signed_frame : List ℕ → BodyData → ℕ → FrameData
-signed_frame seed body leaf =
+abbrev pub frame_signed_by_leaf : List ℕ → BodyData → ℕ → FrameData
+frame_signed_by_leaf seed body leaf =
     record {
       body = body;
       authenticator =
@@ -72,7 +72,7 @@ signed_frame seed body leaf =
 abbrev pub SignerIsHeard : Type 0
 SignerIsHeard =
     (m : Membership) (bytes : List ℕ) (body : BodyData) (leaf : ℕ) → leaf < 64
-    → IsTrue (has_sender m body) → SpellsFrame bytes (signed_frame m.seed body leaf)
+    → IsTrue (has_sender m body) → SpellsFrame bytes (frame_signed_by_leaf m.seed body leaf)
     → signed_body m bytes ≡ Some body
 
 -- the test of a signature is true exactly if the signature verifies

@@ -2,7 +2,7 @@
 use Rattle.std.specs.Prelude.{◌≡◌, ℕ, ◌+◌, ◌-◌, ◌*◌, ◌/◌, ◌^◌, ◌<◌, List, ◌∷◌, ◌++◌, length, take, drop, slice_index, Bool, ◌&&◌, nat_lt, bytes_eq, ◌==◌, if◌then◌else◌}
 use Rattle.sha2.specs.Sha256.{sha256}
 use Rattle.signing.specs.declared.secrets.TheConstants.{BITS}
-use Rattle.signing.specs.Joined.{joined}
+use Rattle.signing.specs.Joined.{end_to_end}
 use Rattle.signing.specs.Lamport.{secret, public_hash, leaf_digest, bit_of}
 use Rattle.signing.specs.Merkle.{node, sibling, climbed}
 
@@ -17,7 +17,7 @@ signed_bit seed leaf hash bit =
 
 -- the signatures of all bits of a hash, one after another
 abbrev pub signed_bits : List ℕ → ℕ → List ℕ → List ℕ
-signed_bits seed leaf hash = joined BITS (signed_bit seed leaf hash)
+signed_bits seed leaf hash = end_to_end BITS (signed_bit seed leaf hash)
 
 -- the digest beside a leaf's path at a level
 abbrev pub sibling_digest : (ℕ → List ℕ) → ℕ → ℕ → List ℕ
@@ -25,7 +25,7 @@ sibling_digest leaves leaf level = node leaves level (sibling (leaf / 2 ^ level)
 
 -- the digests beside the path at all levels, upwards
 abbrev pub path_digests : (ℕ → List ℕ) → ℕ → List ℕ
-path_digests leaves leaf = joined 6 (sibling_digest leaves leaf)
+path_digests leaves leaf = end_to_end 6 (sibling_digest leaves leaf)
 
 -- the leaf's number in one byte, the signatures of all bits of the text's hash, and the siblings on the path, upwards
 unfoldable pub signature_of : List ℕ → ℕ → List ℕ → List ℕ
@@ -61,7 +61,7 @@ shown_pair signature hash bit =
 
 -- the digest of the leaf, from a signature of the text
 unfoldable pub shown_digest : List ℕ → List ℕ → List ℕ
-shown_digest signature text = sha256 (joined BITS (shown_pair signature (sha256 text)))
+shown_digest signature text = sha256 (end_to_end BITS (shown_pair signature (sha256 text)))
 
 -- the root, from the path of a signature
 unfoldable pub shown_root : List ℕ → List ℕ → List ℕ

@@ -4,7 +4,7 @@ ghost use Rattle.std.specs.Prelude.{◌≡◌, IfOk, IfErr, is_ok, is_some};
 ghost use Rattle.terms.specs.Parties.{party_number};
 ghost use Rattle.wire.specs.Headers.{header_data};
 ghost use Rattle.signing.specs.Heard.{heard};
-ghost use Rattle.signing.specs.Hearing.{Refuses, signature_holds};
+ghost use Rattle.signing.specs.Hearing.{RefusesBytes, signature_holds};
 ghost use Rattle.signing.specs.Giving.{IsHeard, HearsEach};
 
 use crate::hear_fault::HearFault;
@@ -34,7 +34,7 @@ pub fn hear<'b>(
     ensures heard { IfOk result (IsHeard ring.old me bytes.now) }
     ensures carried { IfOk result (λ h. h.bytes.now ≡ bytes.now) }
     ensures all { HearsEach ring.old me bytes.now result }
-    ensures refused { IfErr result (Refuses ring.old (party_number me) bytes.now) }
+    ensures refused { IfErr result (RefusesBytes ring.old (party_number me) bytes.now) }
     ensures ring { ring.new ≡ ring.old }
 {
     authenticate(ring, publics, bytes, me)?;
@@ -61,7 +61,7 @@ fn authenticate(
 ) -> Result<(), HearFault>
     requires { publics.now ≡ ring.old.seed }
     ensures heard { is_ok result ≡ is_some (heard ring.old (party_number me) bytes.now) }
-    ensures refused { IfErr result (Refuses ring.old (party_number me) bytes.now) }
+    ensures refused { IfErr result (RefusesBytes ring.old (party_number me) bytes.now) }
     ensures ring { ring.new ≡ ring.old }
 {
     let header = judge(bytes)?;

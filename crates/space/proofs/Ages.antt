@@ -6,23 +6,23 @@ use Rattle.std.proofs.lemmas.Bool.{cases_eq, cases_lt, ne_eqb, ltb-true, ltb-fal
 use Rattle.std.proofs.lemmas.List.Elements.{All-head, All-tail}
 use Rattle.std.proofs.lemmas.List.{drop-drop, drop_at, length-drop, length-take, length-take-le, take-take}
 use borrow.Rule.Slice.PartMut.{mid_of, put_mid}
-use Rattle.space.specs.Ages.{without}
+use Rattle.space.specs.Ages.{births_without}
 
 -- the birth at a place is taken
-pub without-at : (xs : List ℕ) (i b : ℕ) → AllPairs (λ a b. a < b) xs → i < length xs → get_or xs i 0 ≡ b → without b xs ≡ remove xs i
+pub without-at : (xs : List ℕ) (i b : ℕ) → AllPairs (λ a b. a < b) xs → i < length xs → get_or xs i 0 ≡ b → births_without b xs ≡ remove xs i
 without-at [] i b h l e = absurd (omega arith)
-without-at (x ∷ xs) zero b h l e = ap (λ t. cond t xs (x ∷ without b xs)) (eq-eqb x b e)
+without-at (x ∷ xs) zero b h l e = ap (λ t. cond t xs (x ∷ births_without b xs)) (eq-eqb x b e)
 without-at (x ∷ xs) (suc i) b h l e =
     let less : x < get_or xs i 0 = h 0 (suc i) 0 (omega arith) (omega arith) in
     let here : get_or xs i 0 ≡ b = e in
     let t : (x == b) ≡ false = ne_eqb x b (λ same. omega arith) in
-    ap (λ t. cond t xs (x ∷ without b xs)) t
+    ap (λ t. cond t xs (x ∷ births_without b xs)) t
     ∙ ap (λ ys. x ∷ ys) (without-at xs i b (λ j k d m n. h (suc j) (suc k) d (omega arith) (omega arith)) (omega arith) here)
 
-pub without-none : (xs : List ℕ) (b : ℕ) → All (λ x. x ≢ b) xs → without b xs ≡ xs
+pub without-none : (xs : List ℕ) (b : ℕ) → All (λ x. x ≢ b) xs → births_without b xs ≡ xs
 without-none [] b h = refl
 without-none (x ∷ xs) b h =
-    ap (λ t. cond t xs (x ∷ without b xs)) (ne_eqb x b (All-head (λ y. y ≢ b) x xs h))
+    ap (λ t. cond t xs (x ∷ births_without b xs)) (ne_eqb x b (All-head (λ y. y ≢ b) x xs h))
     ∙ ap (λ ys. x ∷ ys) (without-none xs b (All-tail (λ y. y ≢ b) x xs h))
 
 -- a birth that isn't at its place is nowhere

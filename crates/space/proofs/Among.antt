@@ -11,10 +11,10 @@ use Rattle.std.proofs.lemmas.List.Elements.{filter-append}
 use Rattle.tuple_tree.specs.Items.{how_many}
 use Rattle.tuple_tree.specs.Values.{TupleTree, TemplateTree, IsTuple, IsTemplate}
 use Rattle.template_match.specs.Tests.{is_match}
-use Rattle.space.specs.Births.{Entry}
+use Rattle.space.specs.Births.{BornTuple}
 use Rattle.space.specs.Candidates.{is_candidate}
 use Rattle.space.specs.Filing.{births_by, first_key}
-use Rattle.space.specs.Found.{found_at, entries_at}
+use Rattle.space.specs.Found.{entry_of_birth, entries_at}
 use Rattle.space.specs.Keys.{template_key}
 use Rattle.space.specs.Pages.{entry_text, entries_text}
 use Rattle.space.specs.declared.version.Version.{Version}
@@ -24,20 +24,20 @@ use Rattle.space.proofs.Texts.{entries_text_push}
 
 -- ---- the births of a first value are the candidates
 
-pub first_candidates : (p : TemplateTree) (key : List ℕ) (es : List Entry) → template_key p ≡ Some key → IsTemplate p → All (λ e. IsTuple e.1) es
+pub first_candidates : (p : TemplateTree) (key : List ℕ) (es : List BornTuple) → template_key p ≡ Some key → IsTemplate p → All (λ e. IsTuple e.1) es
     → births_by (λ e. bytes_eq (first_key e) key) es ≡ births_by (λ e. is_candidate p e.1) es
 first_candidates p key es e h valid =
-    ap (map (λ (x : Entry). x.0)) (filter-same (λ (x : Entry). bytes_eq (first_key x) key) (λ x. is_candidate p x.1) es (λ k d l. closed_key p (get_or es k d).1 key e h (valid k d l)))
+    ap (map (λ (x : BornTuple). x.0)) (filter-same (λ (x : BornTuple). bytes_eq (first_key x) key) (λ x. is_candidate p x.1) es (λ k d l. closed_key p (get_or es k d).1 key e h (valid k d l)))
 
 -- where the first value is open, those of the length are
-pub open_candidates : (p : TemplateTree) (es : List Entry) → template_key p ≡ None → births_by (λ e. how_many e.1 == how_many p) es ≡ births_by (λ e. is_candidate p e.1) es
+pub open_candidates : (p : TemplateTree) (es : List BornTuple) → template_key p ≡ None → births_by (λ e. how_many e.1 == how_many p) es ≡ births_by (λ e. is_candidate p e.1) es
 open_candidates p es e =
-    ap (map (λ (x : Entry). x.0)) (filter-same (λ (x : Entry). how_many x.1 == how_many p) (λ x. is_candidate p x.1) es (λ k d l. open_key p (get_or es k d).1 e))
+    ap (map (λ (x : BornTuple). x.0)) (filter-same (λ (x : BornTuple). how_many x.1 == how_many p) (λ x. is_candidate p x.1) es (λ k d l. open_key p (get_or es k d).1 e))
 
 -- ---- an entry or none
 
-module _ (m : Entry → Bool) where
-  find_behind : (xs ys : List Entry) → find m xs ≡ None → find m (xs ++ ys) ≡ find m ys
+module _ (m : BornTuple → Bool) where
+  find_behind : (xs ys : List BornTuple) → find m xs ≡ None → find m (xs ++ ys) ≡ find m ys
   find_behind [] ys h = refl
   find_behind (x ∷ xs) ys h = go (m x) h (find_behind xs ys)
     where
@@ -45,21 +45,21 @@ module _ (m : Entry → Bool) where
       go true k rest = absurd (let g : ⊥ = cc in g)
       go false k rest = rest k
 
-pub matching_one : (p : TemplateTree) (es : List Entry) (b : ℕ) → filter (is_match p) (map (λ e. e.1) (found_at es b)) ≡ option_to_list (option_map (λ e. e.1) (find (λ e. is_match p e.1) (found_at es b)))
+pub matching_one : (p : TemplateTree) (es : List BornTuple) (b : ℕ) → filter (is_match p) (map (λ e. e.1) (entry_of_birth es b)) ≡ option_to_list (option_map (λ e. e.1) (find (λ e. is_match p e.1) (entry_of_birth es b)))
 matching_one p es b = go (lookup (is_at (nat_cmp b)) es)
   where
-    one : (t : TupleTree) (a : Bool) → cond a (t ∷ []) [] ≡ option_to_list (option_map (λ (e : Entry). e.1) (cond a (Some (b, t)) None))
+    one : (t : TupleTree) (a : Bool) → cond a (t ∷ []) [] ≡ option_to_list (option_map (λ (e : BornTuple). e.1) (cond a (Some (b, t)) None))
     one t true = refl
     one t false = refl
 
-    go : (o : Option TupleTree) → filter (is_match p) (map (λ (e : Entry). e.1) (map (λ (t : TupleTree). (b, t)) (option_to_list o))) ≡ option_to_list (option_map (λ (e : Entry). e.1) (find (λ (e : Entry). is_match p e.1) (map (λ (t : TupleTree). (b, t)) (option_to_list o))))
+    go : (o : Option TupleTree) → filter (is_match p) (map (λ (e : BornTuple). e.1) (map (λ (t : TupleTree). (b, t)) (option_to_list o))) ≡ option_to_list (option_map (λ (e : BornTuple). e.1) (find (λ (e : BornTuple). is_match p e.1) (map (λ (t : TupleTree). (b, t)) (option_to_list o))))
     go None = refl
     go (Some t) = one t (is_match p t)
 
-pub one_found : (m : Entry → Bool) (es : List Entry) (b : ℕ) → filter m (found_at es b) ≡ option_to_list (find m (found_at es b))
+pub one_found : (m : BornTuple → Bool) (es : List BornTuple) (b : ℕ) → filter m (entry_of_birth es b) ≡ option_to_list (find m (entry_of_birth es b))
 one_found m es b = go (lookup (is_at (nat_cmp b)) es)
   where
-    one : (e : Entry) (a : Bool) → cond a (e ∷ []) [] ≡ option_to_list (cond a (Some e) None)
+    one : (e : BornTuple) (a : Bool) → cond a (e ∷ []) [] ≡ option_to_list (cond a (Some e) None)
     one e true = refl
     one e false = refl
 
@@ -69,25 +69,25 @@ one_found m es b = go (lookup (is_at (nat_cmp b)) es)
 
 -- ---- one birth more
 
-module _ (es : List Entry) (births : List ℕ) (i b : ℕ) (within : i < length births) (is : b ≡ get_or births i b) where
-  next_entries : entries_at es (drop i births) ≡ found_at es b ++ entries_at es (drop (i + 1) births)
+module _ (es : List BornTuple) (births : List ℕ) (i b : ℕ) (within : i < length births) (is : b ≡ get_or births i b) where
+  next_entries : entries_at es (drop i births) ≡ entry_of_birth es b ++ entries_at es (drop (i + 1) births)
   next_entries =
-      at_drop_more (entries_at es) births i b within ∙ flat_map-cons (found_at es) (get_or births i b) (drop (i + 1) births)
-      ∙ ap (λ x. found_at es x ++ entries_at es (drop (i + 1) births)) (sym is)
+      at_drop_more (entries_at es) births i b within ∙ flat_map-cons (entry_of_birth es) (get_or births i b) (drop (i + 1) births)
+      ∙ ap (λ x. entry_of_birth es x ++ entries_at es (drop (i + 1) births)) (sym is)
 
-  pub find_next : (m : Entry → Bool) → None ≡ find m (found_at es b) → find m (entries_at es (drop i births)) ≡ find m (entries_at es (drop (i + 1) births))
-  find_next m h = ap (find m) next_entries ∙ find_behind m (found_at es b) (entries_at es (drop (i + 1) births)) (sym h)
+  pub find_next : (m : BornTuple → Bool) → None ≡ find m (entry_of_birth es b) → find m (entries_at es (drop i births)) ≡ find m (entries_at es (drop (i + 1) births))
+  find_next m h = ap (find m) next_entries ∙ find_behind m (entry_of_birth es b) (entries_at es (drop (i + 1) births)) (sym h)
 
-  matches_next : (p : TemplateTree) (o : Option Entry) → o ≡ find (λ e. is_match p e.1) (found_at es b)
+  matches_next : (p : TemplateTree) (o : Option BornTuple) → o ≡ find (λ e. is_match p e.1) (entry_of_birth es b)
       → filter (is_match p) (map (λ e. e.1) (entries_at es (drop i births))) ≡ option_to_list (option_map (λ e. e.1) o) ++ filter (is_match p) (map (λ e. e.1) (entries_at es (drop (i + 1) births)))
   matches_next p o h =
-      let rest : List Entry = entries_at es (drop (i + 1) births) in
-      ap (λ (xs : List Entry). filter (is_match p) (map (λ e. e.1) xs)) next_entries
-      ∙ ap (filter (is_match p)) (map-append (λ (e : Entry). e.1) (found_at es b) rest)
-      ∙ filter-append (is_match p) (map (λ (e : Entry). e.1) (found_at es b)) (map (λ (e : Entry). e.1) rest)
-      ∙ ap (λ ts. ts ++ filter (is_match p) (map (λ (e : Entry). e.1) rest)) (matching_one p es b ∙ ap (λ (x : Option Entry). option_to_list (option_map (λ e. e.1) x)) (sym h))
+      let rest : List BornTuple = entries_at es (drop (i + 1) births) in
+      ap (λ (xs : List BornTuple). filter (is_match p) (map (λ e. e.1) xs)) next_entries
+      ∙ ap (filter (is_match p)) (map-append (λ (e : BornTuple). e.1) (entry_of_birth es b) rest)
+      ∙ filter-append (is_match p) (map (λ (e : BornTuple). e.1) (entry_of_birth es b)) (map (λ (e : BornTuple). e.1) rest)
+      ∙ ap (λ ts. ts ++ filter (is_match p) (map (λ (e : BornTuple). e.1) rest)) (matching_one p es b ∙ ap (λ (x : Option BornTuple). option_to_list (option_map (λ e. e.1) x)) (sym h))
 
-  pub copied_here : (p : TemplateTree) (t : TupleTree) (n : ℕ) (ys : List TupleTree) → Some (b, t) ≡ find (λ e. is_match p e.1) (found_at es b) → length ys < n
+  pub copied_here : (p : TemplateTree) (t : TupleTree) (n : ℕ) (ys : List TupleTree) → Some (b, t) ≡ find (λ e. is_match p e.1) (entry_of_birth es b) → length ys < n
       → ys ++ take (n - length ys) (filter (is_match p) (map (λ e. e.1) (entries_at es (drop i births)))) ≡ (ys ++ t ∷ []) ++ take (n - length (ys ++ t ∷ [])) (filter (is_match p) (map (λ e. e.1) (entries_at es (drop (i + 1) births))))
   copied_here p t n ys h l =
       let rest : List TupleTree = filter (is_match p) (map (λ e. e.1) (entries_at es (drop (i + 1) births))) in
@@ -95,33 +95,33 @@ module _ (es : List Entry) (births : List ℕ) (i b : ℕ) (within : i < length 
       let k : n - length ys ≡ suc left = omega (arith, length_push ys t) in
       ap (λ zs. ys ++ take (n - length ys) zs) (matches_next p (Some (b, t)) h) ∙ ap (λ j. ys ++ take j (t ∷ rest)) k ∙ sym (append_assoc ys (t ∷ []) (take left rest))
 
-  pub copied_next : (p : TemplateTree) → None ≡ find (λ e. is_match p e.1) (found_at es b)
+  pub copied_next : (p : TemplateTree) → None ≡ find (λ e. is_match p e.1) (entry_of_birth es b)
       → filter (is_match p) (map (λ e. e.1) (entries_at es (drop i births))) ≡ filter (is_match p) (map (λ e. e.1) (entries_at es (drop (i + 1) births)))
   copied_next p h = matches_next p None h
 
-  entries_next : (m : Entry → Bool) (o : Option Entry) → o ≡ find m (found_at es b)
+  entries_next : (m : BornTuple → Bool) (o : Option BornTuple) → o ≡ find m (entry_of_birth es b)
       → filter m (entries_at es (drop i births)) ≡ option_to_list o ++ filter m (entries_at es (drop (i + 1) births))
   entries_next m o h =
-      let rest : List Entry = entries_at es (drop (i + 1) births) in
-      ap (filter m) next_entries ∙ filter-append m (found_at es b) rest
-      ∙ ap (λ (xs : List Entry). xs ++ filter m rest) (one_found m es b ∙ ap (λ (x : Option Entry). option_to_list x) (sym h))
+      let rest : List BornTuple = entries_at es (drop (i + 1) births) in
+      ap (filter m) next_entries ∙ filter-append m (entry_of_birth es b) rest
+      ∙ ap (λ (xs : List BornTuple). xs ++ filter m rest) (one_found m es b ∙ ap (λ (x : Option BornTuple). option_to_list x) (sym h))
 
-  pub births_here : (m : Entry → Bool) (e : Entry) (n : ℕ) (ys : List ℕ) → Some e ≡ find m (found_at es b) → length ys < n
+  pub births_here : (m : BornTuple → Bool) (e : BornTuple) (n : ℕ) (ys : List ℕ) → Some e ≡ find m (entry_of_birth es b) → length ys < n
       → ys ++ take (n - length ys) (map (λ e. e.0) (filter m (entries_at es (drop i births)))) ≡ (ys ++ e.0 ∷ []) ++ take (n - length (ys ++ e.0 ∷ [])) (map (λ e. e.0) (filter m (entries_at es (drop (i + 1) births))))
   births_here m e n ys h l =
-      let rest : List ℕ = map (λ (x : Entry). x.0) (filter m (entries_at es (drop (i + 1) births))) in
+      let rest : List ℕ = map (λ (x : BornTuple). x.0) (filter m (entries_at es (drop (i + 1) births))) in
       let left : ℕ = n - length (ys ++ e.0 ∷ []) in
       let k : n - length ys ≡ suc left = omega (arith, length_push ys e.0) in
-      ap (λ (xs : List Entry). ys ++ take (n - length ys) (map (λ e. e.0) xs)) (entries_next m (Some e) h) ∙ ap (λ j. ys ++ take j (e.0 ∷ rest)) k ∙ sym (append_assoc ys (e.0 ∷ []) (take left rest))
+      ap (λ (xs : List BornTuple). ys ++ take (n - length ys) (map (λ e. e.0) xs)) (entries_next m (Some e) h) ∙ ap (λ j. ys ++ take j (e.0 ∷ rest)) k ∙ sym (append_assoc ys (e.0 ∷ []) (take left rest))
 
-  pub births_next : (m : Entry → Bool) → None ≡ find m (found_at es b)
+  pub births_next : (m : BornTuple → Bool) → None ≡ find m (entry_of_birth es b)
       → map (λ e. e.0) (filter m (entries_at es (drop i births))) ≡ map (λ e. e.0) (filter m (entries_at es (drop (i + 1) births)))
-  births_next m h = ap (map (λ (x : Entry). x.0)) (entries_next m None h)
+  births_next m h = ap (map (λ (x : BornTuple). x.0)) (entries_next m None h)
 
-  text_next : entries_at es (take (i + 1) births) ≡ entries_at es (take i births) ++ found_at es b
+  text_next : entries_at es (take (i + 1) births) ≡ entries_at es (take i births) ++ entry_of_birth es b
   text_next =
-      ap (entries_at es) (take_more births i b within) ∙ flat_map-append (found_at es) (take i births) (get_or births i b ∷ [])
-      ∙ ap (λ (xs : List Entry). entries_at es (take i births) ++ xs) (flat_map-cons (found_at es) (get_or births i b) [] ∙ append-nil (found_at es (get_or births i b)) ∙ ap (found_at es) (sym is))
+      ap (entries_at es) (take_more births i b within) ∙ flat_map-append (entry_of_birth es) (take i births) (get_or births i b ∷ [])
+      ∙ ap (λ (xs : List BornTuple). entries_at es (take i births) ++ xs) (flat_map-cons (entry_of_birth es) (get_or births i b) [] ∙ append-nil (entry_of_birth es (get_or births i b)) ∙ ap (entry_of_birth es) (sym is))
 
   pub text_here : (v : Version) (t : TupleTree) → Some t ≡ lookup (is_at (nat_cmp b)) es → entries_text v (entries_at es (take i births)) ++ entry_text v (b, t) ≡ entries_text v (entries_at es (take (i + 1) births))
   text_here v t h =
@@ -138,7 +138,7 @@ copied_some n xs ys zs t e none =
     omega (arith, ap length e, ap length none, length-append (ys ++ t ∷ []) zs, length_push ys t, length-take n xs)
 
 -- one birth alone
-pub entries_alone : (es : List Entry) (births : List ℕ) → length births ≡ 1 → entries_at es births ≡ found_at es (get_or births 0 0)
+pub entries_alone : (es : List BornTuple) (births : List ℕ) → length births ≡ 1 → entries_at es births ≡ entry_of_birth es (get_or births 0 0)
 entries_alone es [] l = absurd (omega arith)
-entries_alone es (b ∷ []) l = flat_map-cons (found_at es) b [] ∙ append-nil (found_at es b)
+entries_alone es (b ∷ []) l = flat_map-cons (entry_of_birth es) b [] ∙ append-nil (entry_of_birth es b)
 entries_alone es (b ∷ c ∷ births) l = absurd (omega arith)

@@ -9,21 +9,21 @@ use Rattle.std.proofs.lemmas.List.FromFn.{length-range_with_len, get_or-range_wi
 use Rattle.tuple_tree.specs.Values.{TupleTree, TemplateTree}
 use Rattle.template_match.specs.Tests.{is_match}
 use Rattle.space.specs.Applying.{has_room, first_match}
-use Rattle.space.specs.Births.{Entry, SpaceState, tuples_of, birth_of, with_birth, with_tuple, without_match, served_state}
+use Rattle.space.specs.Births.{BornTuple, SpaceState, tuples_of, birth_of, with_birth, with_tuple, without_match, served_state}
 use Rattle.space.specs.Pages.{on_page}
 use Rattle.space.specs.Marking.{with_pages}
 use Rattle.space.proofs.Texts.{on_page-append}
 use Rattle.space.proofs.Trees.{first_taken}
 use Rattle.tuple_codec.specs.Operations.{cas}
 
-elsewhere : (page : ℕ) (e : Entry) → e.0 % 256 ≢ page → on_page page (e ∷ []) ≡ []
+elsewhere : (page : ℕ) (e : BornTuple) → e.0 % 256 ≢ page → on_page page (e ∷ []) ≡ []
 unfolding on_page
 elsewhere page e other = ap (λ (b : Bool). cond b (e ∷ []) []) (ne_eqb (e.0 % 256) page other)
 
 module _ (s : SpaceState) (page : ℕ) (other : birth_of s % 256 ≢ page) where
   added : (t : TupleTree) → on_page page (with_birth s t).entries ≡ on_page page s.entries
   added t =
-      on_page-append page s.entries ((birth_of s, t) ∷ []) ∙ ap (λ (xs : List Entry). on_page page s.entries ++ xs) (elsewhere page (birth_of s, t) other)
+      on_page-append page s.entries ((birth_of s, t) ∷ []) ∙ ap (λ (xs : List BornTuple). on_page page s.entries ++ xs) (elsewhere page (birth_of s, t) other)
       ∙ append-nil (on_page page s.entries)
 
   pub page_with_tuple : (t : TupleTree) → on_page page (with_tuple s t).entries ≡ on_page page s.entries
@@ -40,17 +40,17 @@ module _ (s : SpaceState) (page : ℕ) (other : birth_of s % 256 ≢ page) where
       go true = refl
       go false = page_with_tuple t
 
-on_page-remove : (page : ℕ) (es : List Entry) (i : ℕ) (d : Entry) → i < length es → (get_or es i d).0 % 256 ≢ page → on_page page (remove es i) ≡ on_page page es
+on_page-remove : (page : ℕ) (es : List BornTuple) (i : ℕ) (d : BornTuple) → i < length es → (get_or es i d).0 % 256 ≢ page → on_page page (remove es i) ≡ on_page page es
 unfolding on_page
 on_page-remove page [] i d l other = absurd (omega arith)
 on_page-remove page (x ∷ xs) zero d l other = sym (ap (λ (b : Bool). cond b (x ∷ on_page page xs) (on_page page xs)) (ne_eqb (x.0 % 256) page other))
-on_page-remove page (x ∷ xs) (suc i) d l other = ap (λ (ys : List Entry). cond (x.0 % 256 == page) (x ∷ ys) ys) (on_page-remove page xs i d (omega arith) other)
+on_page-remove page (x ∷ xs) (suc i) d l other = ap (λ (ys : List BornTuple). cond (x.0 % 256 == page) (x ∷ ys) ys) (on_page-remove page xs i d (omega arith) other)
 
-pub page_taken : (s : SpaceState) (p : TemplateTree) (e : Entry) (page : ℕ) → Some e ≡ find (λ e. is_match p e.1) s.entries → e.0 % 256 ≢ page → on_page page (without_match s p).entries ≡ on_page page s.entries
+pub page_taken : (s : SpaceState) (p : TemplateTree) (e : BornTuple) (page : ℕ) → Some e ≡ find (λ e. is_match p e.1) s.entries → e.0 % 256 ≢ page → on_page page (without_match s p).entries ≡ on_page page s.entries
 page_taken s p e page h other =
-    let k = first_taken (λ (x : Entry). is_match p x.1) s.entries e (sym h) in
+    let k = first_taken (λ (x : BornTuple). is_match p x.1) s.entries e (sym h) in
     ap (on_page page) k.1.left
-    ∙ on_page-remove page s.entries k.0 e k.1.within (λ q. other (ap (λ (x : Entry). x.0 % 256) k.1.here ∙ q))
+    ∙ on_page-remove page s.entries k.0 e k.1.within (λ q. other (ap (λ (x : BornTuple). x.0 % 256) k.1.here ∙ q))
 
 -- ---- sets of pages
 

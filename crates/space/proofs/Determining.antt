@@ -9,11 +9,11 @@ use Rattle.tuple_tree.specs.Values.{TupleTree, IsTuple}
 use Rattle.tuple_tree.specs.Spelling.{tuple_spelling}
 use Rattle.tuple_tree.specs.Reading.{tuple_at}
 use Rattle.tuple_codec.proofs.Grammar.{one, tuple_reads}
-use Rattle.space.specs.Births.{Entry, SpaceState, IsState}
+use Rattle.space.specs.Births.{BornTuple, SpaceState, IsState}
 use Rattle.space.specs.Reading.{IsEntry}
 use Rattle.space.specs.declared.version.Version.{Version}
 use Rattle.space.specs.declared.version.Version.TheVariants as versions
-use Rattle.space.specs.Pages.{stored_text, entry_text, entries_text, on_page, page_text, version_byte, header_text, IsStateAt}
+use Rattle.space.specs.Pages.{stored_text, entry_text, entries_text, on_page, tuple_page_text, version_byte, header_text, IsStateAt}
 
 -- ---- numbers and texts
 
@@ -45,7 +45,7 @@ pub stored_split : (w : Version) (t r : TupleTree) (u v : List ℕ) → IsTuple 
 stored_split versions.One t r u v d g e = tuple_split t r u v d g e
 stored_split versions.Two t r u v d g e = tuple_split t r u v d g (sym (behind_length t u) ∙ ap (drop 2) e ∙ behind_length r v)
 
-pub entry_split : (w : Version) (e f : Entry) (u v : List ℕ) → IsEntry e → IsEntry f → entry_text w e ++ u ≡ entry_text w f ++ v → (e ≡ f) × (u ≡ v)
+pub entry_split : (w : Version) (e f : BornTuple) (u v : List ℕ) → IsEntry e → IsEntry f → entry_text w e ++ u ≡ entry_text w f ++ v → (e ≡ f) × (u ≡ v)
 entry_split w e f u v d g t =
     let a : to_be_bytes w64 e.0 ++ (stored_text w e.1 ++ u) ≡ to_be_bytes w64 f.0 ++ (stored_text w f.1 ++ v) =
     sym (append_assoc (to_be_bytes w64 e.0) (stored_text w e.1) u) ∙ t ∙ append_assoc (to_be_bytes w64 f.0) (stored_text w f.1) v in
@@ -53,10 +53,10 @@ entry_split w e f u v d g t =
     let p = stored_split w e.1 f.1 u v d.tuple g.tuple s.1 in
     (rw (s.0, p.0) refl, p.1)
 
-pub entries_none : (w : Version) (e : Entry) (u : List ℕ) → entry_text w e ++ u ≡ [] → ⊥
+pub entries_none : (w : Version) (e : BornTuple) (u : List ℕ) → entry_text w e ++ u ≡ [] → ⊥
 entries_none w e u t = omega (arith, ap length t, length-append (entry_text w e) u, length-append (to_be_bytes w64 e.0) (stored_text w e.1))
 
-pub entries_same : (w : Version) (es fs : List Entry) → All IsEntry es → All IsEntry fs → entries_text w es ≡ entries_text w fs → es ≡ fs
+pub entries_same : (w : Version) (es fs : List BornTuple) → All IsEntry es → All IsEntry fs → entries_text w es ≡ entries_text w fs → es ≡ fs
 entries_same w [] [] d g t = refl
 entries_same w [] (f ∷ fs) d g t = absurd (entries_none w f (entries_text w fs) (sym t))
 entries_same w (e ∷ es) [] d g t = absurd (entries_none w e (entries_text w es) t)
@@ -66,34 +66,34 @@ entries_same w (e ∷ es) (f ∷ fs) d g t =
 
 -- ---- pages of births that rise
 
-abbrev on : ℕ → List Entry → List Entry
+abbrev on : ℕ → List BornTuple → List BornTuple
 on page es = filter (λ e. e.0 % 256 == page) es
 
 -- the births rise, from this number on
-abbrev pub Rises : ℕ → List Entry → Type 0
+abbrev pub Rises : ℕ → List BornTuple → Type 0
 Rises from [] = Unit {0}
 Rises from (e ∷ es) = (from ≤ e.0) × Rises (suc e.0) es
 
-pub Rises-from_pairs : (from : ℕ) (es : List Entry) → AllPairs (λ e f. e.0 < f.0) es → All (λ e. from ≤ e.0) es → Rises from es
+pub Rises-from_pairs : (from : ℕ) (es : List BornTuple) → AllPairs (λ e f. e.0 < f.0) es → All (λ e. from ≤ e.0) es → Rises from es
 Rises-from_pairs from [] h a = tt
 Rises-from_pairs from (e ∷ es) h a =
     (All-head (λ x. from ≤ x.0) e es a, Rises-from_pairs (suc e.0) es (λ i j d l m. h (suc i) (suc j) d (omega arith) (omega arith)) (λ k d l. let p = h 0 (suc k) d (omega arith) (omega arith) in omega arith))
 
-pub all_from : (from : ℕ) (es : List Entry) → Rises from es → All (λ e. from ≤ e.0) es
+pub all_from : (from : ℕ) (es : List BornTuple) → Rises from es → All (λ e. from ≤ e.0) es
 all_from from [] h = λ k d l. absurd (omega arith)
 all_from from (e ∷ es) h =
     All-cons (λ x. from ≤ x.0) e es h.0 (All-weaker (λ x. suc e.0 ≤ x.0) (λ x. from ≤ x.0) (λ x l. let a = h.0 in omega arith) es (all_from (suc e.0) es h.1))
 
-on_here : (e : Entry) (es : List Entry) → on (e.0 % 256) (e ∷ es) ≡ e ∷ on (e.0 % 256) es
+on_here : (e : BornTuple) (es : List BornTuple) → on (e.0 % 256) (e ∷ es) ≡ e ∷ on (e.0 % 256) es
 on_here e es = ap (λ b. cond b (e ∷ on (e.0 % 256) es) (on (e.0 % 256) es)) (eq-eqb (e.0 % 256) (e.0 % 256) refl)
 
-not_lower : (e f : Entry) (es fs : List Entry) → All (λ x. f.0 ≤ x.0) (f ∷ fs) → on (e.0 % 256) (e ∷ es) ≡ on (e.0 % 256) (f ∷ fs) → f.0 ≤ e.0
+not_lower : (e f : BornTuple) (es fs : List BornTuple) → All (λ x. f.0 ≤ x.0) (f ∷ fs) → on (e.0 % 256) (e ∷ es) ≡ on (e.0 % 256) (f ∷ fs) → f.0 ≤ e.0
 not_lower e f es fs low t =
     let all = All-filter (λ x. x.0 % 256 == e.0 % 256) (λ x. f.0 ≤ x.0) (f ∷ fs) low in
     let same : on (e.0 % 256) (f ∷ fs) ≡ e ∷ on (e.0 % 256) es = sym t ∙ on_here e es in
-    All-head (λ x. f.0 ≤ x.0) e (on (e.0 % 256) es) (subst (λ (xs : List Entry). All (λ x. f.0 ≤ x.0) xs) same all)
+    All-head (λ x. f.0 ≤ x.0) e (on (e.0 % 256) es) (subst (λ (xs : List BornTuple). All (λ x. f.0 ≤ x.0) xs) same all)
 
-pub merged : (from : ℕ) (es fs : List Entry) → Rises from es → Rises from fs → ((page : ℕ) → page < 256 → on page es ≡ on page fs) → es ≡ fs
+pub merged : (from : ℕ) (es fs : List BornTuple) → Rises from es → Rises from fs → ((page : ℕ) → page < 256 → on page es ≡ on page fs) → es ≡ fs
 merged from [] [] a b h = refl
 merged from [] (f ∷ fs) a b h = let l : f.0 % 256 < 256 = omega arith in let e : [] ≡ f ∷ on (f.0 % 256) fs = h (f.0 % 256) l ∙ on_here f fs in absurd (let g : ⊥ = cc in g)
 merged from (e ∷ es) [] a b h = let l : e.0 % 256 < 256 = omega arith in let t : e ∷ on (e.0 % 256) es ≡ [] = sym (on_here e es) ∙ h (e.0 % 256) l in absurd (let g : ⊥ = cc in g)
@@ -115,7 +115,7 @@ merged from (e ∷ es) (f ∷ fs) a b h =
     rest page true false t h = absurd (let g : ⊥ = cc in g)
     rest page false true t h = absurd (let g : ⊥ = cc in g)
 
-pub entries_from_pages : (es fs : List Entry) → AllPairs (λ e f. e.0 < f.0) es → AllPairs (λ e f. e.0 < f.0) fs
+pub entries_from_pages : (es fs : List BornTuple) → AllPairs (λ e f. e.0 < f.0) es → AllPairs (λ e f. e.0 < f.0) fs
     → ((page : ℕ) → page < 256 → on_page page es ≡ on_page page fs) → es ≡ fs
 unfolding on_page
 entries_from_pages es fs d g h =
@@ -141,7 +141,7 @@ one_version versions.Two versions.One e = absurd (omega (arith, e))
 one_version versions.Two versions.Two e = refl
 
 pub pages_determine : (s t : SpaceState) (m n : ℕ) → IsStateAt s m → IsStateAt t n → header_text s m ≡ header_text t n
-    → ((page : ℕ) → page < 256 → page_text s page ≡ page_text t page) → (m ≡ n) × (s ≡ t)
+    → ((page : ℕ) → page < 256 → tuple_page_text s page ≡ tuple_page_text t page) → (m ≡ n) × (s ≡ t)
 pages_determine s t m n h k e pages =
     let u : to_be_bytes w64 m ++ to_be_bytes w64 s.next ≡ to_be_bytes w64 n ++ to_be_bytes w64 t.next = ap (drop 1) e in
     let hm = h.few in
@@ -154,6 +154,6 @@ pages_determine s t m n h k e pages =
     (pages page l ∙ ap (λ w. entries_text w (on_page page t.entries)) (sym version))) in
     (header.0, build s.version t.version s.entries t.entries s.next t.next version entries next)
   where
-    build : (v w : Version) (es fs : List Entry) (a b : ℕ) → v ≡ w → es ≡ fs → a ≡ b
+    build : (v w : Version) (es fs : List BornTuple) (a b : ℕ) → v ≡ w → es ≡ fs → a ≡ b
         → ◌≡◌ {A = SpaceState} (record { version = v; entries = es; next = a }) (record { version = w; entries = fs; next = b })
     build v w es fs a b o p q = rw (o, p, q) refl

@@ -13,74 +13,74 @@ use Rattle.std.proofs.lemmas.List.Elements.{All-head, All-tail, All-cons, All-ni
 use Rattle.std.proofs.lemmas.List.Kept.{AllPairs-filter}
 use Rattle.tuple_tree.specs.Items.{none}
 use Rattle.tuple_tree.specs.Values.{TupleTree}
-use Rattle.space.specs.Ages.{without}
-use Rattle.space.specs.Births.{Entry}
-use Rattle.space.specs.Filing.{births_at, births_in, births_by, IsFiled, IsNumbered}
-use Rattle.space.specs.Found.{found_at, entries_at}
+use Rattle.space.specs.Ages.{births_without}
+use Rattle.space.specs.Births.{BornTuple}
+use Rattle.space.specs.Filing.{births_at, births_in, births_by, IsFiled, IsFiledByNumber}
+use Rattle.space.specs.Found.{entry_of_birth, entries_at}
 use Rattle.space.specs.declared.birth_table.BirthTable.{BirthTable}
 use Rattle.space.specs.declared.lists.Lists.{Lists}
 
 -- ---- the births of the entries that pass a test
 
-module _ (test : Entry → Bool) where
-  births_by-cons : (x : Entry) (xs : List Entry) → births_by test (x ∷ xs) ≡ cond (test x) (x.0 ∷ births_by test xs) (births_by test xs)
+module _ (test : BornTuple → Bool) where
+  births_by-cons : (x : BornTuple) (xs : List BornTuple) → births_by test (x ∷ xs) ≡ cond (test x) (x.0 ∷ births_by test xs) (births_by test xs)
   births_by-cons x xs = go (test x)
     where
-      go : (b : Bool) → map {A = Entry} (λ e. e.0) (cond b (x ∷ filter test xs) (filter test xs)) ≡ cond b (x.0 ∷ births_by test xs) (births_by test xs)
+      go : (b : Bool) → map {A = BornTuple} (λ e. e.0) (cond b (x ∷ filter test xs) (filter test xs)) ≡ cond b (x.0 ∷ births_by test xs) (births_by test xs)
       go true = refl
       go false = refl
 
-  pub births_by_push : (es : List Entry) (e : Entry) → births_by test (es ++ e ∷ []) ≡ births_by test es ++ cond (test e) (e.0 ∷ []) []
+  pub births_by_push : (es : List BornTuple) (e : BornTuple) → births_by test (es ++ e ∷ []) ≡ births_by test es ++ cond (test e) (e.0 ∷ []) []
   births_by_push es e =
-      ap (map (λ (x : Entry). x.0)) (filter-append test es (e ∷ []))
-      ∙ map-append (λ (x : Entry). x.0) (filter test es) (filter test (e ∷ []))
+      ap (map (λ (x : BornTuple). x.0)) (filter-append test es (e ∷ []))
+      ∙ map-append (λ (x : BornTuple). x.0) (filter test es) (filter test (e ∷ []))
       ∙ ap (λ xs. births_by test es ++ xs) (births_by-cons e [])
 
-  pub rising_births : (es : List Entry) → AllPairs (λ e f. e.0 < f.0) es → AllPairs (λ a b. a < b) (births_by test es)
+  pub rising_births : (es : List BornTuple) → AllPairs (λ e f. e.0 < f.0) es → AllPairs (λ a b. a < b) (births_by test es)
   rising_births es h i j d l m =
-      let fs : List Entry = filter test es in
-      let n : length (map {A = Entry} (λ e. e.0) fs) ≡ length fs = length-map fs (λ e. e.0) in
-      let a = get_or-map (λ (e : Entry). e.0) fs i (d, none) d (omega arith) in
-      let b = get_or-map (λ (e : Entry). e.0) fs j (d, none) d (omega arith) in
+      let fs : List BornTuple = filter test es in
+      let n : length (map {A = BornTuple} (λ e. e.0) fs) ≡ length fs = length-map fs (λ e. e.0) in
+      let a = get_or-map (λ (e : BornTuple). e.0) fs i (d, none) d (omega arith) in
+      let b = get_or-map (λ (e : BornTuple). e.0) fs j (d, none) d (omega arith) in
       let c = AllPairs-filter (λ e f. e.0 < f.0) test es h i j (d, none) l (omega arith) in
       omega arith
 
-  births_by-remove-first : (x : Entry) (xs : List Entry) → births_by test xs ≡ cond (test x) (without x.0 (births_by test (x ∷ xs))) (births_by test (x ∷ xs))
-  births_by-remove-first x xs = go (test x) ∙ ap (λ zs. cond (test x) (without x.0 zs) zs) (sym (births_by-cons x xs))
+  births_by-remove-first : (x : BornTuple) (xs : List BornTuple) → births_by test xs ≡ cond (test x) (births_without x.0 (births_by test (x ∷ xs))) (births_by test (x ∷ xs))
+  births_by-remove-first x xs = go (test x) ∙ ap (λ zs. cond (test x) (births_without x.0 zs) zs) (sym (births_by-cons x xs))
     where
-      go : (b : Bool) → births_by test xs ≡ cond b (without x.0 (cond b (x.0 ∷ births_by test xs) (births_by test xs))) (cond b (x.0 ∷ births_by test xs) (births_by test xs))
-      go true = sym (ap (λ t. cond t (births_by test xs) (x.0 ∷ without x.0 (births_by test xs))) (eq-eqb x.0 x.0 refl))
+      go : (b : Bool) → births_by test xs ≡ cond b (births_without x.0 (cond b (x.0 ∷ births_by test xs) (births_by test xs))) (cond b (x.0 ∷ births_by test xs) (births_by test xs))
+      go true = sym (ap (λ t. cond t (births_by test xs) (x.0 ∷ births_without x.0 (births_by test xs))) (eq-eqb x.0 x.0 refl))
       go false = refl
 
-  pub births_by-remove : (es : List Entry) (i : ℕ) (e : Entry) → AllPairs (λ e f. e.0 < f.0) es → i < length es → e ≡ get_or es i e
-      → births_by test (remove es i) ≡ cond (test e) (without e.0 (births_by test es)) (births_by test es)
+  pub births_by-remove : (es : List BornTuple) (i : ℕ) (e : BornTuple) → AllPairs (λ e f. e.0 < f.0) es → i < length es → e ≡ get_or es i e
+      → births_by test (remove es i) ≡ cond (test e) (births_without e.0 (births_by test es)) (births_by test es)
   births_by-remove [] i e h l is = absurd (omega arith)
   births_by-remove (x ∷ xs) zero e h l is =
-      subst (λ (y : Entry). births_by test xs ≡ cond (test y) (without y.0 (births_by test (x ∷ xs))) (births_by test (x ∷ xs))) (sym is) (births_by-remove-first x xs)
+      subst (λ (y : BornTuple). births_by test xs ≡ cond (test y) (births_without y.0 (births_by test (x ∷ xs))) (births_by test (x ∷ xs))) (sym is) (births_by-remove-first x xs)
   births_by-remove (x ∷ xs) (suc i) e h l is =
       births_by-cons x (remove xs i)
       ∙ go (test x) (test e) (births_by test xs) (births_by test (remove xs i))
       (births_by-remove xs i e (λ j k d m n. h (suc j) (suc k) d (omega arith) (omega arith)) (omega arith) is)
-      ∙ ap (λ zs. cond (test e) (without e.0 zs) zs) (sym (births_by-cons x xs))
+      ∙ ap (λ zs. cond (test e) (births_without e.0 zs) zs) (sym (births_by-cons x xs))
     where
       apart : (x.0 == e.0) ≡ false
       apart =
           let less : x.0 < (get_or xs i e).0 = h 0 (suc i) e (omega arith) (omega arith) in
           let here : e ≡ get_or xs i e = is in
-          let same : e.0 ≡ (get_or xs i e).0 = ap (λ (y : Entry). y.0) here in
+          let same : e.0 ≡ (get_or xs i e).0 = ap (λ (y : BornTuple). y.0) here in
           ne_eqb x.0 e.0 (λ k. omega arith)
 
-      go : (a b : Bool) (ys rs : List ℕ) → rs ≡ cond b (without e.0 ys) ys → cond a (x.0 ∷ rs) rs ≡ cond b (without e.0 (cond a (x.0 ∷ ys) ys)) (cond a (x.0 ∷ ys) ys)
-      go true true ys rs k = ap (λ zs. x.0 ∷ zs) k ∙ sym (ap (λ t. cond t ys (x.0 ∷ without e.0 ys)) apart)
+      go : (a b : Bool) (ys rs : List ℕ) → rs ≡ cond b (births_without e.0 ys) ys → cond a (x.0 ∷ rs) rs ≡ cond b (births_without e.0 (cond a (x.0 ∷ ys) ys)) (cond a (x.0 ∷ ys) ys)
+      go true true ys rs k = ap (λ zs. x.0 ∷ zs) k ∙ sym (ap (λ t. cond t ys (x.0 ∷ births_without e.0 ys)) apart)
       go true false ys rs k = ap (λ zs. x.0 ∷ zs) k
       go false true ys rs k = k
       go false false ys rs k = k
 
 -- ---- lists of a number
 
-module _ (number_of : Entry → ℕ) (old : BirthTable) (es : List Entry) (numbered : IsNumbered number_of old es) where
-  pub IsNumbered-push : (new : BirthTable) (e : Entry) (number : ℕ) → number ≡ number_of e
-      → ((n : ℕ) → births_in new n ≡ births_in old n ++ cond (number == n) (e.0 ∷ []) []) → IsNumbered number_of new (es ++ e ∷ [])
+module _ (number_of : BornTuple → ℕ) (old : BirthTable) (es : List BornTuple) (numbered : IsFiledByNumber number_of old es) where
+  pub IsNumbered-push : (new : BirthTable) (e : BornTuple) (number : ℕ) → number ≡ number_of e
+      → ((n : ℕ) → births_in new n ≡ births_in old n ++ cond (number == n) (e.0 ∷ []) []) → IsFiledByNumber number_of new (es ++ e ∷ [])
   IsNumbered-push new e number is h n =
       h n ∙ ap (λ xs. xs ++ cond (number == n) (e.0 ∷ []) []) (numbered n)
       ∙ ap (λ k. births_by (λ x. number_of x == n) es ++ cond (k == n) (e.0 ∷ []) []) is
@@ -89,18 +89,18 @@ module _ (number_of : Entry → ℕ) (old : BirthTable) (es : List Entry) (numbe
   numbered_rising : (n : ℕ) → AllPairs (λ e f. e.0 < f.0) es → AllPairs (λ a b. a < b) (births_in old n)
   numbered_rising n h = subst (AllPairs (λ a b. a < b)) (sym (numbered n)) (rising_births (λ e. number_of e == n) es h)
 
-  pub IsNumbered-remove : (new : BirthTable) (i : ℕ) (e : Entry) (number : ℕ) → number ≡ number_of e → AllPairs (λ e f. e.0 < f.0) es → i < length es → e ≡ get_or es i e
-      → (AllPairs (λ a b. a < b) (births_in old number) → (n : ℕ) → births_in new n ≡ cond (number == n) (without e.0 (births_in old n)) (births_in old n))
-      → IsNumbered number_of new (remove es i)
+  pub IsNumbered-remove : (new : BirthTable) (i : ℕ) (e : BornTuple) (number : ℕ) → number ≡ number_of e → AllPairs (λ e f. e.0 < f.0) es → i < length es → e ≡ get_or es i e
+      → (AllPairs (λ a b. a < b) (births_in old number) → (n : ℕ) → births_in new n ≡ cond (number == n) (births_without e.0 (births_in old n)) (births_in old n))
+      → IsFiledByNumber number_of new (remove es i)
   IsNumbered-remove new i e number is rising within here h n =
-      h (numbered_rising number rising) n ∙ ap (λ xs. cond (number == n) (without e.0 xs) xs) (numbered n)
-      ∙ ap (λ k. cond (k == n) (without e.0 (births_by (λ x. number_of x == n) es)) (births_by (λ x. number_of x == n) es)) is
+      h (numbered_rising number rising) n ∙ ap (λ xs. cond (number == n) (births_without e.0 xs) xs) (numbered n)
+      ∙ ap (λ k. cond (k == n) (births_without e.0 (births_by (λ x. number_of x == n) es)) (births_by (λ x. number_of x == n) es)) is
       ∙ sym (births_by-remove (λ x. number_of x == n) es i e rising within here)
 
 -- ---- lists of a key
 
-module _ (key_of : Entry → List ℕ) (old : Lists) (es : List Entry) (filed : IsFiled key_of old es) where
-  pub IsFiled-push : (new : Lists) (e : Entry) (key : List ℕ) → key ≡ key_of e
+module _ (key_of : BornTuple → List ℕ) (old : Lists) (es : List BornTuple) (filed : IsFiled key_of old es) where
+  pub IsFiled-push : (new : Lists) (e : BornTuple) (key : List ℕ) → key ≡ key_of e
       → ((q : List ℕ) → births_at new q ≡ births_at old q ++ cond (bytes_eq key q) (e.0 ∷ []) []) → IsFiled key_of new (es ++ e ∷ [])
   IsFiled-push new e key is h q =
       h q ∙ ap (λ xs. xs ++ cond (bytes_eq key q) (e.0 ∷ []) []) (filed q)
@@ -110,12 +110,12 @@ module _ (key_of : Entry → List ℕ) (old : Lists) (es : List Entry) (filed : 
   pub filed_rising : (q : List ℕ) → AllPairs (λ e f. e.0 < f.0) es → AllPairs (λ a b. a < b) (births_at old q)
   filed_rising q h = subst (AllPairs (λ a b. a < b)) (sym (filed q)) (rising_births (λ e. bytes_eq (key_of e) q) es h)
 
-  pub IsFiled-remove : (new : Lists) (i : ℕ) (e : Entry) (key : List ℕ) → key ≡ key_of e → AllPairs (λ e f. e.0 < f.0) es → i < length es → e ≡ get_or es i e
-      → (AllPairs (λ a b. a < b) (births_at old key) → (q : List ℕ) → births_at new q ≡ cond (bytes_eq key q) (without e.0 (births_at old q)) (births_at old q))
+  pub IsFiled-remove : (new : Lists) (i : ℕ) (e : BornTuple) (key : List ℕ) → key ≡ key_of e → AllPairs (λ e f. e.0 < f.0) es → i < length es → e ≡ get_or es i e
+      → (AllPairs (λ a b. a < b) (births_at old key) → (q : List ℕ) → births_at new q ≡ cond (bytes_eq key q) (births_without e.0 (births_at old q)) (births_at old q))
       → IsFiled key_of new (remove es i)
   IsFiled-remove new i e key is rising within here h q =
-      h (filed_rising key rising) q ∙ ap (λ xs. cond (bytes_eq key q) (without e.0 xs) xs) (filed q)
-      ∙ ap (λ k. cond (bytes_eq k q) (without e.0 (births_by (λ x. bytes_eq (key_of x) q) es)) (births_by (λ x. bytes_eq (key_of x) q) es)) is
+      h (filed_rising key rising) q ∙ ap (λ xs. cond (bytes_eq key q) (births_without e.0 xs) xs) (filed q)
+      ∙ ap (λ k. cond (bytes_eq k q) (births_without e.0 (births_by (λ x. bytes_eq (key_of x) q) es)) (births_by (λ x. bytes_eq (key_of x) q) es)) is
       ∙ sym (births_by-remove (λ x. bytes_eq (key_of x) q) es i e rising within here)
 
 -- ---- from births back to entries
@@ -133,7 +133,7 @@ at_other a b ne = go (nat_lt a b)
     go false = ap (λ t. is_eq (cond t Equal Greater)) (ne_eqb a b ne)
 
 -- a look-up finds each entry
-pub each_found : (es : List Entry) → AllPairs (λ e f. e.0 < f.0) es → All (λ e. lookup (is_at (nat_cmp e.0)) es ≡ Some e.1) es
+pub each_found : (es : List BornTuple) → AllPairs (λ e f. e.0 < f.0) es → All (λ e. lookup (is_at (nat_cmp e.0)) es ≡ Some e.1) es
 each_found [] h = All-nil _
 each_found (x ∷ xs) h =
     All-cons (λ e. lookup (is_at (nat_cmp e.0)) (x ∷ xs) ≡ Some e.1) x xs
@@ -143,19 +143,19 @@ each_found (x ∷ xs) h =
     ap (λ t. cond t (Some x.1) (lookup (is_at (nat_cmp (get_or xs k d).0)) xs)) (at_other (get_or xs k d).0 x.0 (λ same. omega arith))
     ∙ each_found xs (λ i j e m n. h (suc i) (suc j) e (omega arith) (omega arith)) k d l)
 
-found_one : (es : List Entry) (e : Entry) → lookup (is_at (nat_cmp e.0)) es ≡ Some e.1 → found_at es e.0 ≡ e ∷ []
+found_one : (es : List BornTuple) (e : BornTuple) → lookup (is_at (nat_cmp e.0)) es ≡ Some e.1 → entry_of_birth es e.0 ≡ e ∷ []
 found_one es e h = ap (λ o. map (λ (t : TupleTree). (e.0, t)) (option_to_list o)) h
 
 -- The births of entries lead to them.
-pub entries_listed : (es fs : List Entry) → All (λ e. lookup (is_at (nat_cmp e.0)) es ≡ Some e.1) fs → entries_at es (map (λ e. e.0) fs) ≡ fs
+pub entries_listed : (es fs : List BornTuple) → All (λ e. lookup (is_at (nat_cmp e.0)) es ≡ Some e.1) fs → entries_at es (map (λ e. e.0) fs) ≡ fs
 entries_listed es [] h = refl
 entries_listed es (x ∷ xs) h =
-    flat_map-cons (found_at es) x.0 (map (λ (e : Entry). e.0) xs)
-    ∙ ap (λ ys. ys ++ entries_at es (map (λ (e : Entry). e.0) xs)) (found_one es x (All-head (λ e. lookup (is_at (nat_cmp e.0)) es ≡ Some e.1) x xs h))
+    flat_map-cons (entry_of_birth es) x.0 (map (λ (e : BornTuple). e.0) xs)
+    ∙ ap (λ ys. ys ++ entries_at es (map (λ (e : BornTuple). e.0) xs)) (found_one es x (All-head (λ e. lookup (is_at (nat_cmp e.0)) es ≡ Some e.1) x xs h))
     ∙ ap (λ ys. x ∷ ys) (entries_listed es xs (All-tail (λ e. lookup (is_at (nat_cmp e.0)) es ≡ Some e.1) x xs h))
 
-module _ (test : Entry → Bool) (es : List Entry) where
-  entries_among : (fs : List Entry) → All (λ e. lookup (is_at (nat_cmp e.0)) es ≡ Some e.1) fs → entries_at es (births_by test fs) ≡ filter test fs
+module _ (test : BornTuple → Bool) (es : List BornTuple) where
+  entries_among : (fs : List BornTuple) → All (λ e. lookup (is_at (nat_cmp e.0)) es ≡ Some e.1) fs → entries_at es (births_by test fs) ≡ filter test fs
   entries_among [] h = refl
   entries_among (x ∷ xs) h =
       ap (entries_at es) (births_by-cons test x xs)
@@ -163,7 +163,7 @@ module _ (test : Entry → Bool) (es : List Entry) where
     where
       go : (b : Bool) → entries_at es (births_by test xs) ≡ filter test xs → entries_at es (cond b (x.0 ∷ births_by test xs) (births_by test xs)) ≡ cond b (x ∷ filter test xs) (filter test xs)
       go true rest =
-          flat_map-cons (found_at es) x.0 (births_by test xs)
+          flat_map-cons (entry_of_birth es) x.0 (births_by test xs)
           ∙ ap (λ ys. ys ++ entries_at es (births_by test xs)) (found_one es x (All-head (λ e. lookup (is_at (nat_cmp e.0)) es ≡ Some e.1) x xs h))
           ∙ ap (λ ys. x ∷ ys) rest
       go false rest = rest

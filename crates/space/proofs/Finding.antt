@@ -8,11 +8,11 @@ use Rattle.tuple_tree.specs.Items.{none}
 use Rattle.tuple_tree.specs.Values.{TupleTree, TemplateTree}
 use Rattle.template_match.specs.Tests.{is_match}
 use Rattle.space.specs.Applying.{first_match, without_first}
-use Rattle.space.specs.Births.{Entry, SpaceState, IsState, tuples_of, without_match}
+use Rattle.space.specs.Births.{BornTuple, SpaceState, IsState, tuples_of, without_match}
 use Rattle.space.proofs.Listing.{find-map, found_at, removed_none}
 use Rattle.space.proofs.Storing.{oldest_taken}
 
-pub none_passes : (test : Entry → Bool) (es : List Entry) → find test es ≡ None → without_first test es ≡ es
+pub none_passes : (test : BornTuple → Bool) (es : List BornTuple) → find test es ≡ None → without_first test es ≡ es
 none_passes test es e = go (position test es) refl
   where
     go : (o : Option ℕ) → position test es ≡ o → without_first test es ≡ es
@@ -35,17 +35,17 @@ some_matched p (t ∷ ts) h = go (is_match p t) h (some_matched p ts)
     go false h below = below h
 
 module _ (s : SpaceState) (p : TemplateTree) where
-  pub first_of : (o : Option Entry) → o ≡ find (λ e. is_match p e.1) s.entries → first_match p (tuples_of s) ≡ option_map (λ e. e.1) o
-  first_of o e = find-map (λ e. e.1) (is_match p) s.entries ∙ ap (option_map (λ (x : Entry). x.1)) (sym e)
+  pub first_of : (o : Option BornTuple) → o ≡ find (λ e. is_match p e.1) s.entries → first_match p (tuples_of s) ≡ option_map (λ e. e.1) o
+  first_of o e = find-map (λ e. e.1) (is_match p) s.entries ∙ ap (option_map (λ (x : BornTuple). x.1)) (sym e)
 
-  pub some_first : (o : Option Entry) → o ≡ find (λ e. is_match p e.1) s.entries → is_some o ≡ is_some (first_match p (tuples_of s))
+  pub some_first : (o : Option BornTuple) → o ≡ find (λ e. is_match p e.1) s.entries → is_some o ≡ is_some (first_match p (tuples_of s))
   some_first o e = go o ∙ sym (ap is_some (first_of o e))
     where
-      go : (o : Option Entry) → is_some o ≡ is_some (option_map (λ (x : Entry). x.1) o)
+      go : (o : Option BornTuple) → is_some o ≡ is_some (option_map (λ (x : BornTuple). x.1) o)
       go None = refl
       go (Some x) = refl
 
-  pub some_seen : {B : Type 0} (f : B → Entry) (r : Option B) → option_map f r ≡ find (λ e. is_match p e.1) s.entries → is_some r ≡ is_some (first_match p (tuples_of s))
+  pub some_seen : {B : Type 0} (f : B → BornTuple) (r : Option B) → option_map f r ≡ find (λ e. is_match p e.1) s.entries → is_some r ≡ is_some (first_match p (tuples_of s))
   some_seen {B = B} f r e = go r ∙ some_first (option_map f r) e
     where
       go : (r : Option B) → is_some r ≡ is_some (option_map f r)
@@ -53,11 +53,11 @@ module _ (s : SpaceState) (p : TemplateTree) where
       go (Some x) = refl
 
   pub none_taken : None ≡ find (λ e. is_match p e.1) s.entries → without_match s p ≡ s
-  none_taken e = ap (λ es. record s { entries = es }) (none_passes (λ (x : Entry). is_match p x.1) s.entries (sym e))
+  none_taken e = ap (λ es. record s { entries = es }) (none_passes (λ (x : BornTuple). is_match p x.1) s.entries (sym e))
 
   module _ (h : IsState s) (b : ℕ) (t : TupleTree) (e : Some (b, t) ≡ find (λ e. is_match p e.1) s.entries) where
     pub one_taken : record s { entries = remove_entry (is_at (nat_cmp b)) s.entries } ≡ without_match s p
-    one_taken = ap (λ es. record s { entries = es }) (oldest_taken (λ (x : Entry). is_match p x.1) s.entries b t h.rising (sym e)).left
+    one_taken = ap (λ es. record s { entries = es }) (oldest_taken (λ (x : BornTuple). is_match p x.1) s.entries b t h.rising (sym e)).left
 
     pub one_stored : lookup (is_at (nat_cmp b)) s.entries ≡ Some t
-    one_stored = (oldest_taken (λ (x : Entry). is_match p x.1) s.entries b t h.rising (sym e)).stored
+    one_stored = (oldest_taken (λ (x : BornTuple). is_match p x.1) s.entries b t h.rising (sym e)).stored

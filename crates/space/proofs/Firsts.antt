@@ -3,7 +3,7 @@ use Rattle.std.proofs.Common.{◌≡◌, ℕ, suc, ◌+◌, ◌-◌, ◌<◌, �
 use Rattle.std.specs.Prelude.{option_map, slice_get, IfSome}
 use Rattle.std.proofs.lemmas.List.{take_at}
 use lib.Dec.{eqb}
-use Rattle.tuple_tree.specs.Items.{Item, leaf, inner, none, item, how_many, length_in, whole_length, as_list}
+use Rattle.tuple_tree.specs.Items.{TreeItem, leaf, inner, none, item, how_many, length_in, whole_length, as_list}
 use Rattle.tuple_tree.specs.Limits.{AreItems}
 use Rattle.tuple_tree.specs.Values.{Datum, number, text, bytes, truth, wide, actual, any, formal, datum_length, slot_length, datum_kind, IsDatum, IsSlot, TupleTree, TemplateTree, AreBytes, IsTuple, IsTemplate}
 use Rattle.tuple_tree.specs.declared.atoms.Kind.{Kind}
@@ -74,7 +74,7 @@ first_actual (item (leaf any) p) = None
 first_actual (item (leaf (formal k)) p) = None
 first_actual (item (inner q) p) = None
 
-abbrev as_leaf : Datum × List ℕ → Option (Item Datum × List ℕ)
+abbrev as_leaf : Datum × List ℕ → Option (TreeItem Datum × List ℕ)
 as_leaf y = Some (leaf y.0, y.1)
 
 abbrev alone : Datum × List ℕ → Option Datum

@@ -12,7 +12,7 @@ use Rattle.tuple_codec.specs.Spelling.{SpellsTuple}
 use Rattle.tuple_tree.specs.Reading.{number_of}
 use Rattle.tuple_tree.proofs.Readers.{bytes_drop}
 use Rattle.tuple_tree.proofs.Numbers.{number_found}
-use Rattle.space.specs.Births.{Entry}
+use Rattle.space.specs.Births.{BornTuple}
 use Rattle.space.specs.Pages.{stored_text, entry_text}
 use Rattle.space.specs.Reading.{IsEntry, IsHeader}
 use Rattle.space.specs.declared.version.Version.{Version}
@@ -60,11 +60,11 @@ module _ (v : Version) (bs text rest : List ℕ) (birth : ℕ) (t : TupleTree) (
             ∙ sym (append_assoc (to_be_bytes w64 birth) (stored_text v t) rest),
       )
 
-  pub entry_only : (e : Entry) (after : List ℕ) → IsEntry e → bs ≡ entry_text v e ++ after → ((birth, t) ≡ e) × (rest ≡ after)
+  pub entry_only : (e : BornTuple) (after : List ℕ) → IsEntry e → bs ≡ entry_text v e ++ after → ((birth, t) ≡ e) × (rest ≡ after)
   entry_only e after valid is = entry_split v (birth, t) e rest after entry_found.0 valid (sym entry_found.1 ∙ is)
 
 -- where the tuple of an entry stands
-pub behind_birth : (v : Version) (bs text : List ℕ) (e : Entry) (rest : List ℕ) → text ≡ drop 8 bs → bs ≡ entry_text v e ++ rest → text ≡ stored_text v e.1 ++ rest
+pub behind_birth : (v : Version) (bs text : List ℕ) (e : BornTuple) (rest : List ℕ) → text ≡ drop 8 bs → bs ≡ entry_text v e ++ rest → text ≡ stored_text v e.1 ++ rest
 behind_birth v bs text e rest is_text is =
     is_text ∙ ap (drop 8) (is ∙ append_assoc (to_be_bytes w64 e.0) (stored_text v e.1) rest) ∙ drop_at (to_be_bytes w64 e.0) (stored_text v e.1 ++ rest) 8 refl
 

@@ -11,8 +11,8 @@ use Rattle.tuple_tree.specs.Values.{TupleTree, TemplateTree, IsTuple}
 use Rattle.tuple_codec.specs.Operations.{Operation, out, rdp, inp, cas, rd_all, in_all, upgrade, IsOperation, is_read_only}
 use Rattle.template_match.specs.Tests.{is_match}
 use Rattle.space.specs.Applying.{Contents, has_room, most_tuples, refuses, without_first, without_firsts, first_match, with_newest, served_after, tuples_after}
-use Rattle.space.specs.Births.{Entry, SpaceState, empty_in, tuples_of, page_count, has_page_room, first_passing, birth_of, with_birth, with_tuple, without_match, without_matches, upgraded, served_state, state_after, IsState, IsNextBirth}
-use Rattle.space.specs.Counted.{IsCounted}
+use Rattle.space.specs.Births.{BornTuple, SpaceState, empty_in, tuples_of, page_count, has_page_room, first_passing, birth_of, with_birth, with_tuple, without_match, without_matches, upgraded, served_state, state_after, IsState, IsNextBirth}
+use Rattle.space.specs.Counted.{PagesAreCounted}
 use Rattle.space.specs.declared.version.Version.{Version}
 use Rattle.space.specs.declared.version.Version.TheVariants as versions
 use Rattle.space.proofs.Passing.{first_passing-least, first_passing-agree}
@@ -147,9 +147,9 @@ tuples_of-with_tuple s t = go (has_room (tuples_of s))
     go true = ap (λ ts. record (tuples_of s) { tuples = ts }) (map-append (λ e. e.1) s.entries ((birth_of s, t) ∷ []))
     go false = refl
 
-without_firsts-map : (n : ℕ) (p : TemplateTree) (es : List Entry) → map (λ e. e.1) (without_firsts n (λ (e : Entry). is_match p e.1) es) ≡ without_firsts n (is_match p) (map (λ e. e.1) es)
+without_firsts-map : (n : ℕ) (p : TemplateTree) (es : List BornTuple) → map (λ e. e.1) (without_firsts n (λ (e : BornTuple). is_match p e.1) es) ≡ without_firsts n (is_match p) (map (λ e. e.1) es)
 without_firsts-map zero p es = refl
-without_firsts-map (suc n) p es = without_firsts-map n p (without_first (λ e. is_match p e.1) es) ∙ ap (without_firsts n (is_match p)) (without_first-map (λ (e : Entry). e.1) (is_match p) es)
+without_firsts-map (suc n) p es = without_firsts-map n p (without_first (λ e. is_match p e.1) es) ∙ ap (without_firsts n (is_match p)) (without_first-map (λ (e : BornTuple). e.1) (is_match p) es)
 
 tuples_of-served_state : (s : SpaceState) (o : Operation) → tuples_of (served_state s o) ≡ served_after (tuples_of s) o
 tuples_of-served_state s (out t) = tuples_of-with_tuple s t
@@ -189,7 +189,7 @@ read_same ts client o h = go (refuses ts.version client o)
     go false = served o h
 
 -- The table of how many tuples lie on each page.
-module _ (version : Version) (es : List Entry) (next : ℕ) (counts : List ℕ) (h : IsCounted version es next counts) where
+module _ (version : Version) (es : List BornTuple) (next : ℕ) (counts : List ℕ) (h : PagesAreCounted version es next counts) where
   pub birth_by_counts : (s : SpaceState) → s ≡ record { version = version; entries = es; next = next } → first_passing (λ birth. nat_lt (get_or counts (birth % 256) 0) 64) 256 next ≡ birth_of s
   birth_by_counts s e =
       first_passing-agree (λ birth. nat_lt (get_or counts (birth % 256) 0) 64) (has_page_room es) (λ birth. ap (λ n. nat_lt n 64) (h.counted (birth % 256) (omega arith))) 256 next
@@ -216,7 +216,7 @@ module _ (version : Version) (es : List Entry) (next : ℕ) (counts : List ℕ) 
   removed_count : (i b : ℕ) (t : TupleTree) (page : ℕ) → i < length es → (b, t) ≡ get_or es i (b, t)
       → page_count (remove es i) page + cond {A = ℕ} (b % 256 == page) 1 0 ≡ page_count es page
   removed_count i b t page within is =
-      subst (λ (x : Entry). page_count (remove es i) page + cond {A = ℕ} (x.0 % 256 == page) 1 0 ≡ page_count es page) (sym is) (page_count-remove es i (b, t) page within)
+      subst (λ (x : BornTuple). page_count (remove es i) page + cond {A = ℕ} (x.0 % 256 == page) 1 0 ≡ page_count es page) (sym is) (page_count-remove es i (b, t) page within)
 
   pub counted_remove : (i : ℕ) (b : ℕ) (t : TupleTree) (new : List ℕ) → length counts ≡ 256 → i < length es → (b, t) ≡ get_or es i (b, t)
       → new ≡ set counts (b % 256) (get_or counts (b % 256) 0 - 1)
@@ -255,18 +255,18 @@ module _ (version : Version) (es : List Entry) (next : ℕ) (counts : List ℕ) 
       let s : SpaceState = record { version = version; entries = es; next = next } in
       subst (λ n. next ≤ n) (sym (e ∙ birth_by_counts s refl)) (IsNextBirth-birth_of s (let fit = most_fit version in omega arith)).not_below
 
-  pub IsCounted-push : (b : ℕ) (t : TupleTree) (items : List Entry) → length counts ≡ 256 → IsTuple t → length es < most_tuples version
+  pub IsCounted-push : (b : ℕ) (t : TupleTree) (items : List BornTuple) → length counts ≡ 256 → IsTuple t → length es < most_tuples version
       → b ≡ first_passing (λ birth. nat_lt (get_or counts (birth % 256) 0) 64) 256 next → items ≡ es ++ (b, t) ∷ []
-      → IsCounted version items (b + 1) (set counts (b % 256) (get_or counts (b % 256) 0 + 1))
+      → PagesAreCounted version items (b + 1) (set counts (b % 256) (get_or counts (b % 256) 0 + 1))
   IsCounted-push b t items long valid l e is =
       let s : SpaceState = record { version = version; entries = es; next = next } in
       let kept = subst (λ n. IsState (record { version = version; entries = es ++ (n, t) ∷ []; next = n + 1 })) (sym (e ∙ birth_by_counts s refl)) (IsState-with_birth s t h.state valid l) in
-      subst (λ xs. IsCounted version xs (b + 1) (set counts (b % 256) (get_or counts (b % 256) 0 + 1))) (sym is)
+      subst (λ xs. PagesAreCounted version xs (b + 1) (set counts (b % 256) (get_or counts (b % 256) 0 + 1))) (sym is)
       (record { state = kept; counted = counted_push b t (set counts (b % 256) (get_or counts (b % 256) 0 + 1)) long refl })
 
-  pub IsCounted-remove : (i b : ℕ) (t : TupleTree) (items : List Entry) → length counts ≡ 256 → i < length es → (b, t) ≡ get_or es i (b, t) → items ≡ remove es i
-      → IsCounted version items next (set counts (b % 256) (get_or counts (b % 256) 0 - 1))
+  pub IsCounted-remove : (i b : ℕ) (t : TupleTree) (items : List BornTuple) → length counts ≡ 256 → i < length es → (b, t) ≡ get_or es i (b, t) → items ≡ remove es i
+      → PagesAreCounted version items next (set counts (b % 256) (get_or counts (b % 256) 0 - 1))
   IsCounted-remove i b t items long within is removed =
       let s : SpaceState = record { version = version; entries = es; next = next } in
-      subst (λ xs. IsCounted version xs next (set counts (b % 256) (get_or counts (b % 256) 0 - 1))) (sym removed)
+      subst (λ xs. PagesAreCounted version xs next (set counts (b % 256) (get_or counts (b % 256) 0 - 1))) (sym removed)
       (record { state = IsState-remove s i h.state within; counted = counted_remove i b t (set counts (b % 256) (get_or counts (b % 256) 0 - 1)) long within is refl })

@@ -6,7 +6,7 @@ use Rattle.std.specs.Str.{bytes_eq}
 use Rattle.std.proofs.lemmas.Bool.{and_parts, and_from, ne_eqb, eqb-true}
 use Rattle.std.proofs.lemmas.Bool.Decides.{same_from_decides}
 use Rattle.std.proofs.lemmas.Slice.Eq.{bytes_eq-Decides}
-use Rattle.tuple_tree.specs.Items.{Item, leaf, inner, none, item, how_many}
+use Rattle.tuple_tree.specs.Items.{TreeItem, leaf, inner, none, item, how_many}
 use Rattle.tuple_tree.specs.Values.{Datum, number, text, bytes, truth, wide, Slot, actual, any, formal, TupleTree, TemplateTree, AreBytes, IsTuple, IsTemplate}
 use Rattle.tuple_codec.specs.Operations.{out}
 use Rattle.tuple_tree.specs.Spelling.{datum_spelling, tuple_spelling}
@@ -32,7 +32,7 @@ match_fits none t h = refl
 match_fits (item f p) none h = absurd (let g : ⊥ = cc in g)
 match_fits (item f p) (item v t) h = go f (and_parts (is_field_match f v) (is_match p t) h).0
   where
-    go : (f : Item Slot) → is_field_match f v ≡ true → fits_field f (item v t) ≡ true
+    go : (f : TreeItem Slot) → is_field_match f v ≡ true → fits_field f (item v t) ≡ true
     go (leaf (actual x)) m = m
     go (leaf any) m = refl
     go (leaf (formal k)) m = refl

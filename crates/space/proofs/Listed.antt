@@ -7,7 +7,7 @@ use Rattle.std.specs.HashMap.{HashMap, get_by, UpdatesBy}
 use Rattle.std.proofs.lemmas.Bool.{cases_Bool, cond-true, cond-false, eqb-true}
 use Rattle.std.proofs.lemmas.Cmp.{nat_list_eq_equiv}
 use Rattle.std.proofs.lemmas.Slice.Eq.{bytes_eq-Decides}
-use Rattle.space.specs.Ages.{without}
+use Rattle.space.specs.Ages.{births_without}
 use Rattle.space.specs.Filing.{births_at, births_or_none}
 use Rattle.space.specs.declared.key_births.KeyBirths.{KeyBirths}
 use Rattle.space.specs.declared.lists.Lists.{Lists}
@@ -53,12 +53,12 @@ module _ (m n : Lists) (key : List ℕ) where
       go true e = more ∙ ap (λ xs. xs ++ b ∷ []) (sym is ∙ ap (births_at m) ((bytes_eq-Decides key q).0 e))
       go false e = sym (append-nil (births_at m q))
 
-  pub births_removed : (births : List ℕ) (b : ℕ) (w : Option KeyBirths) → births_at m key ≡ births → births_or_none w ≡ without b births → Puts m n key w
-      → (q : List ℕ) → births_at n q ≡ cond (bytes_eq key q) (without b (births_at m q)) (births_at m q)
+  pub births_removed : (births : List ℕ) (b : ℕ) (w : Option KeyBirths) → births_at m key ≡ births → births_or_none w ≡ births_without b births → Puts m n key w
+      → (q : List ℕ) → births_at n q ≡ cond (bytes_eq key q) (births_without b (births_at m q)) (births_at m q)
   births_removed births b w is left h q = listed w h q ∙ go (bytes_eq key q) refl
     where
-      go : (t : Bool) → bytes_eq key q ≡ t → cond t (births_or_none w) (births_at m q) ≡ cond t (without b (births_at m q)) (births_at m q)
-      go true e = left ∙ ap (without b) (sym is ∙ ap (births_at m) ((bytes_eq-Decides key q).0 e))
+      go : (t : Bool) → bytes_eq key q ≡ t → cond t (births_or_none w) (births_at m q) ≡ cond t (births_without b (births_at m q)) (births_at m q)
+      go true e = left ∙ ap (births_without b) (sym is ∙ ap (births_at m) ((bytes_eq-Decides key q).0 e))
       go false e = refl
 
   -- under a key stands what stood there
@@ -69,11 +69,11 @@ module _ (m n : Lists) (key : List ℕ) where
       go true e = is ∙ ap (births_at m) ((bytes_eq-Decides key q).0 e)
       go false e = refl
 
-pub nothing_removed : (m : Lists) (key : List ℕ) (b : ℕ) → births_at m key ≡ [] → (q : List ℕ) → births_at m q ≡ cond (bytes_eq key q) (without b (births_at m q)) (births_at m q)
+pub nothing_removed : (m : Lists) (key : List ℕ) (b : ℕ) → births_at m key ≡ [] → (q : List ℕ) → births_at m q ≡ cond (bytes_eq key q) (births_without b (births_at m q)) (births_at m q)
 nothing_removed m key b is q = go (bytes_eq key q) refl
   where
-    go : (t : Bool) → bytes_eq key q ≡ t → births_at m q ≡ cond t (without b (births_at m q)) (births_at m q)
-    go true e = let none : births_at m q ≡ [] = sym (ap (births_at m) ((bytes_eq-Decides key q).0 e)) ∙ is in none ∙ sym (ap (without b) none)
+    go : (t : Bool) → bytes_eq key q ≡ t → births_at m q ≡ cond t (births_without b (births_at m q)) (births_at m q)
+    go true e = let none : births_at m q ≡ [] = sym (ap (births_at m) ((bytes_eq-Decides key q).0 e)) ∙ is in none ∙ sym (ap (births_without b) none)
     go false e = refl
 
 pub emptied : (xs : List ℕ) → (length xs == 0) ≡ true → xs ≡ []

@@ -6,44 +6,44 @@ use Rattle.std.proofs.lemmas.List.{append-nil, length_push, get_or_push, get_or_
 use Rattle.std.proofs.lemmas.List.Elements.{All-head, All-tail, All-cons, All-push, All-weaker}
 use Rattle.std.proofs.lemmas.List.Quantifiers.{all_pairs_push}
 use Rattle.tuple_tree.specs.Values.{IsTuple}
-use Rattle.space.specs.Births.{Entry}
+use Rattle.space.specs.Births.{BornTuple}
 use Rattle.space.specs.Pages.{entry_text, entries_text, on_page}
-use Rattle.space.specs.Reading.{IsEntry, IsEntryOf, IsPage, IsAdded, IsFrontRead}
+use Rattle.space.specs.Reading.{IsEntry, IsEntryOf, IsPage, TupleIsAdded, IsFrontRead}
 use Rattle.space.specs.declared.version.Version.{Version}
 use Rattle.space.proofs.Determining.{entry_split, entries_none}
 use Rattle.space.proofs.Texts.{entries_text_push}
 
-pub on_page-all : (P : Entry → Type 0) (page : ℕ) (es : List Entry) → All P (on_page page es) → All (λ x. x.0 % 256 ≡ page → P x) es
+pub on_page-all : (P : BornTuple → Type 0) (page : ℕ) (es : List BornTuple) → All P (on_page page es) → All (λ x. x.0 % 256 ≡ page → P x) es
 unfolding on_page
 on_page-all P page [] h = λ k d l. absurd (omega arith)
 on_page-all P page (e ∷ es) h = go (e.0 % 256 == page) refl h (on_page-all P page es)
   where
-    go : (b : Bool) → (e.0 % 256 == page) ≡ b → All P (cond b (e ∷ filter (λ (x : Entry). x.0 % 256 == page) es) (filter (λ (x : Entry). x.0 % 256 == page) es))
-        → (All P (filter (λ (x : Entry). x.0 % 256 == page) es) → All (λ x. x.0 % 256 ≡ page → P x) es) → All (λ x. x.0 % 256 ≡ page → P x) (e ∷ es)
-    go true t a rest = All-cons (λ x. x.0 % 256 ≡ page → P x) e es (λ s. All-head P e (filter (λ (x : Entry). x.0 % 256 == page) es) a) (rest (All-tail P e (filter (λ (x : Entry). x.0 % 256 == page) es) a))
+    go : (b : Bool) → (e.0 % 256 == page) ≡ b → All P (cond b (e ∷ filter (λ (x : BornTuple). x.0 % 256 == page) es) (filter (λ (x : BornTuple). x.0 % 256 == page) es))
+        → (All P (filter (λ (x : BornTuple). x.0 % 256 == page) es) → All (λ x. x.0 % 256 ≡ page → P x) es) → All (λ x. x.0 % 256 ≡ page → P x) (e ∷ es)
+    go true t a rest = All-cons (λ x. x.0 % 256 ≡ page → P x) e es (λ s. All-head P e (filter (λ (x : BornTuple). x.0 % 256 == page) es) a) (rest (All-tail P e (filter (λ (x : BornTuple). x.0 % 256 == page) es) a))
     go false t a rest = All-cons (λ x. x.0 % 256 ≡ page → P x) e es (λ s. absurd (let bad : true ≡ false = sym (eq-eqb (e.0 % 256) page s) ∙ t in cc)) (rest a)
 
-one_here : (page : ℕ) (e : Entry) → e.0 % 256 ≡ page → on_page page (e ∷ []) ≡ e ∷ []
+one_here : (page : ℕ) (e : BornTuple) → e.0 % 256 ≡ page → on_page page (e ∷ []) ≡ e ∷ []
 unfolding on_page
 one_here page e h = ap (λ b. cond b (e ∷ []) []) (eq-eqb (e.0 % 256) page h)
 
-none_here : (page : ℕ) (e : Entry) → e.0 % 256 ≢ page → on_page page (e ∷ []) ≡ []
+none_here : (page : ℕ) (e : BornTuple) → e.0 % 256 ≢ page → on_page page (e ∷ []) ≡ []
 unfolding on_page
 none_here page e h = ap (λ b. cond b (e ∷ []) []) (ne_eqb (e.0 % 256) page h)
 
-pub IsPage-fits : (page next : ℕ) (es : List Entry) → next < 2 ^ 64 → IsPage page next es → All IsEntry es
+pub IsPage-fits : (page next : ℕ) (es : List BornTuple) → next < 2 ^ 64 → IsPage page next es → All IsEntry es
 IsPage-fits page next es l h k d m = let b = h.below_next k d m in record { fits = omega arith; tuple = h.tuples k d m }
 
-module _ (v : Version) (page next : ℕ) (text : List ℕ) (old es : List Entry) (rest : List ℕ) (count least : ℕ) (h : IsFrontRead v page next text old es rest count least) where
+module _ (v : Version) (page next : ℕ) (text : List ℕ) (old es : List BornTuple) (rest : List ℕ) (count least : ℕ) (h : IsFrontRead v page next text old es rest count least) where
   -- what is on the page already comes before what may follow
-  pub latest : (e : Entry) → IsEntryOf page least next e → All (λ x. x.0 % 256 ≡ e.0 % 256 → x.0 < e.0) es
+  pub latest : (e : BornTuple) → IsEntryOf page least next e → All (λ x. x.0 % 256 ≡ e.0 % 256 → x.0 < e.0) es
   latest e of =
       let above = All-weaker (λ x. x.0 < least) (λ x. x.0 < e.0) (λ x l. let m = of.not_below in omega arith) (on_page page es) h.above in
       subst (λ p. All (λ x. x.0 % 256 ≡ p → x.0 < e.0) es) (sym of.here) (on_page-all (λ x. x.0 < e.0) page es above)
 
-  pub IsFrontRead-more : (e : Entry) (after : List ℕ) (new : List Entry) → IsEntryOf page least next e → rest ≡ entry_text v e ++ after → count < 64 → IsAdded es new e → IsFrontRead v page next text old new after (count + 1) (e.0 + 1)
+  pub IsFrontRead-more : (e : BornTuple) (after : List ℕ) (new : List BornTuple) → IsEntryOf page least next e → rest ≡ entry_text v e ++ after → count < 64 → TupleIsAdded es new e → IsFrontRead v page next text old new after (count + 1) (e.0 + 1)
   IsFrontRead-more e after new of front few added =
-      let xs : List Entry = on_page page es in
+      let xs : List BornTuple = on_page page es in
       let now : on_page page new ≡ xs ++ e ∷ [] = added.pages page ∙ ap (λ ys. xs ++ ys) (one_here page e of.here) in
       let below : All (λ x. x.0 < e.0) xs = All-weaker (λ x. x.0 < least) (λ x. x.0 < e.0) (λ x l. let m = of.not_below in omega arith) xs h.above in
       let more : IsPage page next (xs ++ e ∷ []) = record {
@@ -69,7 +69,7 @@ module _ (v : Version) (page next : ℕ) (text : List ℕ) (old es : List Entry)
       }
 
 -- Texts where one goes on as the other: so do the entries.
-prefix : (w : Version) (es fs : List Entry) (rest : List ℕ) → All IsEntry es → All IsEntry fs → entries_text w es ≡ entries_text w fs ++ rest → (more : List Entry) × (es ≡ fs ++ more) × (rest ≡ entries_text w more)
+prefix : (w : Version) (es fs : List BornTuple) (rest : List ℕ) → All IsEntry es → All IsEntry fs → entries_text w es ≡ entries_text w fs ++ rest → (more : List BornTuple) × (es ≡ fs ++ more) × (rest ≡ entries_text w more)
 prefix w es [] rest a b t = (es, refl, sym t)
 prefix w [] (f ∷ fs) rest a b t = absurd (entries_none w f (entries_text w fs ++ rest) (sym (t ∙ append_assoc (entry_text w f) (entries_text w fs) rest)))
 prefix w (e ∷ es) (f ∷ fs) rest a b t =
@@ -78,21 +78,21 @@ prefix w (e ∷ es) (f ∷ fs) rest a b t =
     (r.0, ap (λ x. x ∷ es) s.0 ∙ ap (λ xs. f ∷ xs) r.1, r.2)
 
 -- What a page that is spelled so goes on with.
-module _ (v : Version) (page next : ℕ) (text : List ℕ) (old es : List Entry) (rest : List ℕ) (count least : ℕ) (h : IsFrontRead v page next text old es rest count least) (l : next < 2 ^ 64)
-    (all : List Entry) (valid : IsPage page next all) (spelled : text ≡ entries_text v all) where
-  left : (more : List Entry) × (all ≡ on_page page es ++ more) × (rest ≡ entries_text v more)
+module _ (v : Version) (page next : ℕ) (text : List ℕ) (old es : List BornTuple) (rest : List ℕ) (count least : ℕ) (h : IsFrontRead v page next text old es rest count least) (l : next < 2 ^ 64)
+    (all : List BornTuple) (valid : IsPage page next all) (spelled : text ≡ entries_text v all) where
+  left : (more : List BornTuple) × (all ≡ on_page page es ++ more) × (rest ≡ entries_text v more)
   left = prefix v all (on_page page es) rest (IsPage-fits page next all l valid) (IsPage-fits page next (on_page page es) l h.valid) (sym spelled ∙ h.spelled)
 
   pub no_more : 64 ≤ count → rest ≡ []
   no_more many = go left.0 left.1 left.2
     where
-      go : (more : List Entry) → all ≡ on_page page es ++ more → rest ≡ entries_text v more → rest ≡ []
+      go : (more : List BornTuple) → all ≡ on_page page es ++ more → rest ≡ entries_text v more → rest ≡ []
       go [] is r = r
       go (m ∷ ms) is r = absurd (omega (arith, ap length is, length-append (on_page page es) (m ∷ ms), h.counted, valid.few))
 
-  next_of : (m : Entry) (ms : List Entry) → all ≡ on_page page es ++ m ∷ ms → IsEntryOf page least next m
+  next_of : (m : BornTuple) (ms : List BornTuple) → all ≡ on_page page es ++ m ∷ ms → IsEntryOf page least next m
   next_of m ms is =
-      let xs : List Entry = on_page page es in
+      let xs : List BornTuple = on_page page es in
       let p : IsPage page next (xs ++ m ∷ ms) = subst (IsPage page next) is valid in
       let long : length xs < length (xs ++ m ∷ ms) = omega (arith, length-append xs (m ∷ ms)) in
       let at : get_or (xs ++ m ∷ ms) (length xs) m ≡ m = get_or_at xs m ms m (length xs) refl in
@@ -106,13 +106,13 @@ module _ (v : Version) (page next : ℕ) (text : List ℕ) (old es : List Entry)
         tuple = subst (λ x. IsTuple x.1) at (p.tuples (length xs) m long);
       }
     where
-      same : (xs : List Entry) (k : ℕ) (d e : Entry) → k < length xs → get_or xs k d ≡ get_or xs k e
+      same : (xs : List BornTuple) (k : ℕ) (d e : BornTuple) → k < length xs → get_or xs k d ≡ get_or xs k e
       same xs k d e n = get_or_default xs k d e n
 
-  pub next_there : rest ≢ [] → (m : Entry) × (after : List ℕ) × IsEntryOf page least next m × (rest ≡ entry_text v m ++ after)
+  pub next_there : rest ≢ [] → (m : BornTuple) × (after : List ℕ) × IsEntryOf page least next m × (rest ≡ entry_text v m ++ after)
   next_there some = go left.0 left.1 left.2
     where
-      go : (more : List Entry) → all ≡ on_page page es ++ more → rest ≡ entries_text v more → (m : Entry) × (after : List ℕ) × IsEntryOf page least next m × (rest ≡ entry_text v m ++ after)
+      go : (more : List BornTuple) → all ≡ on_page page es ++ more → rest ≡ entries_text v more → (m : BornTuple) × (after : List ℕ) × IsEntryOf page least next m × (rest ≡ entry_text v m ++ after)
       go [] is r = absurd (some r)
       go (m ∷ ms) is r = (m, entries_text v ms, next_of m ms is, r)
 

@@ -3,7 +3,7 @@ use Rattle.std.proofs.Common.{◌≡◌, ℕ, zero, suc, ◌≤◌, ◌<◌, Boo
 use Rattle.std.specs.Prelude.{◌==◌}
 use Rattle.std.proofs.lemmas.Bool.{cases_eq, ne_eqb, eqb-true}
 use Rattle.std.proofs.lemmas.List.{get_or-set_same, get_or-set_other, get_or_default, get_or_past}
-use Rattle.space.specs.Ages.{without, ListedBirths}
+use Rattle.space.specs.Ages.{births_without, ListedBirths}
 use Rattle.space.specs.Filing.{no_list}
 
 -- an empty list more changes nothing
@@ -59,22 +59,22 @@ module _ (ls : List ListedBirths) (i : ℕ) (x l : ListedBirths) (within : i < l
       go true h = e ∙ ap (λ xs. xs ++ b ∷ []) (there n h)
       go false h = sym (append-nil (get_or ls n no_list).births)
 
-  pub births_removed : (b : ℕ) → l.births ≡ without b x.births
-      → (n : ℕ) → (get_or (set ls i l) n no_list).births ≡ cond (i == n) (without b (get_or ls n no_list).births) (get_or ls n no_list).births
+  pub births_removed : (b : ℕ) → l.births ≡ births_without b x.births
+      → (n : ℕ) → (get_or (set ls i l) n no_list).births ≡ cond (i == n) (births_without b (get_or ls n no_list).births) (get_or ls n no_list).births
   births_removed b e n = listed n ∙ go (i == n) refl
     where
-      go : (t : Bool) → (i == n) ≡ t → cond t l.births (get_or ls n no_list).births ≡ cond t (without b (get_or ls n no_list).births) (get_or ls n no_list).births
-      go true h = e ∙ ap (without b) (there n h)
+      go : (t : Bool) → (i == n) ≡ t → cond t l.births (get_or ls n no_list).births ≡ cond t (births_without b (get_or ls n no_list).births) (get_or ls n no_list).births
+      go true h = e ∙ ap (births_without b) (there n h)
       go false h = refl
 
 -- a number that a table doesn't reach has no births
 pub nothing_removed : (ls : List ListedBirths) (i b : ℕ) → length ls ≤ i
-    → (n : ℕ) → (get_or ls n no_list).births ≡ cond (i == n) (without b (get_or ls n no_list).births) (get_or ls n no_list).births
+    → (n : ℕ) → (get_or ls n no_list).births ≡ cond (i == n) (births_without b (get_or ls n no_list).births) (get_or ls n no_list).births
 nothing_removed ls i b past n = go (i == n) refl
   where
-    go : (t : Bool) → (i == n) ≡ t → (get_or ls n no_list).births ≡ cond t (without b (get_or ls n no_list).births) (get_or ls n no_list).births
+    go : (t : Bool) → (i == n) ≡ t → (get_or ls n no_list).births ≡ cond t (births_without b (get_or ls n no_list).births) (get_or ls n no_list).births
     go true h =
         let same : i ≡ n = eqb-true i n h in
         let none : (get_or ls n no_list).births ≡ [] = ap (λ (y : ListedBirths). y.births) (get_or_past ls n no_list (omega arith)) in
-        none ∙ sym (ap (without b) none)
+        none ∙ sym (ap (births_without b) none)
     go false h = refl

@@ -14,7 +14,7 @@ use Rattle.std.proofs.lemmas.Map.Views.{Contains-from_lookup, lookup-from_Contai
 use Rattle.std.proofs.lemmas.Cmp.{nat_eq_equiv}
 use Rattle.tuple_tree.specs.Items.{none}
 use Rattle.tuple_tree.specs.Values.{TupleTree}
-use Rattle.space.specs.Births.{Entry}
+use Rattle.space.specs.Births.{BornTuple}
 use Rattle.space.specs.Stored.{in_order, LiesAt}
 use Rattle.space.proofs.Filing.{at_other}
 use Rattle.space.proofs.InOrder.{Puts, lookup-in_order, absent}
@@ -32,19 +32,19 @@ none_or None None h k = refl
 none_or None (Some t) h k = k t refl
 none_or (Some t) p h k = sym (h t refl)
 
-moved : (es fs : List Entry) (q : ℕ) → IsPermutation es fs → IsDistinct ◌==◌ (keys_of es) → IsDistinct ◌==◌ (keys_of fs)
+moved : (es fs : List BornTuple) (q : ℕ) → IsPermutation es fs → IsDistinct ◌==◌ (keys_of es) → IsDistinct ◌==◌ (keys_of fs)
     → lookup (λ k. q == k) es ≡ lookup (λ k. q == k) fs
 moved es fs q p d e =
     none_or (lookup (λ k. q == k) es) (lookup (λ k. q == k) fs)
     (λ t h. lookup-from_Contains nat_eq_equiv q t fs e (Contains-permutation es fs (q, t) p (Contains-from_lookup exact_unsigned_eq q t es h)))
     (λ t h. lookup-from_Contains nat_eq_equiv q t es d (Contains-permutation fs es (q, t) (IsPermutation-sym es fs p) (Contains-from_lookup exact_unsigned_eq q t fs h)))
 
-stays_distinct : (es fs : List Entry) → IsPermutation es fs → IsDistinct ◌==◌ (keys_of es) → IsDistinct ◌==◌ (keys_of fs)
+stays_distinct : (es fs : List BornTuple) → IsPermutation es fs → IsDistinct ◌==◌ (keys_of es) → IsDistinct ◌==◌ (keys_of fs)
 stays_distinct es fs p d = IsDistinct-IsPermutation ◌==◌ flips (keys_of es) (keys_of fs) (IsPermutation-map (λ e. e.0) es fs p) d
 
 -- ---- an entry at its place
 
-module _ (es : List Entry) (i : ℕ) (e : Entry) (d : IsDistinct ◌==◌ (keys_of es)) (l : i < length es) (is : e ≡ get_or es i e) where
+module _ (es : List BornTuple) (i : ℕ) (e : BornTuple) (d : IsDistinct ◌==◌ (keys_of es)) (l : i < length es) (is : e ≡ get_or es i e) where
   out : IsPermutation es (e ∷ swap_remove es i e)
   out = IsPermutation-swap_remove es i e l is
 
@@ -72,7 +72,7 @@ module _ (es : List Entry) (i : ℕ) (e : Entry) (d : IsDistinct ◌==◌ (keys_
   ]
 
 -- a birth that has no entry leaves none
-pub nothing_out : (es : List Entry) (b : ℕ) → lookup (λ k. b == k) es ≡ None → Puts es es b None
+pub nothing_out : (es : List BornTuple) (b : ℕ) → lookup (λ k. b == k) es ≡ None → Puts es es b None
 nothing_out es b missing q = elim (cases_eq b q) [
   | inl same ↦
       subst (λ (n : ℕ). lookup (λ k. n == k) es ≡ None) same missing
@@ -82,7 +82,7 @@ nothing_out es b missing q = elim (cases_eq b q) [
 
 -- ---- a new entry at the end
 
-present : (b : ℕ) (es : List Entry) → lookup (λ k. b == k) es ≡ None → AllByRecursion (λ k. (b == k) ≡ false) (keys_of es)
+present : (b : ℕ) (es : List BornTuple) → lookup (λ k. b == k) es ≡ None → AllByRecursion (λ k. (b == k) ≡ false) (keys_of es)
 present b [] h = tt
 present b (e ∷ es) h = go (b == e.0) h (present b es)
   where
@@ -91,7 +91,7 @@ present b (e ∷ es) h = go (b == e.0) h (present b es)
     go true n rest = absurd (let g : ⊥ = cc in g)
     go false n rest = (refl, rest n)
 
-module _ (es : List Entry) (b : ℕ) (t : TupleTree) (d : IsDistinct ◌==◌ (keys_of es)) (missing : lookup (λ k. b == k) es ≡ None) where
+module _ (es : List BornTuple) (b : ℕ) (t : TupleTree) (d : IsDistinct ◌==◌ (keys_of es)) (missing : lookup (λ k. b == k) es ≡ None) where
   front : IsPermutation (es ++ (b, t) ∷ []) ((b, t) ∷ es)
   front = IsPermutation-to_front es (b, t)
 
@@ -106,7 +106,7 @@ module _ (es : List Entry) (b : ℕ) (t : TupleTree) (d : IsDistinct ◌==◌ (k
       moved (es ++ (b, t) ∷ []) ((b, t) ∷ es) q front distinct_more distinct_front
       ∙ ap (λ a. cond a (Some t) (lookup (λ k. q == k) es)) (flips q b)
 
-below_none : (xs : List Entry) (b : ℕ) → All (λ e. e.0 < b) xs → lookup (is_at (nat_cmp b)) xs ≡ None
+below_none : (xs : List BornTuple) (b : ℕ) → All (λ e. e.0 < b) xs → lookup (is_at (nat_cmp b)) xs ≡ None
 below_none [] b h = refl
 below_none (x ∷ xs) b h =
     let under : x.0 < b = h 0 x (omega arith) in
@@ -114,12 +114,12 @@ below_none (x ∷ xs) b h =
     ∙ below_none xs b (λ k d l. h (suc k) d (omega arith))
 
 -- a birth above all others has no entry
-pub newest_is_new : (es : List Entry) (b : ℕ) → All (λ e. e.0 < b) (in_order es) → lookup (λ k. b == k) es ≡ None
+pub newest_is_new : (es : List BornTuple) (b : ℕ) → All (λ e. e.0 < b) (in_order es) → lookup (λ k. b == k) es ≡ None
 newest_is_new es b h = sym (lookup-in_order es b) ∙ below_none (in_order es) b h
 
 -- ---- a search from the front
 
-pub passed : (es : List Entry) (i b : ℕ) (e : Entry) → i < length es → e ≡ get_or es i e → e.0 ≢ b
+pub passed : (es : List BornTuple) (i b : ℕ) (e : BornTuple) → i < length es → e ≡ get_or es i e → e.0 ≢ b
     → lookup (λ k. b == k) (drop i es) ≡ lookup (λ k. b == k) (drop (i + 1) es)
 passed [] i b e l is other = absurd (omega arith)
 passed (x ∷ xs) zero b e l is other =
@@ -130,9 +130,9 @@ passed (x ∷ xs) (suc i) b e l is other =
     passed xs i b e (omega arith) is other ∙ ap (λ (k : ℕ). lookup (λ k. b == k) (drop k (x ∷ xs))) (sym n)
 
 -- the entry at the place of a birth
-pub there : (es : List Entry) (i b : ℕ) (e : Entry) → LiesAt es b i → e ≡ get_or es i e → e.0 ≡ b
+pub there : (es : List BornTuple) (i b : ℕ) (e : BornTuple) → LiesAt es b i → e ≡ get_or es i e → e.0 ≡ b
 there es i b e h is = ap (λ x. x.0) (is ∙ get_or_default es i e (b, none) h.within) ∙ h.birth_there
 
-pub found_there : (es : List Entry) (i b : ℕ) (e : Entry) → IsDistinct ◌==◌ (keys_of es) → LiesAt es b i → e ≡ get_or es i e → lookup (λ k. b == k) es ≡ Some e.1
+pub found_there : (es : List BornTuple) (i b : ℕ) (e : BornTuple) → IsDistinct ◌==◌ (keys_of es) → LiesAt es b i → e ≡ get_or es i e → lookup (λ k. b == k) es ≡ Some e.1
 found_there es i b e d h is =
     subst (λ (n : ℕ). lookup (λ k. n == k) es ≡ Some e.1) (there es i b e h is) (found_at es i e d h.within is)

@@ -9,20 +9,20 @@ use Rattle.std.proofs.lemmas.List.Kept.{AllPairs-filter}
 use Rattle.std.proofs.lemmas.List.Sums.{length-filter}
 use Rattle.std.proofs.lemmas.Bool.{eqb-true}
 use Rattle.tuple_tree.specs.Values.{IsTuple}
-use Rattle.space.specs.Births.{Entry, SpaceState, IsState, page_count}
-use Rattle.space.specs.Counted.{IsCounted}
+use Rattle.space.specs.Births.{BornTuple, SpaceState, IsState, page_count}
+use Rattle.space.specs.Counted.{PagesAreCounted}
 use Rattle.space.specs.Applying.{most_tuples}
-use Rattle.space.specs.Pages.{ArePages, MayBePages, entries_text, on_page, version_byte}
+use Rattle.space.specs.Pages.{ArePagesOfTuples, MayBePages, entries_text, on_page, version_byte}
 use Rattle.space.specs.Reading.{IsPage, IsPageRead, ArePagesRead, ArePagesOf, IsHeader}
 use Rattle.space.specs.declared.version.Version.{Version}
 use Rattle.space.proofs.Determining.{entries_same, entries_from_pages, on_page_fits, pages_determine}
 use Rattle.space.proofs.Loading.{on_page-all, IsPage-fits}
 
-page_count-on_page : (es : List Entry) (page : ℕ) → page_count es page ≡ length (on_page page es)
+page_count-on_page : (es : List BornTuple) (page : ℕ) → page_count es page ≡ length (on_page page es)
 unfolding on_page
 page_count-on_page es page = sym (length-filter (λ e. e.0 % 256 == page) es)
 
-all_from_pages : (P : Entry → Type 0) (es : List Entry) → ((page : ℕ) → page < 256 → All P (on_page page es)) → All P es
+all_from_pages : (P : BornTuple → Type 0) (es : List BornTuple) → ((page : ℕ) → page < 256 → All P (on_page page es)) → All P es
 all_from_pages P es h k d l =
     let page : ℕ = (get_or es k d).0 % 256 in
     on_page-all P page es (h page (omega arith)) k d l refl
@@ -33,7 +33,7 @@ unfolding on_page
 IsPage-of_state s page h = record {
   rising = AllPairs-filter (λ e f. e.0 < f.0) (λ e. e.0 % 256 == page) s.entries h.rising;
   below_next = All-filter (λ e. e.0 % 256 == page) (λ e. e.0 < s.next) s.entries h.below_next;
-  here = λ k d l. eqb-true _ page (filter_passes (λ (e : Entry). e.0 % 256 == page) s.entries k d l);
+  here = λ k d l. eqb-true _ page (filter_passes (λ (e : BornTuple). e.0 % 256 == page) s.entries k d l);
   few = let m = h.pages page in omega (arith, length-filter (λ e. e.0 % 256 == page) s.entries);
   tuples = All-filter (λ e. e.0 % 256 == page) (λ e. IsTuple e.1) s.entries h.tuples;
 }
@@ -61,7 +61,7 @@ ArePagesRead-none v next texts counts zero long = record {
   long = long;
 }
 
-pub ArePagesRead-more : (v : Version) (n next : ℕ) (texts : List (List ℕ)) (text : List ℕ) (old new : List Entry) (counts : List ℕ) (count : ℕ) → ArePagesRead v n next texts old counts → n < 256
+pub ArePagesRead-more : (v : Version) (n next : ℕ) (texts : List (List ℕ)) (text : List ℕ) (old new : List BornTuple) (counts : List ℕ) (count : ℕ) → ArePagesRead v n next texts old counts → n < 256
     → get_or texts n [] ≡ text → IsPageRead v n next text old new → count ≡ length (on_page n new) → ArePagesRead v (n + 1) next texts new (set counts n count)
 ArePagesRead-more v n next texts text old new counts count h l is read counted = record {
   rising = read.rising;
@@ -83,7 +83,7 @@ ArePagesRead-more v n next texts text old new counts count h l is read counted =
 
 -- ---- all pages
 
-module _ (v : Version) (next : ℕ) (texts : List (List ℕ)) (es : List Entry) (counts : List ℕ) (h : ArePagesRead v 256 next texts es counts) where
+module _ (v : Version) (next : ℕ) (texts : List (List ℕ)) (es : List BornTuple) (counts : List ℕ) (h : ArePagesRead v 256 next texts es counts) where
   IsState-read : length es ≤ most_tuples v → IsState (record { version = v; entries = es; next = next })
   IsState-read few = record {
     rising = h.rising;
@@ -96,7 +96,7 @@ module _ (v : Version) (next : ℕ) (texts : List (List ℕ)) (es : List Entry) 
     tuples = all_from_pages (λ e. IsTuple e.1) es (λ page l. (h.valid page l).tuples);
   }
 
-  pub IsCounted-read : length es ≤ most_tuples v → IsCounted v es next counts
+  pub IsCounted-read : length es ≤ most_tuples v → PagesAreCounted v es next counts
   IsCounted-read few = record { state = IsState-read few; counted = λ page l. h.counted page l ∙ sym (page_count-on_page es page) }
 
   pub ArePagesOf-read : length es ≤ most_tuples v → ArePagesOf v next texts (record { version = v; entries = es; next = next })
@@ -109,7 +109,7 @@ module _ (v : Version) (next : ℕ) (texts : List (List ℕ)) (es : List Entry) 
       let fits = on_page_fits s page of.state (subst (λ n. n < 2 ^ 64) (sym of.same_next) l) in
       entries_same v (on_page page es) (on_page page s.entries) (IsPage-fits page next (on_page page es) l (h.valid page m)) fits (sym (h.spelled page m) ∙ of.each page m ∙ ap (λ w. entries_text w (on_page page s.entries)) of.version))
 
-pub ArePages-read : (texts : List (List ℕ)) (header : List ℕ) (s : SpaceState) (v : Version) (number next : ℕ) → length texts ≡ 256 → IsHeader header v number next → ArePagesOf v next texts s → ArePages texts header s number
+pub ArePages-read : (texts : List (List ℕ)) (header : List ℕ) (s : SpaceState) (v : Version) (number next : ℕ) → length texts ≡ 256 → IsHeader header v number next → ArePagesOf v next texts s → ArePagesOfTuples texts header s number
 ArePages-read texts header s v number next all head of =
     let same = of.same_next in
     let births = head.births in
@@ -122,7 +122,7 @@ ArePages-read texts header s v number next all head of =
     }
 
 -- what one state's pages are, no other's are
-pub ArePages-one : (texts : List (List ℕ)) (header : List ℕ) (s t : SpaceState) (m n : ℕ) → ArePages texts header s m → ArePages texts header t n → (s ≡ t) × (m ≡ n)
+pub ArePages-one : (texts : List (List ℕ)) (header : List ℕ) (s t : SpaceState) (m n : ℕ) → ArePagesOfTuples texts header s m → ArePagesOfTuples texts header t n → (s ≡ t) × (m ≡ n)
 ArePages-one texts header s t m n h k =
     let d = pages_determine s t m n h.state k.state (sym h.heading ∙ k.heading) (λ page l. sym (h.each page l) ∙ k.each page l) in
     (d.1, d.0)

@@ -7,8 +7,8 @@ use Rattle.std.proofs.lemmas.List.Elements.{All-head}
 use Rattle.tuple_tree.specs.Values.{TupleTree}
 use Rattle.tuple_codec.specs.Operations.{Operation, out, rdp, inp, cas, rd_all, in_all, upgrade}
 use Rattle.space.specs.Applying.{refuses, has_room, first_match}
-use Rattle.space.specs.Births.{Entry, SpaceState, birth_of, page_count, tuples_of, with_birth, with_tuple, served_state, state_after}
-use Rattle.space.specs.Pages.{entries_text, on_page, page_text, text_of_oldest}
+use Rattle.space.specs.Births.{BornTuple, SpaceState, birth_of, page_count, tuples_of, with_birth, with_tuple, served_state, state_after}
+use Rattle.space.specs.Pages.{entries_text, on_page, tuple_page_text, text_of_oldest}
 use Rattle.space.specs.Marking.{MarksChanged}
 use Rattle.space.specs.Watching.{WatchedState, is_changed, written_on, is_touched, written_text, served_births, touched_births, served_changes, changed_births, IsWatched, KeepsWritten, MayChange, TouchesChanges, TouchesOnly}
 use Rattle.space.proofs.Changing.{page_with_tuple, page_swapped, one_of_all, on_or_off, unmarked, marked}
@@ -37,7 +37,7 @@ page_same s client o page h = go (refuses s.version client o) h
 
 record IsGrown (page : ℕ) (s s' : SpaceState) : Type 0 where
   pub version : s'.version ≡ s.version
-  pub more : List Entry
+  pub more : List BornTuple
   pub all : on_page page s'.entries ≡ on_page page s.entries ++ more
 
 not_grown : (page : ℕ) (s s' : SpaceState) → s'.version ≡ s.version → on_page page s'.entries ≡ on_page page s.entries → IsGrown page s s'
@@ -118,7 +118,7 @@ is_untouched w page h e =
     (not_from_true (written_on w page == page_count w.state.entries page) (eq-eqb (written_on w page) (page_count w.state.entries page) e))
 
 -- The text of an untouched page is what was written of it.
-pub written_whole : (w : WatchedState) (page : ℕ) → is_touched w page ≡ false → (is_changed w page ≡ false) × (written_text w page ≡ page_text w.state page)
+pub written_whole : (w : WatchedState) (page : ℕ) → is_touched w page ≡ false → (is_changed w page ≡ false) × (written_text w page ≡ tuple_page_text w.state page)
 written_whole w page h = let u = untouched w page h in (u.0, oldest_are_all w.state page (written_on w page) u.1)
 
 module _
@@ -150,17 +150,17 @@ module _
     pub keeps_written : {T E : Type 0} (r : Result T E) → OnOk r (new.state ≡ state_after old.state client o) → OnErr r (new.state ≡ old.state) → KeepsWritten old new
     keeps_written r ok err page l none =
         let a = after r ok err page l none in
-        let xs : List Entry = on_page page old.state.entries in
+        let xs : List BornTuple = on_page page old.state.entries in
         let n : ℕ = written_on old page in
         let few : n ≤ length xs = omega (arith, was page l a.0, length-on_page page old.state.entries) in (
           a.0,
           ap (λ (k : ℕ). text_of_oldest new.state page k) (as_written page)
-              ∙ ap (λ (ys : List Entry). entries_text new.state.version (take n ys)) a.1.all
+              ∙ ap (λ (ys : List BornTuple). entries_text new.state.version (take n ys)) a.1.all
               ∙ ap (entries_text new.state.version) (take-append-le n xs a.1.more few)
               ∙ ap (λ v. entries_text v (take n xs)) a.1.version,
         )
 
-    no_more : (more : List Entry) → length more ≡ 0 → more ≡ []
+    no_more : (more : List BornTuple) → length more ≡ 0 → more ≡ []
     no_more [] e = refl
     no_more (x ∷ xs) e = absurd (omega (arith, e))
 
@@ -173,7 +173,7 @@ module _
         let all : written_on old page ≡ page_count old.state.entries page = omega (arith, as_written page, u.1, counted, few) in
         let none_more : length a.1.more ≡ 0 = omega (arith, as_written page, u.1, counted, few) in (
           is_untouched old page a.0 all,
-          ap (λ (ys : List Entry). entries_text new.state.version ys) (a.1.all ∙ ap (λ (ys : List Entry). on_page page old.state.entries ++ ys) (no_more a.1.more none_more) ∙ append-nil (on_page page old.state.entries))
+          ap (λ (ys : List BornTuple). entries_text new.state.version ys) (a.1.all ∙ ap (λ (ys : List BornTuple). on_page page old.state.entries ++ ys) (no_more a.1.more none_more) ∙ append-nil (on_page page old.state.entries))
               ∙ ap (λ v. entries_text v (on_page page old.state.entries)) a.1.version,
         )
 

@@ -9,8 +9,8 @@ use Rattle.std.proofs.lemmas.Bool.{cases_lt, cases_eq, ne_eqb, le-ltb, lt-ltb}
 use Rattle.std.proofs.lemmas.List.Elements.{All-head, All-tail, All-cons}
 use Rattle.tuple_tree.specs.Values.{TupleTree}
 use Rattle.space.specs.Applying.{without_first}
-use Rattle.space.specs.Births.{Entry}
-use Rattle.space.specs.Reading.{IsPlace, IsAdded}
+use Rattle.space.specs.Births.{BornTuple}
+use Rattle.space.specs.Reading.{IsPlaceOfBirth, TupleIsAdded}
 use Rattle.space.proofs.Filing.{at_same, at_other}
 use Rattle.space.proofs.Listing.{found_at, found_none, removed_at, position-first}
 use Rattle.space.proofs.Placing.{IsAdded-insert}
@@ -24,14 +24,14 @@ pub less : (a b : ℕ) → a < b → nat_cmp a b ≡ Less
 less a b l = ap (λ t. cond t Less (cond (a == b) Equal Greater)) (lt-ltb a b l)
 
 -- the newest birth goes to the end
-pub inserted_last : (es : List Entry) (b : ℕ) (t : TupleTree) → All (λ e. e.0 < b) es → insert_entry nat_cmp es b t ≡ es ++ (b, t) ∷ []
+pub inserted_last : (es : List BornTuple) (b : ℕ) (t : TupleTree) → All (λ e. e.0 < b) es → insert_entry nat_cmp es b t ≡ es ++ (b, t) ∷ []
 inserted_last [] b t h = refl
 inserted_last (x ∷ xs) b t h =
     ap (λ o. match_ordering o ((b, t) ∷ x ∷ xs) ((x.0, t) ∷ xs) (x ∷ insert_entry nat_cmp xs b t)) (greater b x.0 (All-head (λ e. e.0 < b) x xs h))
     ∙ ap (λ ys. x ∷ ys) (inserted_last xs b t (All-tail (λ e. e.0 < b) x xs h))
 
 -- a birth is taken by its place
-pub removed_by_place : (es : List Entry) (i b : ℕ) (d : Entry) → AllPairs (λ e f. e.0 < f.0) es → i < length es → (get_or es i d).0 ≡ b → remove_entry (is_at (nat_cmp b)) es ≡ remove es i
+pub removed_by_place : (es : List BornTuple) (i b : ℕ) (d : BornTuple) → AllPairs (λ e f. e.0 < f.0) es → i < length es → (get_or es i d).0 ≡ b → remove_entry (is_at (nat_cmp b)) es ≡ remove es i
 removed_by_place [] i b d h l is = absurd (omega arith)
 removed_by_place (x ∷ xs) zero b d h l is =
     let here : x.0 ≡ b = is in
@@ -44,8 +44,8 @@ removed_by_place (x ∷ xs) (suc i) b d h l is =
     ∙ ap (λ ys. x ∷ ys) (removed_by_place xs i b d (λ j k e m n. h (suc j) (suc k) e (omega arith) (omega arith)) (omega arith) here)
 
 -- a new birth goes to its place
-pub placed : (es : List Entry) (b : ℕ) (t : TupleTree) → AllPairs (λ e f. e.0 < f.0) es → All (λ e. e.0 ≢ b) es
-    → (place : ℕ) × ((insert_entry nat_cmp es b t ≡ insert es place (b, t)) × IsPlace es b place)
+pub placed : (es : List BornTuple) (b : ℕ) (t : TupleTree) → AllPairs (λ e f. e.0 < f.0) es → All (λ e. e.0 ≢ b) es
+    → (place : ℕ) × ((insert_entry nat_cmp es b t ≡ insert es place (b, t)) × IsPlaceOfBirth es b place)
 placed [] b t h other = (0, (refl, record { bound = omega arith; before = λ k d l. absurd (omega arith); behind = λ k d l. absurd (omega arith) }))
 placed (x ∷ xs) b t h other =
     elim (cases_lt b x.0) [
@@ -78,19 +78,19 @@ placed (x ∷ xs) b t h other =
           )
     ]
 
-pub IsAdded-inserted : (es : List Entry) (e : Entry) → AllPairs (λ e f. e.0 < f.0) es → All (λ x. x.0 % 256 ≡ e.0 % 256 → x.0 < e.0) es → IsAdded es (insert_entry nat_cmp es e.0 e.1) e
+pub IsAdded-inserted : (es : List BornTuple) (e : BornTuple) → AllPairs (λ e f. e.0 < f.0) es → All (λ x. x.0 % 256 ≡ e.0 % 256 → x.0 < e.0) es → TupleIsAdded es (insert_entry nat_cmp es e.0 e.1) e
 IsAdded-inserted es e h latest =
     let other : All (λ x. x.0 ≢ e.0) es = λ k d l same. let m = latest k d l (ap (λ n. n % 256) same) in omega arith in
     let p = placed es e.0 e.1 h other in
-    subst (λ xs. IsAdded es xs e) (sym p.1.0) (IsAdded-insert es e p.0 h latest p.1.1)
+    subst (λ xs. TupleIsAdded es xs e) (sym p.1.0) (IsAdded-insert es e p.0 h latest p.1.1)
 
 -- the first entry that passes has a place, and is taken there
-pub record IsTaken (es rest : List Entry) (e : Entry) (i : ℕ) : Type 0 where
+pub record IsTaken (es rest : List BornTuple) (e : BornTuple) (i : ℕ) : Type 0 where
   pub within : i < length es
   pub here : e ≡ get_or es i e
   pub left : rest ≡ remove es i
 
-pub first_taken : (test : Entry → Bool) (es : List Entry) (e : Entry) → find test es ≡ Some e → (i : ℕ) × IsTaken es (without_first test es) e i
+pub first_taken : (test : BornTuple → Bool) (es : List BornTuple) (e : BornTuple) → find test es ≡ Some e → (i : ℕ) × IsTaken es (without_first test es) e i
 first_taken test es e h = go (position test es) refl
   where
     go : (o : Option ℕ) → position test es ≡ o → (i : ℕ) × IsTaken es (without_first test es) e i

@@ -4,8 +4,8 @@ use Rattle.std.specs.Coded.{Coded, code_by, coded×, coded_list, coded_ℕ}
 use Rattle.space.specs.Applying.{without_first}
 
 -- the births without this one
-abbrev pub without : ℕ → List ℕ → List ℕ
-without birth births = without_first (λ other. other == birth) births
+abbrev pub births_without : ℕ → List ℕ → List ℕ
+births_without birth births = without_first (λ other. other == birth) births
 
 -- each birth is above those before it
 abbrev pub AreRising : List ℕ → Type 0

@@ -9,12 +9,12 @@ use Rattle.space.specs.declared.tuples.PeekFault.{PeekFault}
 use Rattle.space.specs.declared.tuples.PeekFault.TheVariants.{NotReadOnly, NoMemory}
 
 -- The answer is that of the state to the client's operation, unless there is none.
-abbrev pub Answers : {A E : Type 0} → Result (Answer A) E → SpaceState → ℕ → Operation → Type 0
-Answers result s client o = IfOk result (λ answer. outcome_of answer ≡ outcome (tuples_of s) client o)
+abbrev pub AnswersOperation : {A E : Type 0} → Result (Answer A) E → SpaceState → ℕ → Operation → Type 0
+AnswersOperation result s client o = IfOk result (λ answer. outcome_of answer ≡ outcome (tuples_of s) client o)
 
 -- So it is to the operation of each client.
 abbrev pub AnswersAnyone : {A E : Type 0} → Result (Answer A) E → SpaceState → Operation → Type 0
-AnswersAnyone result s o = (client : ℕ) → Answers result s client o
+AnswersAnyone result s o = (client : ℕ) → AnswersOperation result s client o
 
 -- The operation is refused as one that changes something, exactly if it is one.
 abbrev pub RefusesChanges : {V : Type 0} → Result V PeekFault → Operation → Type 0

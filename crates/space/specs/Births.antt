@@ -13,13 +13,13 @@ use Rattle.space.specs.declared.version.Version.{Version}
 use Rattle.space.specs.declared.version.Version.TheVariants as versions
 
 -- a birth number and its tuple
-abbrev pub Entry : Type 0
-Entry = ℕ × TupleTree
+abbrev pub BornTuple : Type 0
+BornTuple = ℕ × TupleTree
 
 -- the version, the stored tuples, the oldest first, and the least number that a new one may take
 pub record SpaceState : Type 0 where
   pub version : Version
-  pub entries : List Entry
+  pub entries : List BornTuple
   pub next : ℕ
 
 -- the state of a new space of this version
@@ -34,11 +34,11 @@ abbrev pub tuples_of : SpaceState → Contents
 tuples_of s = record { version = s.version; tuples = map (λ e. e.1) s.entries }
 
 -- how many tuples lie on a page
-abbrev pub page_count : List Entry → ℕ → ℕ
+abbrev pub page_count : List BornTuple → ℕ → ℕ
 page_count es page = count_by (λ e. e.0 % PAGES == page) es
 
 -- whether the page of a birth number has room
-abbrev pub has_page_room : List Entry → ℕ → Bool
+abbrev pub has_page_room : List BornTuple → ℕ → Bool
 has_page_room es birth = nat_lt (page_count es (birth % PAGES)) MAX_ON_PAGE
 
 -- the first of the n numbers from start on that passes the test, else the number after them
@@ -67,7 +67,7 @@ abbrev pub upgraded : SpaceState → SpaceState
 upgraded s = record s { version = versions.Two }
 
 -- the births of the n oldest tuples that the template matches
-abbrev pub oldest_births : ℕ → TemplateTree → List Entry → List ℕ
+abbrev pub oldest_births : ℕ → TemplateTree → List BornTuple → List ℕ
 oldest_births n p es = take n (map (λ e. e.0) (filter (λ e. is_match p e.1) es))
 
 -- the state that an operation leaves that is not refused
@@ -93,8 +93,8 @@ abbrev pub state_after_asked : SpaceState → Asked → SpaceState
 state_after_asked s x = state_after s x.client x.op
 
 -- One state comes after the other by the client's operation.
-abbrev pub Follows : SpaceState → SpaceState → ℕ → Operation → Type 0
-Follows old new client o = new ≡ state_after old client o
+abbrev pub StateFollows : SpaceState → SpaceState → ℕ → Operation → Type 0
+StateFollows old new client o = new ≡ state_after old client o
 
 -- So do their tuples, births aside.
 abbrev pub TuplesFollow : SpaceState → SpaceState → ℕ → Operation → Type 0
@@ -122,5 +122,5 @@ pub record IsNextBirth (s : SpaceState) (birth : ℕ) : Type 0 where
 -- a state as its fields
 abbrev pub space_code : Coded SpaceState
 space_code =
-    code_by (Version × (List Entry × ℕ)) (coded× version_code (coded× (coded_list (coded× coded_ℕ tuple_code)) coded_ℕ))
+    code_by (Version × (List BornTuple × ℕ)) (coded× version_code (coded× (coded_list (coded× coded_ℕ tuple_code)) coded_ℕ))
     (λ s. (s.version, (s.entries, s.next))) (λ p. record { version = p.0; entries = p.1.0; next = p.1.1 }) (λ _. refl)

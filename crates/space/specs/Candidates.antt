@@ -1,12 +1,12 @@
 -- Which stored tuples a template may match, by their number of values and their first value.
 use Rattle.std.specs.Prelude.{ℕ, Bool, true, ◌&&◌, ◌==◌, List, map, filter}
-use Rattle.tuple_tree.specs.Items.{Item, leaf, inner, none, item, how_many}
+use Rattle.tuple_tree.specs.Items.{TreeItem, leaf, inner, none, item, how_many}
 use Rattle.tuple_tree.specs.Values.{Slot, actual, any, formal, TupleTree, TemplateTree}
 use Rattle.template_match.specs.Tests.{is_datum}
 use Rattle.space.specs.Births.{SpaceState}
 
 -- An actual value is the first one of the tuple; any other field leaves the first value open.
-abbrev pub fits_field : Item Slot → TupleTree → Bool
+abbrev pub fits_field : TreeItem Slot → TupleTree → Bool
 fits_field (leaf (actual x)) none = true
 fits_field (leaf (actual x)) (item v t) = is_datum x v
 fits_field (leaf any) t = true

@@ -5,8 +5,8 @@ use Rattle.std.specs.HashMap.{get_by}
 use Rattle.space.specs.declared.births.TheConstants.{PAGES}
 use Rattle.tuple_tree.specs.Items.{how_many}
 use Rattle.tuple_tree.specs.Values.{TemplateTree, IsTuple}
-use Rattle.space.specs.Ages.{without, AreRising, ListedBirths}
-use Rattle.space.specs.Births.{Entry}
+use Rattle.space.specs.Ages.{births_without, AreRising, ListedBirths}
+use Rattle.space.specs.Births.{BornTuple}
 use Rattle.space.specs.Candidates.{is_candidate}
 use Rattle.space.specs.KeyBirths.{births_of}
 use Rattle.space.specs.Keys.{tuple_key}
@@ -40,29 +40,29 @@ abbrev pub room_in : BirthTable → ℕ → ℕ
 room_in table n = (slice_index_or table.lists.items n no_list).room
 
 -- the births of the entries that pass a test
-abbrev pub births_by : (Entry → Bool) → List Entry → List ℕ
+abbrev pub births_by : (BornTuple → Bool) → List BornTuple → List ℕ
 births_by test es = map (λ e. e.0) (filter test es)
 
 -- Each entry is listed under its key, in order of age.
-abbrev pub IsFiled : (Entry → List ℕ) → Lists → List Entry → Type 0
+abbrev pub IsFiled : (BornTuple → List ℕ) → Lists → List BornTuple → Type 0
 IsFiled key_of l es = (key : List ℕ) → births_at l key ≡ births_by (λ e. bytes_eq (key_of e) key) es
 
 -- Each entry is listed under its number, in order of age.
-abbrev pub IsNumbered : (Entry → ℕ) → BirthTable → List Entry → Type 0
-IsNumbered number_of table es = (n : ℕ) → births_in table n ≡ births_by (λ e. number_of e == n) es
+abbrev pub IsFiledByNumber : (BornTuple → ℕ) → BirthTable → List BornTuple → Type 0
+IsFiledByNumber number_of table es = (n : ℕ) → births_in table n ≡ births_by (λ e. number_of e == n) es
 
-abbrev pub page_number : Entry → ℕ
+abbrev pub page_number : BornTuple → ℕ
 page_number e = e.0 % PAGES
 
-abbrev pub value_count : Entry → ℕ
+abbrev pub value_count : BornTuple → ℕ
 value_count e = how_many e.1
 
-abbrev pub first_key : Entry → List ℕ
+abbrev pub first_key : BornTuple → List ℕ
 first_key e = tuple_key e.1
 
-pub record IsIndexOf (index : Index) (es : List Entry) : Type 0 where
-  pub pages : IsNumbered page_number index.pages es
-  pub lengths : IsNumbered value_count index.lengths es
+pub record IsIndexOf (index : Index) (es : List BornTuple) : Type 0 where
+  pub pages : IsFiledByNumber page_number index.pages es
+  pub lengths : IsFiledByNumber value_count index.lengths es
   pub firsts : IsFiled first_key index.firsts es
 
 -- a birth is listed, the newest one, under a key
@@ -74,7 +74,7 @@ AddsBirth key birth old new =
 abbrev pub TakesBirth : List ℕ → ℕ → Lists → Lists → Type 0
 TakesBirth key birth old new =
     AreRising (births_at old key)
-    → (q : List ℕ) → births_at new q ≡ (if bytes_eq key q then without birth (births_at old q) else births_at old q)
+    → (q : List ℕ) → births_at new q ≡ (if bytes_eq key q then births_without birth (births_at old q) else births_at old q)
 
 -- under each key stands what stood there
 abbrev pub KeepsBirths : Lists → Lists → Type 0
@@ -92,33 +92,33 @@ AddsInTable number birth old new =
 abbrev pub TakesFromTable : ℕ → ℕ → BirthTable → BirthTable → Type 0
 TakesFromTable number birth old new =
     AreRising (births_in old number)
-    → (n : ℕ) → births_in new n ≡ (if number == n then without birth (births_in old n) else births_in old n)
+    → (n : ℕ) → births_in new n ≡ (if number == n then births_without birth (births_in old n) else births_in old n)
 
 abbrev pub KeepsTable : BirthTable → BirthTable → Type 0
 KeepsTable old new = (n : ℕ) → births_in new n ≡ births_in old n
 
 -- an index of entries becomes that of these and a newest one
-abbrev pub Files : Entry → Index → Index → Type 0
-Files e old new = (es : List Entry) → IsIndexOf old es → IsIndexOf new (es ++ e ∷ [])
+abbrev pub FilesEntry : BornTuple → Index → Index → Type 0
+FilesEntry e old new = (es : List BornTuple) → IsIndexOf old es → IsIndexOf new (es ++ e ∷ [])
 
 -- an index of entries stays one of them
 abbrev pub FilesNothing : Index → Index → Type 0
-FilesNothing old new = (es : List Entry) → IsIndexOf old es → IsIndexOf new es
+FilesNothing old new = (es : List BornTuple) → IsIndexOf old es → IsIndexOf new es
 
 -- an index of entries becomes that of these without one of them
-abbrev pub Unfiles : Entry → Index → Index → Type 0
-Unfiles e old new =
-    (es : List Entry) (i : ℕ) → AllPairs (λ e f. e.0 < f.0) es → i < length es → e ≡ slice_index_or es i e
+abbrev pub UnfilesEntry : BornTuple → Index → Index → Type 0
+UnfilesEntry e old new =
+    (es : List BornTuple) (i : ℕ) → AllPairs (λ e f. e.0 < f.0) es → i < length es → e ≡ slice_index_or es i e
     → IsIndexOf old es → IsIndexOf new (remove es i)
 
 -- the births of a page
-abbrev pub births_on : ℕ → List Entry → List ℕ
+abbrev pub births_on : ℕ → List BornTuple → List ℕ
 births_on page es = births_by (λ e. page_number e == page) es
 
 -- these births are those of the tuples that the template may match
-abbrev pub AreCandidates : TemplateTree → List ℕ → List Entry → Type 0
+abbrev pub AreCandidates : TemplateTree → List ℕ → List BornTuple → Type 0
 AreCandidates p births es = All (λ e. IsTuple e.1) es → births ≡ births_by (λ e. is_candidate p e.1) es
 
 -- they are so for all entries that the index is of
 abbrev pub FindsCandidates : TemplateTree → Index → List ℕ → Type 0
-FindsCandidates p index births = (es : List Entry) → IsIndexOf index es → AreCandidates p births es
+FindsCandidates p index births = (es : List BornTuple) → IsIndexOf index es → AreCandidates p births es

@@ -4,7 +4,7 @@ use Rattle.space.specs.declared.births.TheConstants.{PAGES}
 use Rattle.tuple_codec.specs.Operations.{Operation, is_read_only, IsOperation, IsOutcome}
 use Rattle.space.specs.Applying.{Contents, outcome, tuples_after}
 use Rattle.space.specs.Births.{SpaceState, IsState, Asked, state_after, state_after_asked, tuples_of}
-use Rattle.space.specs.Pages.{IsStateAt, page_text, header_text}
+use Rattle.space.specs.Pages.{IsStateAt, tuple_page_text, header_text}
 
 -- Each operation leaves a state.
 abbrev pub StatesStay : Type 0
@@ -24,14 +24,14 @@ ReadsKnowNoClient =
     → (outcome ts client o ≡ outcome ts other o) × (tuples_after ts client o ≡ ts)
 
 -- States are equal if their pages and headers are, and so are the numbers of batches.
-abbrev pub PagesDetermine : Type 0
-PagesDetermine =
+abbrev pub PagesDetermineSpace : Type 0
+PagesDetermineSpace =
     (s t : SpaceState) (m n : ℕ) → IsStateAt s m → IsStateAt t n → header_text s m ≡ header_text t n
-    → ((page : ℕ) → page < PAGES → page_text s page ≡ page_text t page) → (m ≡ n) × (s ≡ t)
+    → ((page : ℕ) → page < PAGES → tuple_page_text s page ≡ tuple_page_text t page) → (m ≡ n) × (s ≡ t)
 
 -- A batch of at most 16 operations leaves a state after one more batch, while the numbers of batches last.
-abbrev pub BatchesLeaveStates : Type 0
-BatchesLeaveStates =
+abbrev pub BatchLeavesState : Type 0
+BatchLeavesState =
     (s : SpaceState) (number : ℕ) (os : List Asked) → IsStateAt s number
     → length os ≤ 16 → All (λ x. IsOperation x.op) os → number + 1 < 2 ^ 48
     → IsStateAt (fold state_after_asked s os) (number + 1)

@@ -10,7 +10,7 @@ use Rattle.tuple_tree.specs.Values.{TupleTree}
 use Rattle.tuple_tree.specs.Spelling.{string, tuple_spelling}
 use Rattle.tuple_codec.specs.declared.bad.Bad.{Bad}
 use Rattle.tuple_codec.specs.declared.bad.Bad.TheVariants.{NoMemory}
-use Rattle.space.specs.Births.{Entry, SpaceState, IsState}
+use Rattle.space.specs.Births.{BornTuple, SpaceState, IsState}
 use Rattle.space.specs.declared.version.Version.{Version}
 use Rattle.space.specs.declared.version.Version.TheVariants as versions
 
@@ -19,18 +19,18 @@ abbrev pub stored_text : Version → TupleTree → List ℕ
 stored_text versions.One t = tuple_spelling t
 stored_text versions.Two t = string (tuple_spelling t)
 
-abbrev pub entry_text : Version → Entry → List ℕ
+abbrev pub entry_text : Version → BornTuple → List ℕ
 entry_text v e = to_be_bytes w64 e.0 ++ stored_text v e.1
 
-abbrev pub entries_text : Version → List Entry → List ℕ
+abbrev pub entries_text : Version → List BornTuple → List ℕ
 entries_text v es = flat_map (entry_text v) es
 
 -- the tuples of a page, the oldest first
-unfoldable pub on_page : ℕ → List Entry → List Entry
+unfoldable pub on_page : ℕ → List BornTuple → List BornTuple
 on_page page es = filter (λ e. e.0 % PAGES == page) es
 
-abbrev pub page_text : SpaceState → ℕ → List ℕ
-page_text s page = entries_text s.version (on_page page s.entries)
+abbrev pub tuple_page_text : SpaceState → ℕ → List ℕ
+tuple_page_text s page = entries_text s.version (on_page page s.entries)
 
 -- the text of a page's oldest tuples, so many
 abbrev pub text_of_oldest : SpaceState → ℕ → ℕ → List ℕ
@@ -58,16 +58,16 @@ pub record MayBePages (texts : List (List ℕ)) (header : List ℕ) : Type 0 whe
   pub heading : (s : SpaceState) × (number : ℕ) × IsStateAt s number × (header ≡ header_text s number)
 
 -- The texts of pages 0 to 255 and the header are those of a state after so many executed batches.
-pub record ArePages (texts : List (List ℕ)) (header : List ℕ) (s : SpaceState) (number : ℕ) : Type 0 where
+pub record ArePagesOfTuples (texts : List (List ℕ)) (header : List ℕ) (s : SpaceState) (number : ℕ) : Type 0 where
   pub state : IsStateAt s number
   pub heading : header ≡ header_text s number
   pub all : length texts ≡ PAGES
-  pub each : (page : ℕ) → page < PAGES → slice_index_or texts page [] ≡ page_text s page
+  pub each : (page : ℕ) → page < PAGES → slice_index_or texts page [] ≡ tuple_page_text s page
 
 -- The state with these pages and this header is read, unless memory ran out.
 abbrev pub ReadsEachState : List (List ℕ) → List ℕ → Result (SpaceState × ℕ) Bad → Type 0
 ReadsEachState texts header result =
-    (s : SpaceState) (number : ℕ) → ArePages texts header s number
+    (s : SpaceState) (number : ℕ) → ArePagesOfTuples texts header s number
     → MatchResult result (λ x. (x.0 ≡ s) × (x.1 ≡ number)) (λ fault. fault ≡ NoMemory)
 
 -- the texts that slices lend

@@ -3,12 +3,12 @@ use Rattle.std.specs.Prelude.{◌≡◌, ◌≢◌, ℕ, true, List, length, sli
 use Rattle.std.specs.Ordering.{nat_cmp}
 use Rattle.std.specs.Map.{lookup}
 use Rattle.std.specs.BTreeMap.{is_at}
-use Rattle.tuple_tree.specs.Items.{Item, leaf, inner, as_list}
+use Rattle.tuple_tree.specs.Items.{TreeItem, leaf, inner, as_list}
 use Rattle.tuple_tree.specs.Values.{Datum, number, text, bytes, truth, wide, kind_of, TupleTree, TemplateTree}
 use Rattle.tuple_tree.specs.declared.atoms.Kind.{Kind}
 use Rattle.tuple_tree.specs.declared.atoms.Kind.TheVariants as kinds
 use Rattle.template_match.specs.Tests.{is_match}
-use Rattle.space.specs.Births.{Entry}
+use Rattle.space.specs.Births.{BornTuple}
 use Rattle.space.specs.declared.prints.Label.{Label}
 use Rattle.space.specs.declared.prints.Wanted.{Wanted}
 use Rattle.space.specs.declared.prints.Wanted.TheVariants.{Anything, First, Second}
@@ -21,7 +21,7 @@ datum_print (bytes s) = length s
 datum_print (truth b) = 0
 datum_print (wide n) = 0
 
-abbrev pub value_print : Option (Item Datum) → ℕ
+abbrev pub value_print : Option (TreeItem Datum) → ℕ
 value_print None = 0
 value_print (Some (leaf x)) = datum_print x
 value_print (Some (inner t)) = 0
@@ -36,7 +36,7 @@ abbrev pub tuple_print : TupleTree → ℕ
 tuple_print t = value_print (slice_get (as_list t) 1)
 
 -- the kind of the first value
-abbrev pub kind_first : Option (Item Datum) → Kind
+abbrev pub kind_first : Option (TreeItem Datum) → Kind
 kind_first None = kinds.Tuple
 kind_first (Some v) = kind_of v
 
@@ -44,7 +44,7 @@ abbrev pub first_kind : TupleTree → Kind
 first_kind t = kind_first (slice_get (as_list t) 0)
 
 -- what is told of an entry without a look at its tuple
-abbrev pub entry_label : Entry → Label
+abbrev pub entry_label : BornTuple → Label
 entry_label e = record { birth = e.0; second = tuple_print e.1; first = first_kind e.1 }
 
 -- A label tells something else than what is wanted.
@@ -55,9 +55,9 @@ IsUnlike (Second wanted) label = label.second ≢ wanted
 
 -- No tuple that the template matches has a label that tells something else.
 abbrev pub TellsMatches : TemplateTree → Wanted → Type 0
-TellsMatches p wanted = (e : Entry) → is_match p e.1 ≡ true → IsUnlike wanted (entry_label e) → ⊥
+TellsMatches p wanted = (e : BornTuple) → is_match p e.1 ≡ true → IsUnlike wanted (entry_label e) → ⊥
 
 -- A birth has no tuple, or one whose label tells something else than what is wanted.
-abbrev pub HasOtherLabel : Wanted → ℕ → List Entry → Type 0
+abbrev pub HasOtherLabel : Wanted → ℕ → List BornTuple → Type 0
 HasOtherLabel wanted birth es =
     (t : TupleTree) → lookup (is_at (nat_cmp birth)) es ≡ Some t → IsUnlike wanted (entry_label (birth, t))

@@ -6,17 +6,17 @@ use Rattle.space.specs.declared.births.TheConstants.{PAGES, BIRTHS_A_BATCH}
 use Rattle.tuple_tree.specs.Values.{TupleTree, IsTuple}
 use Rattle.tuple_codec.specs.declared.bad.Bad.{Bad}
 use Rattle.tuple_codec.specs.declared.bad.Bad.TheVariants.{NoMemory}
-use Rattle.space.specs.Births.{Entry, SpaceState, IsState}
-use Rattle.space.specs.Pages.{stored_text, entry_text, entries_text, on_page, page_text, version_byte}
+use Rattle.space.specs.Births.{BornTuple, SpaceState, IsState}
+use Rattle.space.specs.Pages.{stored_text, entry_text, entries_text, on_page, tuple_page_text, version_byte}
 use Rattle.space.specs.declared.version.Version.{Version}
 
 -- what can be written as an entry of a page
-pub record IsEntry (e : Entry) : Type 0 where
+pub record IsEntry (e : BornTuple) : Type 0 where
   pub fits : e.0 < 2 ^ 64
   pub tuple : IsTuple e.1
 
 -- an entry of this page whose birth is from least on and below next
-pub record IsEntryOf (page least next : ℕ) (e : Entry) : Type 0 where
+pub record IsEntryOf (page least next : ℕ) (e : BornTuple) : Type 0 where
   pub here : e.0 % PAGES ≡ page
   pub not_below : least ≤ e.0
   pub below : e.0 < next
@@ -40,14 +40,14 @@ ReadsStored v = ReadsBy (stored_text v) IsTuple
 abbrev pub ReadsEachStored : Version → List ℕ → Result (TupleTree × Bor (List ℕ)) Bad → Type 0
 ReadsEachStored v = ReadsEachBy (stored_text v) IsTuple
 
-abbrev pub ReadsSpelled : Version → (Entry → Type 0) → List ℕ → Result (Entry × Bor (List ℕ)) Bad → Type 0
+abbrev pub ReadsSpelled : Version → (BornTuple → Type 0) → List ℕ → Result (BornTuple × Bor (List ℕ)) Bad → Type 0
 ReadsSpelled v = ReadsBy (entry_text v)
 
-abbrev pub ReadsEach : Version → (Entry → Type 0) → List ℕ → Result (Entry × Bor (List ℕ)) Bad → Type 0
+abbrev pub ReadsEach : Version → (BornTuple → Type 0) → List ℕ → Result (BornTuple × Bor (List ℕ)) Bad → Type 0
 ReadsEach v = ReadsEachBy (entry_text v)
 
 -- the tuples of one page of a state
-pub record IsPage (page next : ℕ) (es : List Entry) : Type 0 where
+pub record IsPage (page next : ℕ) (es : List BornTuple) : Type 0 where
   pub rising : AllPairs (λ e f. e.0 < f.0) es
   pub below_next : All (λ e. e.0 < next) es
   pub here : All (λ e. e.0 % PAGES ≡ page) es
@@ -55,18 +55,18 @@ pub record IsPage (page next : ℕ) (es : List Entry) : Type 0 where
   pub tuples : All (λ e. IsTuple e.1) es
 
 -- where a birth belongs among births that rise
-pub record IsPlace (es : List Entry) (birth place : ℕ) : Type 0 where
+pub record IsPlaceOfBirth (es : List BornTuple) (birth place : ℕ) : Type 0 where
   pub bound : place ≤ length es
   pub before : All (λ e. e.0 < birth) (take place es)
   pub behind : All (λ e. birth ≤ e.0) (drop place es)
 
 -- one entry more, the last on its page, and none moved on any page
-pub record IsAdded (old new : List Entry) (e : Entry) : Type 0 where
+pub record TupleIsAdded (old new : List BornTuple) (e : BornTuple) : Type 0 where
   pub rising : AllPairs (λ e f. e.0 < f.0) new
   pub pages : (page : ℕ) → on_page page new ≡ on_page page old ++ on_page page (e ∷ [])
 
 -- the tuples of a page were added, by its text, to those of other pages
-pub record IsPageRead (v : Version) (page next : ℕ) (text : List ℕ) (old new : List Entry) : Type 0 where
+pub record IsPageRead (v : Version) (page next : ℕ) (text : List ℕ) (old new : List BornTuple) : Type 0 where
   pub rising : AllPairs (λ e f. e.0 < f.0) new
   pub valid : IsPage page next (on_page page new)
   pub spelled : text ≡ entries_text v (on_page page new)
@@ -74,7 +74,7 @@ pub record IsPageRead (v : Version) (page next : ℕ) (text : List ℕ) (old new
 
 -- the same of the front of the text: least is the least birth that may follow
 pub record IsFrontRead
-    (v : Version) (page next : ℕ) (text : List ℕ) (old new : List Entry) (rest : List ℕ) (count least : ℕ)
+    (v : Version) (page next : ℕ) (text : List ℕ) (old new : List BornTuple) (rest : List ℕ) (count least : ℕ)
     : Type 0 where
   pub rising : AllPairs (λ e f. e.0 < f.0) new
   pub valid : IsPage page next (on_page page new)
@@ -86,13 +86,13 @@ pub record IsFrontRead
 
 -- The tuples of the page were added, if it was read.
 abbrev pub ReadsPage : {V : Type 0}
-    → Version → ℕ → ℕ → List ℕ → Result V Bad → List Entry → List Entry → Type 0
+    → Version → ℕ → ℕ → List ℕ → Result V Bad → List BornTuple → List BornTuple → Type 0
 ReadsPage v page next text result old new = OnOk result (IsPageRead v page next text old new)
 
 -- The text of a page is refused for want of memory alone.
 abbrev pub ReadsEachPage : {V : Type 0} → Version → ℕ → ℕ → List ℕ → Result V Bad → Type 0
 ReadsEachPage v page next text result =
-    (es : List Entry) → IsPage page next es → text ≡ entries_text v es → IfErr result (λ fault. fault ≡ NoMemory)
+    (es : List BornTuple) → IsPage page next es → text ≡ entries_text v es → IfErr result (λ fault. fault ≡ NoMemory)
 
 -- a header of this version and these numbers
 pub record IsHeader (header : List ℕ) (v : Version) (number next : ℕ) : Type 0 where
@@ -102,7 +102,7 @@ pub record IsHeader (header : List ℕ) (v : Version) (number next : ℕ) : Type
 
 -- The first n of the pages were read: their tuples in the order of births, and how many lie on each page.
 pub record ArePagesRead
-    (v : Version) (n next : ℕ) (texts : List (List ℕ)) (es : List Entry) (counts : List ℕ)
+    (v : Version) (n next : ℕ) (texts : List (List ℕ)) (es : List BornTuple) (counts : List ℕ)
     : Type 0 where
   pub rising : AllPairs (λ e f. e.0 < f.0) es
   pub valid : (page : ℕ) → page < n → IsPage page next (on_page page es)
@@ -116,7 +116,7 @@ pub record ArePagesOf (v : Version) (next : ℕ) (texts : List (List ℕ)) (s : 
   pub state : IsState s
   pub version : s.version ≡ v
   pub same_next : s.next ≡ next
-  pub each : (page : ℕ) → page < PAGES → slice_index_or texts page [] ≡ page_text s page
+  pub each : (page : ℕ) → page < PAGES → slice_index_or texts page [] ≡ tuple_page_text s page
 
 -- The texts of all pages are refused for want of memory alone.
 abbrev pub ReadsAllPages : {V : Type 0} → Version → ℕ → List (List ℕ) → Result V Bad → Type 0

@@ -2,7 +2,7 @@
 use Rattle.std.specs.Prelude.{◌≡◌, ℕ, Result, IfOk}
 use Rattle.tuple_codec.specs.Operations.{Operation, Outcome, found, absent, all, refused}
 use Rattle.space.specs.Applying.{outcome, served_outcome}
-use Rattle.space.specs.Births.{SpaceState, Follows, TuplesFollow, tuples_of}
+use Rattle.space.specs.Births.{SpaceState, StateFollows, TuplesFollow, tuples_of}
 use Rattle.space.specs.Found.{lent_tuples}
 use Rattle.space.specs.declared.seen.Seen.{Seen}
 use Rattle.space.specs.declared.seen.Seen.TheVariants as seen
@@ -21,7 +21,7 @@ ShowsAnyone result s o =
 
 -- Whichever client asks for the operation, the state stays as it is.
 abbrev pub StaysAsAsked : SpaceState → Operation → Type 0
-StaysAsAsked s o = (client : ℕ) → Follows s s client o × TuplesFollow s s client o
+StaysAsAsked s o = (client : ℕ) → StateFollows s s client o × TuplesFollow s s client o
 
 -- ---- for private functions
 

@@ -6,7 +6,7 @@ use Rattle.space.specs.declared.births.TheConstants.{PAGES}
 use Rattle.tuple_codec.specs.Operations.{Operation, out, rdp, inp, cas, rd_all, in_all, upgrade}
 use Rattle.space.specs.Applying.{refuses}
 use Rattle.space.specs.Births.{SpaceState, space_code, birth_of, oldest_births, page_count}
-use Rattle.space.specs.Pages.{page_text, text_of_oldest}
+use Rattle.space.specs.Pages.{tuple_page_text, text_of_oldest}
 
 -- a space, which pages may have changed otherwise than by new tuples, and how many tuples lay on each when it was written
 pub record WatchedState : Type 0 where
@@ -62,7 +62,7 @@ MayChange s client o page = Contains (map (λ birth. birth % PAGES) (touched_bir
 abbrev pub TouchesChanges : WatchedState → WatchedState → Type 0
 TouchesChanges old new =
     (page : ℕ) → page < PAGES → is_touched new page ≡ false
-    → (is_touched old page ≡ false) × (page_text new.state page ≡ page_text old.state page)
+    → (is_touched old page ≡ false) × (tuple_page_text new.state page ≡ tuple_page_text old.state page)
 
 -- A page that is touched afterwards, and wasn't before, is one that the operation may change.
 abbrev pub TouchesOnly : WatchedState → WatchedState → ℕ → Operation → Type 0

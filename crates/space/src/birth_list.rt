@@ -1,7 +1,7 @@
 //! Births in order of age.
 
 ghost use Rattle.std.specs.Prelude.{◌≡◌, ◌<◌, ◌++◌, ◌∷◌, [], length, remove, OnOk, IfOk};
-ghost use Rattle.space.specs.Ages.{without, AreRising};
+ghost use Rattle.space.specs.Ages.{births_without, AreRising};
 
 use std::alloc::Global;
 use std::marker::Model;
@@ -76,7 +76,7 @@ impl BirthList {
 
     /// Takes a birth, if the list has it.
     pub fn remove(&mut self, birth: u64)
-        ensures { AreRising self.old.births → self.new.births ≡ without birth self.old.births }
+        ensures { AreRising self.old.births → self.new.births ≡ births_without birth self.old.births }
     {
         let births = self.as_slice();
         let place = births.partition_point(|other| *other < birth);

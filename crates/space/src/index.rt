@@ -3,8 +3,8 @@
 ghost use Rattle.std.specs.Prelude.{◌≡◌, ◌+◌, ◌/◌, ◌<◌, ◌≤◌, ◌%◌, [], List, OnOk, OnErr, IfOk};
 ghost use Rattle.tuple_tree.specs.Items.{whole_length};
 ghost use Rattle.tuple_tree.specs.Values.{slot_length};
-ghost use Rattle.space.specs.Births.{Entry};
-ghost use Rattle.space.specs.Filing.{births_on, IsIndexOf, AddsBirth, TakesBirth, KeepsBirths, Files, FilesNothing, Unfiles, FindsCandidates};
+ghost use Rattle.space.specs.Births.{BornTuple};
+ghost use Rattle.space.specs.Filing.{births_on, IsIndexOf, AddsBirth, TakesBirth, KeepsBirths, FilesEntry, FilesNothing, UnfilesEntry, FindsCandidates};
 ghost use Rattle.space.specs.Keys.{tuple_key};
 
 use crate::birth_table::BirthTable;
@@ -50,7 +50,7 @@ impl Index {
 
     /// Adds the newest tuple. The listed births stay at an `Err`.
     pub fn insert<A: Allocator>(&mut self, birth: u64, tuple: &Tuple<A>) -> Result<(), NoMemory>
-        ensures ok { OnOk result (Files (birth, tuple.now) self.old self.new) }
+        ensures ok { OnOk result (FilesEntry (birth, tuple.now) self.old self.new) }
         ensures err { OnErr result (FilesNothing self.old self.new) }
     {
         self.pages.reserve(page_of(birth))?;
@@ -65,7 +65,7 @@ impl Index {
     /// Takes a tuple. The list of its first value goes with the last birth, while the 256 pages and 33 lengths keep
     /// theirs.
     pub fn remove<A: Allocator>(&mut self, birth: u64, tuple: &Tuple<A>)
-        ensures { Unfiles (birth, tuple.now) self.old self.new }
+        ensures { UnfilesEntry (birth, tuple.now) self.old self.new }
     {
         self.pages.remove(page_of(birth), birth);
         self.lengths.remove(tuple.len(), birth);
@@ -74,7 +74,7 @@ impl Index {
 
     /// The births of a page, 0 to 255.
     pub fn on_page(&self, page: usize) -> &[u64]
-        ensures { (es : List Entry) → IsIndexOf self.now es → result.now ≡ births_on page es }
+        ensures { (es : List BornTuple) → IsIndexOf self.now es → result.now ≡ births_on page es }
     {
         self.pages.get(page)
     }

@@ -1,7 +1,7 @@
 //! The births of a key.
 
 ghost use Rattle.std.specs.Prelude.{◌≡◌, ◌++◌, ◌∷◌, [], IfOk, OnOk, OnErr};
-ghost use Rattle.space.specs.Ages.{without, AreRising};
+ghost use Rattle.space.specs.Ages.{births_without, AreRising};
 ghost use Rattle.space.specs.KeyBirths.{births_of};
 
 use crate::birth_list::BirthList;
@@ -48,7 +48,7 @@ impl KeyBirths {
 
     /// Takes a birth, if it is there.
     pub fn remove(&mut self, birth: u64)
-        ensures { AreRising (births_of self.old) → births_of self.new ≡ without birth (births_of self.old) }
+        ensures { AreRising (births_of self.old) → births_of self.new ≡ births_without birth (births_of self.old) }
     {
         match self {
             KeyBirths::Empty => {}

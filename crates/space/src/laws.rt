@@ -3,7 +3,7 @@
 ghost use Rattle.std.specs.Prelude.{ℕ, ◌<◌, length};
 ghost use Rattle.tuple_codec.specs.Operations.{Operation};
 ghost use Rattle.space.specs.Births.{SpaceState, IsNextBirth, TuplesFollow, birth_of, empty_state, state_after};
-ghost use Rattle.space.specs.Laws.{StatesStay, AnswersAreValid, ReadsKnowNoClient, PagesDetermine, BatchesLeaveStates};
+ghost use Rattle.space.specs.Laws.{StatesStay, AnswersAreValid, ReadsKnowNoClient, PagesDetermineSpace, BatchLeavesState};
 ghost use Rattle.space.specs.Pages.{IsStateAt};
 
 /// A new tuple takes the least birth number whose page has room, and such a number is never far. The 256 pages hold
@@ -35,12 +35,12 @@ pub fn tuples_follow_states()
 
 /// States are equal if their pages and headers are.
 pub fn pages_determine()
-    ensures { PagesDetermine }
+    ensures { PagesDetermineSpace }
 {}
 
 /// A new space is a state before any batch. A batch of at most 16 operations leaves a state after one more batch, if
 /// fewer than 2^48 were executed.
 pub fn batches_leave_states()
     ensures new { IsStateAt empty_state 0 }
-    ensures more { BatchesLeaveStates }
+    ensures more { BatchLeavesState }
 {}

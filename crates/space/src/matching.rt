@@ -3,7 +3,7 @@
 ghost use Rattle.std.specs.Prelude.{◌≡◌, ◌≢◌, [], OnErr};
 ghost use Rattle.space.specs.Births.{oldest_births};
 ghost use Rattle.space.specs.Prints.{TellsMatches};
-ghost use Rattle.space.specs.Found.{IsMatchAt, IsOldest, IsOldestAt, AreOldestAt, AreOldestSeen, matches_at, entries_at, found_at};
+ghost use Rattle.space.specs.Found.{IsMatchAt, IsOldest, IsOldestAt, AreOldestAt, AreOldestSeen, matches_at, entries_at, entry_of_birth};
 
 use crate::prints::{Wanted, wanted_by};
 use crate::stored::Stored;
@@ -71,7 +71,7 @@ fn lone_match<'a, A: Allocator>(
     birth: u64,
     template: &Template<A>,
 ) -> Option<(u64, &'a Tuple<Global>)>
-    ensures { IsOldest template.now (found_at tuples.now.entries birth) result }
+    ensures { IsOldest template.now (entry_of_birth tuples.now.entries birth) result }
 {
     match tuples.get(birth) {
         Some(tuple) => {

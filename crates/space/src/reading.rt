@@ -3,7 +3,7 @@
 ghost use Rattle.std.specs.Prelude.{◌≡◌, ◌≢◌, ℕ, ◌+◌, ◌*◌, ◌^◌, ◌≤◌, ◌<◌, ◌%◌, ◌++◌, ◌∷◌, [], length, All, AllPairs, IfOk, OnOk, IfSome, IsSome};
 ghost use Rattle.std.specs.Int.{w64, to_be_bytes};
 ghost use Rattle.space.specs.Pages.{on_page};
-ghost use Rattle.space.specs.Reading.{IsEntry, IsEntryOf, IsAdded, IsHeader, ReadsStored, ReadsEachStored, ReadsSpelled, ReadsEach, ReadsPage, ReadsEachPage};
+ghost use Rattle.space.specs.Reading.{IsEntry, IsEntryOf, TupleIsAdded, IsHeader, ReadsStored, ReadsEachStored, ReadsSpelled, ReadsEach, ReadsPage, ReadsEachPage};
 
 use crate::births::{BIRTHS_A_BATCH, MAX_ON_PAGE, PAGES};
 use crate::pages::{HEADER_LEN, len_of, version_of};
@@ -101,7 +101,7 @@ fn add_entry(
 ) -> Result<(), NoMemory>
     requires rising { AllPairs (λ e f. e.0 < f.0) tuples.old.entries }
     requires latest { All (λ e. e.0 % PAGES ≡ entry.0 % PAGES → e.0 < entry.0) tuples.old.entries }
-    ensures { OnOk result (IsAdded tuples.old.entries tuples.new.entries entry) }
+    ensures { OnOk result (TupleIsAdded tuples.old.entries tuples.new.entries entry) }
 {
     match tuples.insert(entry.0, entry.1) {
         Ok(_) => Ok(()),

@@ -8,16 +8,16 @@ ghost use Rattle.std.specs.BTreeMap.{is_at};
 ghost use Rattle.tuple_tree.specs.Values.{IsTuple};
 ghost use Rattle.tuple_codec.specs.Operations.{rdp, inp, cas, rd_all, in_all};
 ghost use Rattle.tuple_codec.specs.OperationView.{operation_of, outcome_of};
-ghost use Rattle.space.specs.Answers.{Answers, AnswersAnyone, RefusesChanges, LacksMemory};
+ghost use Rattle.space.specs.Answers.{AnswersOperation, AnswersAnyone, RefusesChanges, LacksMemory};
 ghost use Rattle.space.specs.Candidates.{candidates_of};
 ghost use Rattle.space.specs.Applying.{served_outcome, first_match, has_room, most_tuples, is_unknown, is_forbidden, refuses};
 ghost use Rattle.space.specs.Seeing.{ShowsAnyone, ShowsServed, StaysAsAsked, outcome_seen};
 ghost use Rattle.space.specs.Serving.{AnswersServed, FollowsServed, WantsServed};
-ghost use Rattle.space.specs.Pages.{page_text, text_of_oldest, header_text, texts_of, ArePages, MayBePages, ReadsEachState};
+ghost use Rattle.space.specs.Pages.{tuple_page_text, text_of_oldest, header_text, texts_of, ArePagesOfTuples, MayBePages, ReadsEachState};
 ghost use Rattle.space.specs.Reading.{ArePagesOf, ReadsAllPages};
 ghost use Rattle.space.specs.Found.{IsOldest, without_birth, without_births};
 ghost use Rattle.space.specs.Marking.{MarksChanged, with_pages};
-ghost use Rattle.space.specs.Births.{IsState, Follows, TuplesFollow, WantsMemory, empty_state, empty_in, oldest_births, page_count, tuples_of, with_birth, with_tuple, without_match, without_matches, upgraded};
+ghost use Rattle.space.specs.Births.{IsState, StateFollows, TuplesFollow, WantsMemory, empty_state, empty_in, oldest_births, page_count, tuples_of, with_birth, with_tuple, without_match, without_matches, upgraded};
 
 use crate::births::{PAGES, empty_pages, next_birth};
 use crate::index::Index;
@@ -131,7 +131,7 @@ impl Space {
     /// NoMemory if memory runs out before that is seen. The number of texts and the header are judged first.
     pub fn from_pages(alloc: Global, pages: &[&[u8]], header: &[u8]) -> Result<(Space, u64), Bad>
         // The space that is read has these pages.
-        ensures found { IfOk result (λ x. ArePages (texts_of pages.now) header.now x.0 x.1) }
+        ensures found { IfOk result (λ x. ArePagesOfTuples (texts_of pages.now) header.now x.0 x.1) }
 
         // A wrong number of texts, or a header that is no state's, is refused as such.
         ensures memory { (result ≡ Err Bad.NoMemory) → MayBePages (texts_of pages.now) header.now }
@@ -204,7 +204,7 @@ impl Space {
     /// if memory runs out.
     pub fn page_text(&self, page: usize) -> Result<Vec<u8>, NoMemory>
         requires { page < PAGES }
-        ensures { IfOk result (λ text. text.items ≡ page_text self.now page) }
+        ensures { IfOk result (λ text. text.items ≡ tuple_page_text self.now page) }
     {
         self.page_text_behind(page, 0, &[])
     }
@@ -219,7 +219,7 @@ impl Space {
         requires page { page < PAGES }
         requires count { count ≤ page_count self.now.entries page }
         requires front { front.now ≡ text_of_oldest self.now page count }
-        ensures { IfOk result (λ text. text.items ≡ page_text self.now page) }
+        ensures { IfOk result (λ text. text.items ≡ tuple_page_text self.now page) }
     {
         let births = self.index.on_page(page);
         let others = births.split_at(count).1;
@@ -482,8 +482,8 @@ impl Space {
         op: &Op<A>,
     ) -> Result<Answer<Global>, NoMemory>
         requires { self.old.next < 2 ^ 62 }
-        ensures answer { Answers result self.old client (operation_of op.now) }
-        ensures state { OnOk result (Follows self.old self.new client (operation_of op.now)) }
+        ensures answer { AnswersOperation result self.old client (operation_of op.now) }
+        ensures state { OnOk result (StateFollows self.old self.new client (operation_of op.now)) }
         ensures tuples { OnOk result (TuplesFollow self.old self.new client (operation_of op.now)) }
         ensures valid { IsState self.new }
         ensures next { self.new.next ≤ self.old.next + PAGES }
@@ -524,8 +524,8 @@ impl Space {
 
     fn answer<A: Allocator>(&mut self, client: u16, op: &Op<A>) -> Result<Answer<Global>, NoMemory>
         requires { self.old.next < 2 ^ 62 }
-        ensures answer { Answers result self.old client (operation_of op.now) }
-        ensures state { OnOk result (Follows self.old self.new client (operation_of op.now)) }
+        ensures answer { AnswersOperation result self.old client (operation_of op.now) }
+        ensures state { OnOk result (StateFollows self.old self.new client (operation_of op.now)) }
         ensures memory { OnErr result (WantsMemory self.old (operation_of op.now)) }
         ensures err { OnErr result (self.new ≡ self.old) }
     {

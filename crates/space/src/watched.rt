@@ -2,9 +2,9 @@
 
 ghost use Rattle.std.specs.Prelude.{◌≡◌, ◌^◌, ◌<◌, ℕ, true, false, IfOk, OnOk, OnErr};
 ghost use Rattle.tuple_codec.specs.OperationView.{operation_of};
-ghost use Rattle.space.specs.Answers.{Answers};
-ghost use Rattle.space.specs.Births.{IsState, Follows, WantsMemory};
-ghost use Rattle.space.specs.Pages.{page_text};
+ghost use Rattle.space.specs.Answers.{AnswersOperation};
+ghost use Rattle.space.specs.Births.{IsState, StateFollows, WantsMemory};
+ghost use Rattle.space.specs.Pages.{tuple_page_text};
 ghost use Rattle.space.specs.Watching.{is_changed, is_touched, IsWrittenAs, KeepsWritten, TouchesChanges, TouchesOnly};
 
 use crate::births::{PAGES, empty_pages};
@@ -65,8 +65,8 @@ impl Watched {
         op: &Op<A>,
     ) -> Result<Answer<Global>, NoMemory>
         requires { self.old.state.next < 2 ^ 62 }
-        ensures answer { Answers result self.old.state client (operation_of op.now) }
-        ensures state { OnOk result (Follows self.old.state self.new.state client (operation_of op.now)) }
+        ensures answer { AnswersOperation result self.old.state client (operation_of op.now) }
+        ensures state { OnOk result (StateFollows self.old.state self.new.state client (operation_of op.now)) }
         ensures valid { IsState self.new.state }
         ensures memory { OnErr result (WantsMemory self.old.state (operation_of op.now)) }
         ensures err { OnErr result (self.new.state ≡ self.old.state) }
@@ -92,7 +92,7 @@ impl Watched {
     pub fn page_text(&self, page: usize, written: &[u8]) -> Result<Vec<u8>, NoMemory>
         requires page { page < PAGES }
         requires written { IsWrittenAs self.now page written.now }
-        ensures { IfOk result (λ text. text.items ≡ page_text self.now.state page) }
+        ensures { IfOk result (λ text. text.items ≡ tuple_page_text self.now.state page) }
     {
         if self.changed[page] {
             return self.space.page_text(page);

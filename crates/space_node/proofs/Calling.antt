@@ -9,7 +9,7 @@ use Rattle.protocol.proofs.Words.Elements.{each_append}
 use Rattle.events.specs.Outputs.{after_entries, entry_of}
 use Rattle.events.specs.declared.output.Output.{Output}
 use Rattle.events.specs.declared.output.Output.TheVariants as outputs
-use Rattle.space_node.specs.Calls.{AcceptNothing, Accepts, Begins, Called, Ends, GoesOn, IsQuiet, IsUnanswered, Refused}
+use Rattle.space_node.specs.Calls.{AcceptNothing, AcceptsSome, CallBegins, Called, CallEnds, CallGoesOn, IsQuiet, IsUnanswered, Refused}
 use Rattle.space_node.specs.Seats.{Seated}
 
 -- ---- quiet entries
@@ -22,7 +22,7 @@ behind_append : (es xs past : List Entry) → after_entries es (xs ++ past) ≡ 
 behind_append [] xs past = refl
 behind_append (e ∷ es) xs past = behind_append es (e ∷ xs) past
 
-quiet_output : (p : ℕ) (output : Output) → ¬ Accepts output → IsQuiet (entry_of p output)
+quiet_output : (p : ℕ) (output : Output) → ¬ AcceptsSome output → IsQuiet (entry_of p output)
 quiet_output p (outputs.Accepted timestamp answer) none = absurd (none tt)
 quiet_output p _ none = tt
 
@@ -46,7 +46,7 @@ unanswered (_ ∷ more) quiet = (tt, unanswered more quiet.1)
 
 pub begins : (old new : Seated) (k timestamp : ℕ) (op : Operation) (outs : List Output) (es : List Entry)
     → k ≡ old.party - 256 → timestamp ≡ suc (last_call old.history) → es ≡ Invoke k timestamp op ∷ map (entry_of old.party) outs → AcceptNothing outs
-    → new ≡ record { party = old.party; history = after_entries es old.history; stopped = false } → Begins old op new
+    → new ≡ record { party = old.party; history = after_entries es old.history; stopped = false } → CallBegins old op new
 begins old new k timestamp op outs es who when are none is =
     let invoke : Invoke k timestamp op ≡ Invoke (old.party - 256) (suc (last_call old.history)) op =
     ap (λ (j : ℕ). Invoke j timestamp op) who ∙ ap (λ (t : ℕ). Invoke (old.party - 256) t op) when in
@@ -61,7 +61,7 @@ begins old new k timestamp op outs es who when are none is =
     }
 
 pub goes_on : (old new : Seated) (input : Entry) (outs : List Output) (es : List Entry) → IsQuiet input → es ≡ input ∷ map (entry_of old.party) outs → AcceptNothing outs
-    → new ≡ record { party = old.party; history = after_entries es old.history; stopped = false } → GoesOn old new
+    → new ≡ record { party = old.party; history = after_entries es old.history; stopped = false } → CallGoesOn old new
 goes_on old new input outs es quiet are none is = record {
   more = after_entries (map (entry_of old.party) outs) (input ∷ []);
   quiet = each_behind IsQuiet (map (entry_of old.party) outs) (input ∷ []) (quiet_outputs old.party outs none) (quiet, tt);
@@ -73,7 +73,7 @@ goes_on old new input outs es quiet are none is = record {
 
 pub ends : (old new : Seated) (input : Entry) (timestamp : ℕ) (answer : Outcome) (es : List Entry) → IsQuiet input → timestamp ≡ last_call old.history
     → es ≡ input ∷ Accepted (old.party - 256) timestamp answer ∷ []
-    → new ≡ record { party = old.party; history = after_entries es old.history; stopped = false } → Ends old answer new
+    → new ≡ record { party = old.party; history = after_entries es old.history; stopped = false } → CallEnds old answer new
 ends old new input timestamp answer es quiet when are is = record {
   more = input ∷ [];
   quiet = (quiet, tt);
@@ -83,7 +83,7 @@ ends old new input timestamp answer es quiet when are is = record {
   running = ap (λ (s : Seated). s.stopped) is;
 }
 
-pub ends_later : (a b c : Seated) (answer : Outcome) → GoesOn a b → Ends b answer c → Ends a answer c
+pub ends_later : (a b c : Seated) (answer : Outcome) → CallGoesOn a b → CallEnds b answer c → CallEnds a answer c
 ends_later a b c answer first next = record {
   more = next.more ++ first.more;
   quiet = each_append IsQuiet next.more first.more next.quiet first.quiet;
@@ -95,7 +95,7 @@ ends_later a b c answer first next = record {
   running = next.running;
 }
 
-pub called : (a b c : Seated) (op : Operation) (answer : Outcome) → Begins a op b → Ends b answer c → Called a op answer c
+pub called : (a b c : Seated) (op : Operation) (answer : Outcome) → CallBegins a op b → CallEnds b answer c → Called a op answer c
 called a b c op answer first next =
     let invoke = Invoke (a.party - 256) (suc (last_call a.history)) op in
     record {
@@ -112,7 +112,7 @@ called a b c op answer first next =
 
 -- ---- how it is refused
 
-pub refused_call : (a b c : Seated) (op : Operation) → Begins a op b → Refused b c → Refused a c
+pub refused_call : (a b c : Seated) (op : Operation) → CallBegins a op b → Refused b c → Refused a c
 refused_call a b c op first next =
     let invoke = Invoke (a.party - 256) (suc (last_call a.history)) op in
     record {

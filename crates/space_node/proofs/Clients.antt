@@ -16,7 +16,7 @@ use Rattle.client_cert.specs.State.{ClientState, IsSpent}
 use Rattle.client_cert.specs.Fits.{Fits}
 use Rattle.client_cert.specs.Steps.{HistoryStaysRight}
 use Rattle.tuple_codec.specs.OperationView.{outcome_of}
-use Rattle.space_node.specs.Calls.{AcceptNothing, Begins, Comes, IsQuiet, MakesTurn, TurnsTo}
+use Rattle.space_node.specs.Calls.{AcceptNothing, CallBegins, SeatTakesTurn, IsQuiet, MakesTurn, IsTurnOf}
 use Rattle.space_node.specs.declared.turn.Turn.{Turn}
 use Rattle.space_node.specs.declared.turn.Turn.TheVariants as turns
 use Rattle.space_node.specs.declared.input.Input.{Input}
@@ -146,8 +146,8 @@ module _ (c : Configuration) (id calls : ℕ) (client later : ClientState) (shar
 -- ---- the consequence of an event
 
 pub comes : (old new : Seated) (id calls : ℕ) (input : Input) (outs : List Output) (es : List Entry) (turn : Turn) → old.party ≡ 256 + id → calls ≡ last_call old.history
-    → es ≡ input_of (256 + id) input ∷ map (entry_of (256 + id)) outs → TurnsTo calls outs turn
-    → new ≡ record { party = old.party; history = after_entries es old.history; stopped = false } → Comes old turn new
+    → es ≡ input_of (256 + id) input ∷ map (entry_of (256 + id)) outs → IsTurnOf calls outs turn
+    → new ≡ record { party = old.party; history = after_entries es old.history; stopped = false } → SeatTakesTurn old turn new
 comes old new id calls input outs es (turns.Waits given) who when are turned is =
     goes_on old new (input_of old.party input) outs es (quiet_input old.party input)
     (are ∙ ap (λ (p : ℕ). input_of p input ∷ map (entry_of p) outs) (sym who)) turned.1 is
@@ -158,7 +158,7 @@ comes old new id calls input outs es (turns.Answered answer) who when are turned
 
 pub begins_with : (old new : Seated) (id calls timestamp : ℕ) (op : Operation) (outs : List Output) (es : List Entry) → old.party ≡ 256 + id → calls ≡ last_call old.history → timestamp ≡ calls + 1
     → es ≡ Invoke id timestamp op ∷ map (entry_of (256 + id)) outs → AcceptNothing outs
-    → new ≡ record { party = old.party; history = after_entries es old.history; stopped = false } → Begins old op new
+    → new ≡ record { party = old.party; history = after_entries es old.history; stopped = false } → CallBegins old op new
 begins_with old new id calls timestamp op outs es who when next are none is =
     begins old new id timestamp op outs es (omega (arith, who)) (omega (arith, when, next))
     (are ∙ ap (λ (p : ℕ). Invoke id timestamp op ∷ map (entry_of p) outs) (sym who)) none is

@@ -9,7 +9,7 @@ use Rattle.quorum.specs.Quorum.{member}
 use Rattle.protocol.specs.System.Configuration.{Configuration, IsConfiguration, replicas, is_faulty_replica}
 use Rattle.events.proofs.Checked.{not_there, absent}
 use Rattle.space_node.specs.declared.drill.Drill.{Drill}
-use Rattle.space_node.specs.Drills.{AreOfFaulty, IsDrilled, MayStart, each_once, replicas_of}
+use Rattle.space_node.specs.Drills.{AreOfFaulty, IsDrilled, MayStart, are_faulty_once, replicas_of}
 use Rattle.space_node.specs.Runs.{IsFaultless}
 
 -- ---- members
@@ -23,21 +23,21 @@ above xs n x below high = absent xs x (λ k d l. λ same. let low = below k d l 
 
 -- ---- drills of faulty replicas alone
 
-pub of_faulty : (c : Configuration) (rs : List ℕ) → each_once c rs ≡ true → AreOfFaulty c rs
+pub of_faulty : (c : Configuration) (rs : List ℕ) → are_faulty_once c rs ≡ true → AreOfFaulty c rs
 of_faulty c [] e = (All-nil (λ r. is_faulty_replica c r ≡ true), λ i j d lt within. absurd (omega arith))
 of_faulty c (r ∷ rs) e =
-    let both = and_parts (is_faulty_replica c r && not (member rs r)) (each_once c rs) e in
+    let both = and_parts (is_faulty_replica c r && not (member rs r)) (are_faulty_once c rs) e in
     let first = and_parts (is_faulty_replica c r) (not (member rs r)) both.0 in
     let others = of_faulty c rs both.1 in (
       All-cons (λ r. is_faulty_replica c r ≡ true) r rs first.0 others.0,
       AllPairs-cons (λ a b. a ≢ b) r rs (not_there rs r (not-true (member rs r) first.1)) others.1,
     )
 
-pub once_of : (c : Configuration) (rs : List ℕ) → AreOfFaulty c rs → each_once c rs ≡ true
+pub once_of : (c : Configuration) (rs : List ℕ) → AreOfFaulty c rs → are_faulty_once c rs ≡ true
 once_of c [] are = refl
 once_of c (r ∷ rs) are =
     let others : All (λ s. r ≢ s) rs = λ k d l. are.1 0 (suc k) d (omega arith) (omega arith) in
-    and_from (is_faulty_replica c r && not (member rs r)) (each_once c rs)
+    and_from (is_faulty_replica c r && not (member rs r)) (are_faulty_once c rs)
     (and_from (is_faulty_replica c r) (not (member rs r)) (All-head (λ r. is_faulty_replica c r ≡ true) r rs are.0) (ap not (absent rs r others)))
     (once_of c rs (All-tail (λ r. is_faulty_replica c r ≡ true) r rs are.0, λ i j d lt within. are.1 (suc i) (suc j) d (omega arith) (omega arith)))
 
@@ -66,11 +66,11 @@ none_faulty c n valid high = above c.faulty_replicas (replicas c) n valid.replic
 
 -- ---- the whole test
 
-pub whole : (c : Configuration) (rs : List ℕ) (b : Bool) → c.faulty_clients ≡ [] → each_once c rs ≡ true → (IsTrue b ↔ IsDrilled c rs) → IsTrue b ↔ MayStart c rs
+pub whole : (c : Configuration) (rs : List ℕ) (b : Bool) → c.faulty_clients ≡ [] → are_faulty_once c rs ≡ true → (IsTrue b ↔ IsDrilled c rs) → IsTrue b ↔ MayStart c rs
 whole c rs b clients once is = (λ t. (clients, record { of_faulty = of_faulty c rs once; each = is.0 t }), λ may. is.1 may.1.each)
 
-pub not_once : (c : Configuration) (rs : List ℕ) → each_once c rs ≡ false → MayStart c rs → ⊥
-not_once c rs e may = let once : each_once c rs ≡ true = once_of c rs may.1.of_faulty in cc
+pub not_once : (c : Configuration) (rs : List ℕ) → are_faulty_once c rs ≡ false → MayStart c rs → ⊥
+not_once c rs e may = let once : are_faulty_once c rs ≡ true = once_of c rs may.1.of_faulty in cc
 
 -- ---- no drills
 

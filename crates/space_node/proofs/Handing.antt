@@ -4,10 +4,10 @@ use Rattle.std.specs.Prelude.{All, Contains, Some, slice_get}
 use Rattle.std.specs.List.{remove}
 use Rattle.std.proofs.lemmas.List.Elements.{All-contains, All-get_or, All-map}
 use Rattle.std.proofs.lemmas.Option.{get_or_from_slice_get, none-some, same_Some, slice_get_within}
-use Rattle.space_node.specs.Places.{HandleAt, HandsOut, Takes, parties_of}
+use Rattle.space_node.specs.Places.{HandleAt, HandsOut, PartyTakesHandle, parties_of}
 use Rattle.space_node.specs.Seats.{IsNew, Seated, new_seat}
 
-takes : (handles : List Seated) (at : ℕ) (s : Seated) → slice_get handles at ≡ Some s → Takes (parties_of handles) s.party (parties_of (remove handles at))
+takes : (handles : List Seated) (at : ℕ) (s : Seated) → slice_get handles at ≡ Some s → PartyTakesHandle (parties_of handles) s.party (parties_of (remove handles at))
 takes [] at s e = absurd (none-some s e)
 takes (h ∷ handles) zero s e = record {
   before = [];
@@ -32,7 +32,7 @@ handed handles at p s new there is =
     let party : s.party ≡ p = ap (λ (x : Seated). x.party) (sym same) ∙ there.2 in
     let fresh : s ≡ new_seat s.party =
     subst IsNew (get_or_from_slice_get handles at s s is) (All-get_or IsNew handles at s (slice_get_within handles at s is) new) in
-    (fresh ∙ ap new_seat party, subst (λ q. Takes (parties_of handles) q (parties_of (remove handles at))) party (takes handles at s is))
+    (fresh ∙ ap new_seat party, subst (λ q. PartyTakesHandle (parties_of handles) q (parties_of (remove handles at))) party (takes handles at s is))
 
 -- none of them is the party's
 pub none_there : (handles : List Seated) (p : ℕ) → All (λ (s : Seated). ¬ (s.party ≡ p)) handles → ¬ Contains (parties_of handles) p

@@ -7,7 +7,7 @@ use Rattle.std.proofs.lemmas.Bool.Decides.{nat_tests}
 use Rattle.std.proofs.lemmas.List.{get_or-map, length-map}
 use Rattle.std.proofs.lemmas.List.Elements.{All-get_or}
 use Rattle.journal.specs.Parts.{Part}
-use Rattle.space_node.specs.Places.{IsFirst, later_of, left_after, replicas_among}
+use Rattle.space_node.specs.Places.{IsFirstShareOf, all_but_first, left_after, replicas_among}
 
 -- the orders that are left are those of the replicas among the parties that have no seat yet
 abbrev pub AreLeft : List Part → List Part → ℕ → Type 0
@@ -15,7 +15,7 @@ AreLeft shares orders k = map (λ (o : Part). o.party) orders ≡ replicas_among
 
 -- ---- the first order
 
-pub removed : (orders : List Part) → remove orders 0 ≡ later_of orders
+pub removed : (orders : List Part) → remove orders 0 ≡ all_but_first orders
 removed [] = refl
 removed (order ∷ orders) = refl
 
@@ -39,7 +39,7 @@ first_new orders order some is all =
 -- ---- one more party has its seat
 
 left_of : (b : Bool) (p : ℕ) (orders : List Part) (ps : List ℕ) → map (λ (o : Part). o.party) orders ≡ cond b (p ∷ ps) ps
-    → map (λ (o : Part). o.party) (cond b (later_of orders) orders) ≡ ps
+    → map (λ (o : Part). o.party) (cond b (all_but_first orders) orders) ≡ ps
 left_of true p [] ps are = absurd cc
 left_of true p (order ∷ orders) ps are = cc
 left_of false p orders ps are = are
@@ -58,7 +58,7 @@ module _ (shares orders : List Part) (k : ℕ) (share : Part) (low : k < length 
   are : map (λ (o : Part). o.party) orders ≡ replicas_among (share.party ∷ drop (k + 1) (map (λ (s : Part). s.party) shares))
   are = left ∙ ap replicas_among next
 
-  pub is_first : IsFirst share.party orders
+  pub is_first : IsFirstShareOf share.party orders
   is_first below =
       let rest = replicas_among (drop (k + 1) (map (λ (s : Part). s.party) shares)) in
       let replica : nat_lt share.party 256 ≡ true = grind (arith, nat_tests) in
@@ -70,13 +70,13 @@ module _ (shares orders : List Part) (k : ℕ) (share : Part) (low : k < length 
       ∙ left_of (nat_lt share.party 256) share.party orders (replicas_among (drop (k + 1) (map (λ (s : Part). s.party) shares))) are
 
 -- a replica that has its seat has taken the first order
-pub after_replica : (p : ℕ) (orders later : List Part) → p < 256 → later ≡ later_of orders → later ≡ left_after p orders
+pub after_replica : (p : ℕ) (orders later : List Part) → p < 256 → later ≡ all_but_first orders → later ≡ left_after p orders
 after_replica p orders later below same =
     let replica : nat_lt p 256 ≡ true = grind (arith, nat_tests) in
-    same ∙ ap (λ (b : Bool). cond b (later_of orders) orders) (sym replica)
+    same ∙ ap (λ (b : Bool). cond b (all_but_first orders) orders) (sym replica)
 
 -- and a client takes none
 pub after_client : (p : ℕ) (orders : List Part) → 256 ≤ p → orders ≡ left_after p orders
 after_client p orders high =
     let client : nat_lt p 256 ≡ false = grind (arith, nat_tests) in
-    ap (λ (b : Bool). cond b (later_of orders) orders) (sym client)
+    ap (λ (b : Bool). cond b (all_but_first orders) orders) (sym client)

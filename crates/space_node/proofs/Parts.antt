@@ -9,7 +9,7 @@ use Rattle.protocol.specs.Replica.Owed.{IsPromptReplica}
 use Rattle.protocol.specs.Replica.RightReplica.{first_point}
 use Rattle.events.specs.Outputs.{after_entries, entry_of, after_event}
 use Rattle.events.specs.declared.output.Output.{Output}
-use Rattle.journal.specs.Parts.{Part, AreAlike, fresh, longer_part}
+use Rattle.journal.specs.Parts.{Part, AgreeInOrdering, fresh, longer_part}
 use Rattle.replica.specs.Parted.{DeskStops, FitBoth, DeskFitsHistory, OrdererFitsHistory, ReadLeads}
 use Rattle.replica.specs.State.{DeskPart, OrdererPart}
 use Rattle.desk.specs.State.{DeskData}
@@ -22,7 +22,7 @@ use Rattle.space_node.proofs.Events.{ordering_behind}
 
 module _ (c : Configuration) (o later_o : OrdererPart) (d later_d : DeskPart) (share order : Part) (input : Input) (outs : List Output) (es : List Entry)
     (leads : InputLeads o d input outs later_o later_d) (seats : SeatsDesk c d share) (fits : OrdererFitsHistory c order.party o order.history)
-    (are : es ≡ input_of share.party input ∷ map (entry_of share.party) outs) (alike : AreAlike share order) where
+    (are : es ≡ input_of share.party input ∷ map (entry_of share.party) outs) (alike : AgreeInOrdering share order) where
   both : FitBoth c share.party later_o later_d (after_event share.party (input_of share.party input) outs share.history)
   both = leads c share.party share.history (
     seats.fits,

@@ -9,7 +9,7 @@ use Rattle.space.specs.Births.{SpaceState, empty_state, tuples_of}
 use Rattle.wire_format.specs.Messages.{MessageData}
 use Rattle.wire_format.specs.declared.messages.Reply.{Reply}
 use Rattle.authenticator.specs.Membership.{Membership}
-use Rattle.read_only.specs.Answering.{AnswersRead, read_reply, reply_data}
+use Rattle.read_only.specs.Answering.{RepliesToRead, read_reply, reply_data}
 use Rattle.read_only.specs.Hearing.{HearsRead}
 use Rattle.read_only.specs.declared.answering.Shelf.{Shelf}
 use Rattle.read_only.specs.declared.hearing.ReadRequest.{ReadRequest}
@@ -23,7 +23,7 @@ if_some (Ok x) o P Q is f p = subst (λ o. IfSome o Q) (sym is) (f x p)
 if_some (Err e) o P Q is f p = subst (λ o. IfSome o Q) (sym is) tt
 
 module _ (m : Membership) (me : ℕ) (bytes : List ℕ) (shelf : Shelf) (request : ReadRequest) (reply : Reply)
-    (hears : HearsRead m me bytes request.client.number request.timestamp.0 request.op.now) (answers : AnswersRead shelf request reply)
+    (hears : HearsRead m me bytes request.client.number request.timestamp.0 request.op.now) (answers : RepliesToRead shelf request reply)
     (empty : shelf.space.now ≡ empty_state) (number : shelf.number.0 ≡ 0) where
   says : reply_data reply ≡ read_reply request.client.number request.timestamp.0 0 (outcome no_tuples request.client.number hears.op)
   says =

@@ -15,7 +15,7 @@ use Rattle.events.specs.Outputs.{after_entries, entry_of}
 use Rattle.events.specs.declared.output.Output.{Output}
 use Rattle.events.specs.declared.output.Output.TheVariants as outputs
 use Rattle.wire_format.specs.Lists.{Each}
-use Rattle.space_node.specs.Calls.{AcceptNothing, Accepts, MakesTurn}
+use Rattle.space_node.specs.Calls.{AcceptNothing, AcceptsSome, MakesTurn}
 
 -- ---- the outputs of the newest event are its reaction
 
@@ -131,8 +131,8 @@ each_at P (x ∷ xs) zero d e low = e.0
 each_at P (x ∷ xs) (suc i) d e low = each_at P xs i d e.1 (omega arith)
 
 -- one that accepts is found
-pub found : (outs : List Output) (i : ℕ) (output : Output) → i < length outs → output ≡ get_or outs i output → Accepts output → ¬ AcceptNothing outs
-found outs i output low is accepted none = each_at (λ o. ¬ Accepts o) outs i output none low (subst Accepts is accepted)
+pub found : (outs : List Output) (i : ℕ) (output : Output) → i < length outs → output ≡ get_or outs i output → AcceptsSome output → ¬ AcceptNothing outs
+found outs i output low is accepted none = each_at (λ o. ¬ AcceptsSome o) outs i output none low (subst AcceptsSome is accepted)
 
 -- the one that is left accepts the answer of the call
 pub answered : (t : ℕ) (outs : List Output) (last : Option Output) → MakesTurn t outs → ¬ AcceptNothing outs

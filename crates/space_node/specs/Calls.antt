@@ -52,12 +52,12 @@ pub record Refused (old new : Seated) : Type 0 where
 -- ---- for private functions
 
 -- the output accepts an answer
-abbrev pub Accepts : Output → Type 0
-Accepts (outputs.Accepted timestamp answer) = ⊤
-Accepts _ = ⊥
+abbrev pub AcceptsSome : Output → Type 0
+AcceptsSome (outputs.Accepted timestamp answer) = ⊤
+AcceptsSome _ = ⊥
 
 abbrev pub AcceptNothing : List Output → Type 0
-AcceptNothing outs = Each (λ output. ¬ Accepts output) outs
+AcceptNothing outs = Each (λ output. ¬ AcceptsSome output) outs
 
 -- the output accepts this answer
 abbrev pub AcceptsAnswer : Output → Answer Global → Type 0
@@ -71,7 +71,7 @@ MakesTurn timestamp outs =
     ⊎ ((answer : Answer Global) × (outs ≡ outputs.Accepted (record { 0 = timestamp }) answer ∷ []))
 
 -- the call begins
-pub record Begins (old : Seated) (op : Operation) (new : Seated) : Type 0 where
+pub record CallBegins (old : Seated) (op : Operation) (new : Seated) : Type 0 where
   pub more : List Entry
   pub quiet : Each IsQuiet more
   pub history : let timestamp = suc (last_call old.history) in
@@ -80,7 +80,7 @@ pub record Begins (old : Seated) (op : Operation) (new : Seated) : Type 0 where
   pub running : new.stopped ≡ false
 
 -- the call goes on
-pub record GoesOn (old new : Seated) : Type 0 where
+pub record CallGoesOn (old new : Seated) : Type 0 where
   pub more : List Entry
   pub quiet : Each IsQuiet more
   pub history : new.history ≡ more ++ old.history
@@ -88,7 +88,7 @@ pub record GoesOn (old new : Seated) : Type 0 where
   pub running : new.stopped ≡ false
 
 -- the call ends with this answer
-pub record Ends (old : Seated) (answer : Outcome) (new : Seated) : Type 0 where
+pub record CallEnds (old : Seated) (answer : Outcome) (new : Seated) : Type 0 where
   pub more : List Entry
   pub quiet : Each IsQuiet more
   pub history : new.history ≡ Accepted (client_number old.party) (last_call old.history) answer ∷ (more ++ old.history)
@@ -96,11 +96,11 @@ pub record Ends (old : Seated) (answer : Outcome) (new : Seated) : Type 0 where
   pub running : new.stopped ≡ false
 
 -- the turn of these outputs, in a call of this timestamp
-abbrev pub TurnsTo : ℕ → List Output → Turn → Type 0
-TurnsTo timestamp outs (turns.Waits given) = (outs ≡ given.items) × AcceptNothing outs
-TurnsTo timestamp outs (turns.Answered answer) = outs ≡ outputs.Accepted (record { 0 = timestamp }) answer ∷ []
+abbrev pub IsTurnOf : ℕ → List Output → Turn → Type 0
+IsTurnOf timestamp outs (turns.Waits given) = (outs ≡ given.items) × AcceptNothing outs
+IsTurnOf timestamp outs (turns.Answered answer) = outs ≡ outputs.Accepted (record { 0 = timestamp }) answer ∷ []
 
 -- the event's consequence for the seat
-abbrev pub Comes : Seated → Turn → Seated → Type 0
-Comes old (turns.Waits given) new = GoesOn old new
-Comes old (turns.Answered answer) new = Ends old (outcome_of answer) new
+abbrev pub SeatTakesTurn : Seated → Turn → Seated → Type 0
+SeatTakesTurn old (turns.Waits given) new = CallGoesOn old new
+SeatTakesTurn old (turns.Answered answer) new = CallEnds old (outcome_of answer) new

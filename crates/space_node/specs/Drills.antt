@@ -35,9 +35,9 @@ abbrev pub MayStart : Configuration → List ℕ → Type 0
 MayStart c replicas = (c.faulty_clients ≡ []) × AreDrillsOf c replicas
 
 -- whether each is a faulty replica and differs from all later ones
-abbrev pub each_once : Configuration → List ℕ → Bool
-each_once c [] = true
-each_once c (r ∷ rs) = (is_faulty_replica c r && not (member rs r)) && each_once c rs
+abbrev pub are_faulty_once : Configuration → List ℕ → Bool
+are_faulty_once c [] = true
+are_faulty_once c (r ∷ rs) = (is_faulty_replica c r && not (member rs r)) && are_faulty_once c rs
 
 -- The replica hears a client's read in the bytes. Its output for the client has the read's outcome on no tuples, as
 -- from the state of number 0.

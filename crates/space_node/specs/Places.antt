@@ -11,7 +11,7 @@ abbrev pub clients_of : Configuration → List ℕ
 clients_of c = range_with_len FIRST_CLIENT c.clients
 
 -- one handle of the party is taken, and all others are left
-pub record Takes (old : List ℕ) (p : ℕ) (new : List ℕ) : Type 0 where
+pub record PartyTakesHandle (old : List ℕ) (p : ℕ) (new : List ℕ) : Type 0 where
   pub before : List ℕ
   pub later : List ℕ
   pub old_is : old ≡ before ++ p ∷ later
@@ -20,7 +20,7 @@ pub record Takes (old : List ℕ) (p : ℕ) (new : List ℕ) : Type 0 where
 -- If there is a handle of the party, it is handed out, and it is new. Otherwise nothing changes.
 abbrev pub HandsOut : List ℕ → ℕ → Option Seated → List ℕ → Type 0
 HandsOut old p result new =
-    MatchOption result ((¬ Contains old p) × (new ≡ old)) (λ handle. (handle ≡ new_seat p) × Takes old p new)
+    MatchOption result ((¬ Contains old p) × (new ≡ old)) (λ handle. (handle ≡ new_seat p) × PartyTakesHandle old p new)
 
 -- ---- for private functions
 
@@ -33,17 +33,17 @@ abbrev pub replicas_among : List ℕ → List ℕ
 replicas_among = filter (λ p. nat_lt p FIRST_CLIENT)
 
 -- if the party is a replica, the first of these shares of ordering is its
-abbrev pub IsFirst : ℕ → List Part → Type 0
-IsFirst p orders = p < FIRST_CLIENT → slice_get (map (λ o. o.party) orders) 0 ≡ Some p
+abbrev pub IsFirstShareOf : ℕ → List Part → Type 0
+IsFirstShareOf p orders = p < FIRST_CLIENT → slice_get (map (λ o. o.party) orders) 0 ≡ Some p
 
 -- all but the first
-abbrev pub later_of : List Part → List Part
-later_of [] = []
-later_of (order ∷ orders) = orders
+abbrev pub all_but_first : List Part → List Part
+all_but_first [] = []
+all_but_first (order ∷ orders) = orders
 
 -- the shares of ordering that are left after the party has its seat
 abbrev pub left_after : ℕ → List Part → List Part
-left_after p orders = cond (nat_lt p FIRST_CLIENT) (later_of orders) orders
+left_after p orders = cond (nat_lt p FIRST_CLIENT) (all_but_first orders) orders
 
 abbrev pub parties_of : List Seated → List ℕ
 parties_of handles = map (λ s. s.party) handles

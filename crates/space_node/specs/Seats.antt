@@ -37,16 +37,16 @@ abbrev pub stopped_at : Seated → Seated
 stopped_at s = record s { stopped = true }
 
 -- the replica of these two seats at the end, the orderer's and the desk's: it has stopped if one of them has
-abbrev pub left_by : Seated → Seated → Seated
-left_by order shelf = record shelf { stopped = order.stopped || shelf.stopped }
+abbrev pub replica_left_by : Seated → Seated → Seated
+replica_left_by order shelf = record shelf { stopped = order.stopped || shelf.stopped }
 
 -- a replica without seats at the end: it has stopped
 abbrev pub absent : ℕ → Seated
 absent p = stopped_at (new_seat p)
 
 -- no call is open, unless the client stopped
-abbrev pub IsIdle : Seated → Type 0
-IsIdle s = s.stopped ≡ false → is_some (open_call s.history) ≡ false
+abbrev pub HasNoOpenCall : Seated → Type 0
+HasNoOpenCall s = s.stopped ≡ false → is_some (open_call s.history) ≡ false
 
 -- ---- events
 
@@ -72,8 +72,8 @@ ordering_after share input outs order =
     longer_part order (without_reads (input ∷ map (entry_of share.party) outs))
 
 -- the seat after the event; its party hasn't stopped
-abbrev pub seat_after : Seated → Entry → List Output → Seated
-seat_after s input outs = record {
+abbrev pub seat_after_event : Seated → Entry → List Output → Seated
+seat_after_event s input outs = record {
   party = s.party;
   history = after_event s.party input outs s.history;
   stopped = false;

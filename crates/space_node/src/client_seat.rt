@@ -7,8 +7,8 @@ ghost use Rattle.protocol.specs.System.Configuration.{is_correct_replica};
 ghost use Rattle.protocol.specs.Client.RightClient.{IsPromptClient};
 ghost use Rattle.events.specs.declared.output.Stop.TheVariants as Stop;
 ghost use Rattle.client_cert.specs.Fits.{Fits};
-ghost use Rattle.space_node.specs.Calls.{Begins, Comes, IsSpent};
-ghost use Rattle.space_node.specs.Seats.{ClientLeads, IsIdle, stopped_at};
+ghost use Rattle.space_node.specs.Calls.{CallBegins, SeatTakesTurn, IsSpent};
+ghost use Rattle.space_node.specs.Seats.{ClientLeads, HasNoOpenCall, stopped_at};
 
 use crate::entries::{entries_of, invocation};
 use crate::input::{Given, Input};
@@ -115,8 +115,8 @@ impl<N: Naming> ClientSeat<N> {
         op: Op<Global>,
     ) -> Result<Given, AppendFault>
         requires may { ¬ IsSpent self.old }
-        requires idle { IsIdle self.old }
-        ensures begins { IfOk result (λ _. Begins self.old (operation_of op) self.new) }
+        requires idle { HasNoOpenCall self.old }
+        ensures begins { IfOk result (λ _. CallBegins self.old (operation_of op) self.new) }
         ensures stops { OnErr result (self.new ≡ stopped_at self.old) }
     {
         // The client counts as stopped until the event is in the journal.
@@ -150,7 +150,7 @@ impl<N: Naming> ClientSeat<N> {
         input: Input,
     ) -> Result<(Turn, u64), AppendFault>
         requires running { self.old.stopped ≡ false }
-        ensures comes { IfOk result (λ taken. Comes self.old taken.0 self.new) }
+        ensures comes { IfOk result (λ taken. SeatTakesTurn self.old taken.0 self.new) }
         ensures stops { OnErr result (self.new ≡ stopped_at self.old) }
     {
         // The client counts as stopped until the event is in the journal.

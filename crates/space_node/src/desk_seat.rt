@@ -5,7 +5,7 @@ ghost use Rattle.terms.specs.declared.parties.TheConstants.{FIRST_CLIENT};
 ghost use Rattle.protocol.specs.Replica.Owed.{IsPromptReplica};
 ghost use Rattle.protocol.specs.System.Trace.Entry.{Got};
 ghost use Rattle.replica.specs.Parted.{DeskFitsHistory};
-ghost use Rattle.space_node.specs.Seats.{seat_after, stopped_at};
+ghost use Rattle.space_node.specs.Seats.{seat_after_event, stopped_at};
 
 use crate::entries::entries_of;
 use crate::input::Given;
@@ -86,7 +86,7 @@ impl<N: Naming> DeskSeat<N> {
         from: u64,
     ) -> Option<Given>
         ensures given { IfSome result
-            (λ given. self.new ≡ seat_after self.old (Got self.old.party bytes) given.outputs.items) }
+            (λ given. self.new ≡ seat_after_event self.old (Got self.old.party bytes) given.outputs.items) }
     {
         if !asks_read(bytes.as_slice()) {
             return None;

@@ -4,7 +4,7 @@ ghost use Rattle.std.specs.Prelude.{◌≡◌, ◌↔◌, ◌==◌, IsTrue};
 ghost use Rattle.std.specs.List.{list_any};
 ghost use Rattle.quorum.specs.Quorum.{member};
 ghost use Rattle.protocol.specs.System.Configuration.{IsConfiguration, is_faulty_replica};
-ghost use Rattle.space_node.specs.Drills.{IsDrilled, MayStart, each_once, replicas_of};
+ghost use Rattle.space_node.specs.Drills.{IsDrilled, MayStart, are_faulty_once, replicas_of};
 
 use crate::faultless::has_correct_clients;
 use events::Config;
@@ -32,7 +32,7 @@ pub(crate) fn may_start(config: &Config, drills: &[(u16, Drill)]) -> bool
 // Whether the drills are of faulty replicas, no two of the same.
 fn are_of_faulty(config: &Config, drills: &[(u16, Drill)]) -> bool
     requires valid { IsConfiguration config.now }
-    ensures { result ≡ each_once config.now (replicas_of drills.now) }
+    ensures { result ≡ are_faulty_once config.now (replicas_of drills.now) }
 {
     let [first, rest @ ..] = drills else {
         return true;

@@ -5,7 +5,7 @@ ghost use Rattle.tuple_codec.specs.OperationView.{operation_of, outcome_of};
 ghost use Rattle.terms.specs.Parties.{party_number, client_party};
 ghost use Rattle.protocol.specs.Client.RightClient.{IsPromptClient};
 ghost use Rattle.space_node.specs.declared.fault.CallFault.TheVariants as CallFault;
-ghost use Rattle.space_node.specs.Calls.{Called, Ends, IsSpent, Refused};
+ghost use Rattle.space_node.specs.Calls.{Called, CallEnds, IsSpent, Refused};
 ghost use Rattle.space_node.specs.Seats.{IsNew};
 
 use crate::client_seat::ClientSeat;
@@ -32,7 +32,7 @@ pub struct ClientHandle<N: Naming> {
 
 impl<N: Naming> Model for ClientHandle<N> {
     ghost use Rattle.space_node.specs.Codes.{seated_code};
-    ghost use Rattle.space_node.specs.Seats.{IsIdle, Seated};
+    ghost use Rattle.space_node.specs.Seats.{HasNoOpenCall, Seated};
 
     ghost Value = { Seated };
 
@@ -40,7 +40,7 @@ impl<N: Naming> Model for ClientHandle<N> {
 
     ghost view = { λ h. h.seat };
 
-    ghost invariant = { λ h. IsIdle h.seat };
+    ghost invariant = { λ h. HasNoOpenCall h.seat };
 }
 
 impl<N: Naming> ClientHandle<N> {
@@ -144,7 +144,7 @@ fn wait_answer<N: Naming, R: Wait>(
     since: u64,
 ) -> Result<Answer<Global>, AppendFault>
     requires running { seat.old.stopped ≡ false }
-    ensures ends { IfOk result (λ answer. Ends seat.old (outcome_of answer) seat.new) }
+    ensures ends { IfOk result (λ answer. CallEnds seat.old (outcome_of answer) seat.new) }
     ensures refused { OnErr result (Refused seat.old seat.new) }
 {
     let Some(inbox) = shared.inbox(seat.share().party()) else {

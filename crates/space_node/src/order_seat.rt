@@ -2,7 +2,7 @@
 
 ghost use Rattle.std.specs.Prelude.{◌≡◌, None, is_none, false, IfSome, IfNone, IfOk, OnErr, true};
 ghost use Rattle.replica.specs.Parted.{OrdererFitsHistory};
-ghost use Rattle.space_node.specs.Seats.{InputLeads, input_of, seat_after, stopped_at};
+ghost use Rattle.space_node.specs.Seats.{InputLeads, input_of, seat_after_event, stopped_at};
 
 use crate::desk_seat::DeskSeat;
 use crate::entries::entries_of;
@@ -77,7 +77,7 @@ impl<N: Naming> OrderSeat<N> {
     ) -> Option<Given>
         ensures given { IfSome result
             (λ given. shelf.new.history
-            ≡ (seat_after shelf.old (input_of shelf.old.party input) given.outputs.items).history) }
+            ≡ (seat_after_event shelf.old (input_of shelf.old.party input) given.outputs.items).history) }
         ensures stopped { IfNone result ((self.new.stopped ≡ true) × (shelf.new ≡ stopped_at shelf.old)) }
     {
         let Ok(outputs) = step_parts(&mut self.orderer, alloc, &mut shelf.desk, &input) else {

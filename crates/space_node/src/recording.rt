@@ -3,7 +3,7 @@
 ghost use Rattle.std.specs.Prelude.{◌≡◌, OnOk, OnErr};
 ghost use Rattle.events.specs.Outputs.{after_entries};
 ghost use Rattle.journal.specs.Histories.{IsEventOf, IsRight};
-ghost use Rattle.journal.specs.Parts.{AreAlike, longer_part};
+ghost use Rattle.journal.specs.Parts.{AgreeInOrdering, longer_part};
 ghost use Rattle.protocol.specs.System.Reads.{without_reads};
 
 use events::Entry;
@@ -39,9 +39,9 @@ pub(crate) fn record_order<N: Naming, R: Wait>(
     entries: Vec<Entry>,
 ) -> Result<u64, AppendFault>
     requires event { IsEventOf share.old.party entries.items }
-    requires right { AreAlike share.old order.old
+    requires right { AgreeInOrdering share.old order.old
         → IsRight N.config share.old.party (after_entries entries.items share.old.history) }
-    ensures alike { OnOk result (AreAlike share.old order.old) }
+    ensures alike { OnOk result (AgreeInOrdering share.old order.old) }
     ensures kept { OnOk result (share.new ≡ longer_part share.old entries.items) }
     ensures ordered { OnOk result (order.new ≡ longer_part order.old (without_reads entries.items)) }
     ensures refused { OnErr result (share.new ≡ share.old) }

@@ -4,7 +4,7 @@ ghost use Rattle.std.specs.Prelude.{◌≡◌, true, reverse};
 ghost use Rattle.terms.specs.Parties.{party_number};
 ghost use Rattle.protocol.specs.System.Configuration.{is_correct};
 ghost use Rattle.protocol.specs.Replica.Owed.{IsPromptReplica};
-ghost use Rattle.space_node.specs.Seats.{absent, left_by};
+ghost use Rattle.space_node.specs.Seats.{absent, replica_left_by};
 
 use crate::desk_seat::DeskSeat;
 use crate::order_seat::OrderSeat;
@@ -43,7 +43,7 @@ impl<N: Naming> ReplicaShare<N> {
         order: &OrderSeat<N>,
         shelf: &mut DeskSeat<N>,
     ) -> ReplicaShare<N>
-        ensures left { result ≡ left_by order.now shelf.old }
+        ensures left { result ≡ replica_left_by order.now shelf.old }
         ensures prompt { IsPromptReplica N.config result.party result.history }
     {
         let stopped = order.is_stopped() || shelf.is_stopped();

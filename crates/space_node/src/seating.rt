@@ -3,7 +3,7 @@
 ghost use Rattle.std.specs.Prelude.{◌≡◌, ◌++◌, ◌<◌, [], ◌∷◌, All, IfOk, OnOk, map};
 ghost use Rattle.terms.specs.Parties.{client_party};
 ghost use Rattle.protocol.specs.System.Configuration.{IsConfiguration};
-ghost use Rattle.space_node.specs.Places.{IsFirst, clients_among, clients_of, later_of, left_after, replicas_among};
+ghost use Rattle.space_node.specs.Places.{IsFirstShareOf, clients_among, clients_of, all_but_first, left_after, replicas_among};
 ghost use Rattle.space_node.specs.Seats.{IsNew};
 
 use crate::client_seat::ClientSeat;
@@ -136,7 +136,7 @@ fn seat_party<N: Naming>(
     requires keys { publics.now ≡ config.now.seed }
     requires new { share.history ≡ [] }
     requires new_orders { All (λ o. o.history ≡ []) orders.old.items }
-    requires first { IsFirst share.party orders.old.items }
+    requires first { IsFirstShareOf share.party orders.old.items }
     ensures new_orders { All (λ o. o.history ≡ []) orders.new.items }
     ensures left { OnOk result (orders.new.items ≡ left_after share.party orders.old.items) }
     ensures clients { IfOk result (λ _. map (λ e. e.seat.party) parties.new.client_ends.items
@@ -161,10 +161,10 @@ fn seat_party<N: Naming>(
 // The first share of ordering, which is this replica's.
 fn take_order<N: Naming>(orders: &mut Vec<OrderShare<N>>, replica: ReplicaId) -> OrderShare<N>
     requires new { All (λ o. o.history ≡ []) orders.old.items }
-    requires first { IsFirst replica.0 orders.old.items }
+    requires first { IsFirstShareOf replica.0 orders.old.items }
     ensures party { result.party ≡ replica.0 }
     ensures new { result.history ≡ [] }
-    ensures left { orders.new.items ≡ later_of orders.old.items }
+    ensures left { orders.new.items ≡ all_but_first orders.old.items }
     ensures others { All (λ o. o.history ≡ []) orders.new.items }
 {
     let order = orders.remove(0);

@@ -1,7 +1,7 @@
 //! The consequence of a client's event.
 
 ghost use Rattle.std.specs.Prelude.{◌≡◌, ◌↔◌, IsTrue};
-ghost use Rattle.space_node.specs.Calls.{AcceptNothing, Accepts, AcceptsAnswer, MakesTurn, TurnsTo};
+ghost use Rattle.space_node.specs.Calls.{AcceptNothing, AcceptsSome, AcceptsAnswer, MakesTurn, IsTurnOf};
 
 use events::{Output, Outputs};
 use std::alloc::Global;
@@ -20,7 +20,7 @@ pub(crate) enum Turn {
 /// The consequence of these outputs for a call of this timestamp.
 pub(crate) fn turn_of(mut outputs: Outputs, timestamp: Timestamp) -> Turn
     requires { MakesTurn timestamp.0 outputs.items }
-    ensures { TurnsTo timestamp.0 outputs.items result }
+    ensures { IsTurnOf timestamp.0 outputs.items result }
 {
     if accept_nothing(outputs.as_slice()) {
         return Turn::Waits(outputs);
@@ -33,7 +33,7 @@ pub(crate) fn turn_of(mut outputs: Outputs, timestamp: Timestamp) -> Turn
 
 // The answer that the output accepts.
 fn answer_in(output: Output) -> Answer<Global>
-    requires { Accepts output }
+    requires { AcceptsSome output }
     ensures { AcceptsAnswer output result }
 {
     match output {
@@ -54,7 +54,7 @@ fn accept_nothing(outputs: &[Output]) -> bool
 }
 
 fn accepts(output: &Output) -> bool
-    ensures { IsTrue result ↔ Accepts output.now }
+    ensures { IsTrue result ↔ AcceptsSome output.now }
 {
     match output {
         Output::Accepted(_, _) => true,

@@ -18,7 +18,7 @@ use Rattle.state_transfer.specs.Differences.{IsFirstDifference}
 use Rattle.state_transfer.specs.Keeping.{AreOfChildren}
 use Rattle.state_transfer.specs.Places.{IsPlace, root_place, inner_place, page_place, part_places, places}
 use Rattle.state_transfer.specs.Seeking.{IsFirstMissing}
-use Rattle.state_transfer.specs.Transfer.{TransferData, fitting, digest_of_part, pages_of_part, wanted, held_at, differs, is_told_at, is_missing, next_place}
+use Rattle.state_transfer.specs.Transfer.{TransferData, fitting_children, digest_of_part, pages_of_part, wanted, held_at, differs, is_told_at, is_missing, next_place}
 use Rattle.state_transfer.proofs.Finding.{found_none_in_range, found_in_range, found_none_in_blocks, found_in_blocks}
 
 -- ---- digests
@@ -51,19 +51,19 @@ part_digest : (pages : List (List ℕ)) (j : ℕ) → j < 32 → get_or (inner_d
 unfolding inner_digests
 part_digest pages j h = get_or-map-range_with_len (inner_digest pages) 0 32 j j [] h (omega arith)
 
-pub fitting_is : (digest : List ℕ) (told : Option (List (List ℕ))) (children : List (List ℕ)) → fitting digest told ≡ Some children → digest_of_children children ≡ digest
+pub fitting_is : (digest : List ℕ) (told : Option (List (List ℕ))) (children : List (List ℕ)) → fitting_children digest told ≡ Some children → digest_of_children children ≡ digest
 fitting_is digest None children e = cc
 fitting_is digest (Some digests) children e =
     let parts = cond_some (bytes_eq (digest_of_children digests) digest) digests children e in
     subst (λ (ds : List (List ℕ)). digest_of_children ds ≡ digest) parts.1 ((bytes_eq-Decides (digest_of_children digests) digest).0 parts.0)
 
-fitting_kept : (digest : List ℕ) (told : Option (List (List ℕ))) (children : List (List ℕ)) → fitting digest told ≡ Some children → told ≡ Some children
+fitting_kept : (digest : List ℕ) (told : Option (List (List ℕ))) (children : List (List ℕ)) → fitting_children digest told ≡ Some children → told ≡ Some children
 fitting_kept digest None children e = cc
 fitting_kept digest (Some digests) children e = ap Some (cond_some (bytes_eq (digest_of_children digests) digest) digests children e).1
 
 -- the kept digests are of 32 children
 pub fitting_whole : (digest : List ℕ) (told : List (Option (List (List ℕ)))) (j : ℕ) (children : List (List ℕ)) → length told ≡ 32 → j < 32
-    → All (λ digests. ForSome digests AreOfChildren) told → fitting digest (get_or told j None) ≡ Some children → length children ≡ 32
+    → All (λ digests. ForSome digests AreOfChildren) told → fitting_children digest (get_or told j None) ≡ Some children → length children ≡ 32
 fitting_whole digest told j children count h all e =
     All-get_or (λ (digests : Option (List (List ℕ))). ForSome digests AreOfChildren) told j None (omega arith) all children (fitting_kept digest (get_or told j None) children e)
 
@@ -160,8 +160,8 @@ module _ (t : TransferData) where
     part_same : (j : ℕ) → j < 32 → get_or digests j [] ≡ get_or (inner_digests t.held) j [] → differs t (inner_place j) ≡ false
     part_same j h e = same (inner_place j) (get_or digests j []) (digest_of_part_is j h) (e ∙ part_digest t.held j h)
 
-    pub pages_of_part_is : (j : ℕ) → j < 32 → pages_of_part t j ≡ fitting (get_or digests j []) (get_or t.page_digests j None)
-    pages_of_part_is j h = ap (option_and_then (λ digest. fitting digest (get_or t.page_digests j None))) (digest_of_part_is j h)
+    pub pages_of_part_is : (j : ℕ) → j < 32 → pages_of_part t j ≡ fitting_children (get_or digests j []) (get_or t.page_digests j None)
+    pages_of_part_is j h = ap (option_and_then (λ digest. fitting_children digest (get_or t.page_digests j None))) (digest_of_part_is j h)
 
     -- The first part that differs is j.
     module _ (j : ℕ) (first : IsFirstDifference digests (inner_digests t.held) j) where
@@ -222,7 +222,7 @@ root_is_first t place differ unknown is = record {
 
 module _ (t : TransferData) (digests : List (List ℕ)) (known : t.part_digests ≡ Some digests) (full : length digests ≡ 32) (differ : root_of t.held ≢ t.root)
     (j : ℕ) (first : IsFirstDifference digests (inner_digests t.held) j) where
-  pub part_is_first : (place : Place) → fitting (get_or digests j []) (get_or t.page_digests j None) ≡ None → place ≡ inner_place j
+  pub part_is_first : (place : Place) → fitting_children (get_or digests j []) (get_or t.page_digests j None) ≡ None → place ≡ inner_place j
       → IsFirstMissing t (record { place = place; digest = get_or digests j [] })
   part_is_first place none is = record {
     first = next_is_part t digests known full differ j first (pages_of_part_is t digests known full differ j first.in_range ∙ none) ∙ ap Some (sym is);
@@ -231,7 +231,7 @@ module _ (t : TransferData) (digests : List (List ℕ)) (known : t.part_digests 
     differs = differ;
   }
 
-  module _ (pages : List (List ℕ)) (got : fitting (get_or digests j []) (get_or t.page_digests j None) ≡ Some pages) where
+  module _ (pages : List (List ℕ)) (got : fitting_children (get_or digests j []) (get_or t.page_digests j None) ≡ Some pages) where
     -- some page differs
     pub pages_differ : pages ≢ page_digests t.held j
     pages_differ e =

@@ -11,17 +11,17 @@ use Rattle.state_transfer.specs.Places.{page_place}
 use Rattle.state_transfer.specs.Transfer.{TransferData, wanted, with_page, replaced_at, given_back}
 
 -- This is the place asked for last, and the state's number.
-pub record IsAsked (t : TransferData) (number : ℕ) (place : Place) : Type 0 where
+pub record IsAskedLast (t : TransferData) (number : ℕ) (place : Place) : Type 0 where
   pub of_state : t.number ≡ number
   pub at_place : t.asked ≡ place
 
 -- This is the place asked for last, and it has children. A page has none.
 abbrev pub IsMetaAsked : TransferData → ℕ → Place → Type 0
-IsMetaAsked t number place = IsAsked t number place × (place.level ≢ Page)
+IsMetaAsked t number place = IsAskedLast t number place × (place.level ≢ Page)
 
 -- The digest wanted at the place asked for is known.
-abbrev pub IsKnown : TransferData → Type 0
-IsKnown t = (digest : List ℕ) × (wanted t t.asked ≡ Some digest)
+abbrev pub DigestIsKnown : TransferData → Type 0
+DigestIsKnown t = (digest : List ℕ) × (wanted t t.asked ≡ Some digest)
 
 -- Digests of children are refused for this fault. They take no memory.
 abbrev pub RefusesMeta : TransferData → ℕ → Place → List (List ℕ) → PartFault → Type 0
@@ -32,11 +32,11 @@ RefusesMeta t number place digests NoMemory = ⊥
 
 -- The text of a page is refused for this fault. Only a wanted text takes memory.
 abbrev pub RefusesPage : TransferData → ℕ → ℕ → List ℕ → PartFault → Type 0
-RefusesPage t number page text NotAsked = IsAsked t number (page_place page) → ⊥
+RefusesPage t number page text NotAsked = IsAskedLast t number (page_place page) → ⊥
 RefusesPage t number page text WrongDigest =
-    IsAsked t number (page_place page) × (wanted t (page_place page) ≢ Some (sha256 text))
+    IsAskedLast t number (page_place page) × (wanted t (page_place page) ≢ Some (sha256 text))
 RefusesPage t number page text NoMemory =
-    IsAsked t number (page_place page) × (wanted t (page_place page) ≡ Some (sha256 text))
+    IsAskedLast t number (page_place page) × (wanted t (page_place page) ≡ Some (sha256 text))
 
 -- Giving a page back at once leaves the transfer as it was.
 abbrev pub GivingBackRestores : Type 0

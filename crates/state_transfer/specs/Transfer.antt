@@ -50,9 +50,9 @@ moved_to t number root =
 -- ---- wanted digests
 
 -- The digests of children, if their own digest is this one.
-abbrev pub fitting : List ℕ → Option (List (List ℕ)) → Option (List (List ℕ))
-fitting digest None = None
-fitting digest (Some children) =
+abbrev pub fitting_children : List ℕ → Option (List (List ℕ)) → Option (List (List ℕ))
+fitting_children digest None = None
+fitting_children digest (Some children) =
     if bytes_eq (digest_of_children children) digest then Some children else None
 
 abbrev pub digest_of_part : TransferData → ℕ → Option (List ℕ)
@@ -61,7 +61,7 @@ digest_of_part t part = option_and_then (λ digests. slice_get digests part) t.p
 -- The digests wanted for the pages of an inner part, if they are known.
 abbrev pub pages_of_part : TransferData → ℕ → Option (List (List ℕ))
 pages_of_part t part =
-    option_and_then (λ digest. fitting digest (slice_index_or t.page_digests part None))
+    option_and_then (λ digest. fitting_children digest (slice_index_or t.page_digests part None))
     (digest_of_part t part)
 
 abbrev pub digest_of_page : TransferData → ℕ → Option (List ℕ)

@@ -5,7 +5,7 @@ ghost use Rattle.sha2.specs.Sha256.{sha256};
 ghost use Rattle.partition_tree.specs.Digests.{digest_of_children, root_of};
 ghost use Rattle.state_transfer.specs.Places.{IsPlace, page_place};
 ghost use Rattle.state_transfer.specs.Seeking.{IsFirstMissing};
-ghost use Rattle.state_transfer.specs.Taking.{IsAsked, IsKnown, IsMetaAsked, RefusesMeta, RefusesPage};
+ghost use Rattle.state_transfer.specs.Taking.{IsAskedLast, DigestIsKnown, IsMetaAsked, RefusesMeta, RefusesPage};
 ghost use Rattle.state_transfer.specs.Transfer as spec;
 ghost use Rattle.state_transfer.specs.Transfer.{wanted, RestsOn};
 
@@ -125,7 +125,7 @@ impl Transfer {
         ensures pages { length self.now.held ≡ PAGES }
         ensures fetched { length self.now.fetched ≡ PAGES }
         ensures place { IsPlace self.now.asked }
-        ensures wanted { IsKnown self.now }
+        ensures wanted { DigestIsKnown self.now }
     {
         let _number = &self.number;
     }
@@ -163,7 +163,7 @@ impl Transfer {
     fn pages_of_part(&self, part: usize, wanted: &Digest) -> Option<&[Digest; CHILDREN]>
         requires { part < CHILDREN }
         ensures { option_copied result
-            ≡ spec.fitting wanted.now (slice_index_or self.now.page_digests part None) }
+            ≡ spec.fitting_children wanted.now (slice_index_or self.now.page_digests part None) }
     {
         match &self.page_digests[part] {
             Some(digests) if digest_of_children(digests) == *wanted => Some(digests),
@@ -215,7 +215,7 @@ impl Transfer {
 
     // Whether the place of this state is the one asked for last.
     fn is_asked(&self, number: Number, place: Place) -> bool
-        ensures { IsTrue result ↔ IsAsked self.now number.0 place }
+        ensures { IsTrue result ↔ IsAskedLast self.now number.0 place }
     {
         number.0 == self.number.0 && place == self.asked
     }
@@ -265,7 +265,7 @@ impl Transfer {
         index: u16,
         text: &[u8],
     ) -> Result<Replaced, PartFault>
-        ensures asked { OnOk result (IsAsked self.old number.0 (page_place index)) }
+        ensures asked { OnOk result (IsAskedLast self.old number.0 (page_place index)) }
         ensures fits { OnOk result (wanted self.old (page_place index) ≡ Some (sha256 text.now)) }
         ensures ok { OnOk result (self.new ≡ spec.with_page self.old index text.now) }
         ensures replaced { IfOk result (λ replaced. replaced ≡ spec.replaced_at self.old index) }

@@ -4,7 +4,7 @@ use Rattle.std.specs.Bool.{Decides, beq}
 use Rattle.std.proofs.lemmas.Bool.{and_parts, and_from}
 use Rattle.std.proofs.lemmas.Bool.Decides.{Decides-int_eq}
 use Rattle.std.proofs.lemmas.Slice.Eq.{bytes_eq-Decides}
-use Rattle.tuple_tree.specs.Items.{Item, leaf, inner, none, item}
+use Rattle.tuple_tree.specs.Items.{TreeItem, leaf, inner, none, item}
 use Rattle.tuple_tree.specs.declared.atoms.Kind.{Kind}
 use Rattle.tuple_tree.specs.declared.atoms.Kind.TheVariants as kinds
 use Rattle.tuple_tree.specs.Values.{Datum, number, text, bytes, truth, wide, Slot, actual, any, formal, kind_of, TupleTree, TemplateTree}
@@ -46,7 +46,7 @@ datum_decides (wide m) (truth b) = (λ h. cc, λ e. cc)
 datum_decides (wide m) (wide n) = let d = Decides-int_eq m n in (λ h. ap wide (d.0 h), λ e. d.1 cc)
 
 -- a value's kind
-pub kind_decides : (k : Kind) (v : Item Datum) → Decides (is_of_kind k v) (kind_of v ≡ k)
+pub kind_decides : (k : Kind) (v : TreeItem Datum) → Decides (is_of_kind k v) (kind_of v ≡ k)
 kind_decides kinds.Number (leaf (number n)) = (λ h. refl, λ e. refl)
 kind_decides kinds.Number (leaf (text s)) = (λ h. cc, λ e. cc)
 kind_decides kinds.Number (leaf (bytes s)) = (λ h. cc, λ e. cc)
@@ -84,14 +84,14 @@ kind_decides kinds.Wide (leaf (truth b)) = (λ h. cc, λ e. cc)
 kind_decides kinds.Wide (inner t) = (λ h. cc, λ e. cc)
 kind_decides kinds.Wide (leaf (wide n)) = (λ h. refl, λ e. refl)
 
-slot_decides : (s : Slot) (v : Item Datum) → Decides (is_slot_match s v) (SlotMatches s v)
+slot_decides : (s : Slot) (v : TreeItem Datum) → Decides (is_slot_match s v) (SlotMatches s v)
 slot_decides (actual x) (leaf y) = let d = datum_decides x y in (λ h. let e = d.0 h in cc, λ e. d.1 cc)
 slot_decides (actual x) (inner t) = (λ h. cc, λ e. cc)
 slot_decides any v = (λ h. tt, λ e. refl)
 slot_decides (formal k) v = kind_decides k v
 
 mutual
-  field_decides : (f : Item Slot) (v : Item Datum) → Decides (is_field_match f v) (FieldMatches f v)
+  field_decides : (f : TreeItem Slot) (v : TreeItem Datum) → Decides (is_field_match f v) (FieldMatches f v)
   field_decides (leaf s) v = slot_decides s v
   field_decides (inner p) (leaf x) = (λ h. cc, λ e. absurd e)
   field_decides (inner p) (inner t) = is_match-decides p t

@@ -1,6 +1,6 @@
 -- What a template matches begins with the template's front, and is the front if no field is open.
 use Rattle.std.proofs.Common.{◌≡◌, ℕ, Bool, true, false, cond, List, [], ◌∷◌, Option, Some, None, ap, sym, refl, ◌∙◌}
-use Rattle.tuple_tree.specs.Items.{Item, leaf, inner, none, item, how_many, item_has, has_leaf}
+use Rattle.tuple_tree.specs.Items.{TreeItem, leaf, inner, none, item, how_many, item_has, has_leaf}
 use Rattle.tuple_tree.specs.Values.{Slot, actual, any, formal, TemplateTree, TupleTree, IsTemplate, IsTuple}
 use Rattle.tuple_tree.specs.Reading.{◌>>=◌}
 use Rattle.tuple_tree.specs.Spelling.{datum_spelling, slot_spelling, items_spelling, field_spelling}
@@ -17,7 +17,7 @@ bound (Some r) f g h = h r
 
 -- The walk by fields of which none is open strips their spelling.
 mutual
-  shut_field_walk : (f : Item Slot) (bs : List ℕ) → item_has is_open f ≡ false → behind_field f bs ≡ strip (field_spelling f) bs
+  shut_field_walk : (f : TreeItem Slot) (bs : List ℕ) → item_has is_open f ≡ false → behind_field f bs ≡ strip (field_spelling f) bs
   shut_field_walk (leaf (actual x)) bs e = refl
   shut_field_walk (leaf any) bs e = absurd (let g : ⊥ = cc in g)
   shut_field_walk (leaf (formal k)) bs e = absurd (let g : ⊥ = cc in g)
@@ -39,7 +39,7 @@ then_none (Some r) f g h e = h r e
 
 -- Bytes that don't begin with the front are walked by no field.
 mutual
-  no_field : (f : Item Slot) (bs : List ℕ) → strip (field_front f) bs ≡ None → behind_field f bs ≡ None
+  no_field : (f : TreeItem Slot) (bs : List ℕ) → strip (field_front f) bs ≡ None → behind_field f bs ≡ None
   no_field (leaf (actual x)) bs e = e
   no_field (leaf any) bs e = absurd (let g : ⊥ = cc in g)
   no_field (leaf (formal k)) bs e = absurd (let g : ⊥ = cc in g)

@@ -3,7 +3,7 @@ use Rattle.std.proofs.Common.{◌≡◌, ℕ, zero, suc, ◌+◌, ◌-◌, ◌<�
 use Rattle.std.proofs.lemmas.List.{take_at}
 use Rattle.std.proofs.lemmas.Bool.{le-ltb, lt-ltb}
 use lib.Dec.{ltb}
-use Rattle.tuple_tree.specs.Items.{Item, inner, Items, none, item, with_last, how_many}
+use Rattle.tuple_tree.specs.Items.{TreeItem, inner, Items, none, item, with_last, how_many}
 use Rattle.tuple_tree.specs.Values.{Slot, TemplateTree, AreBytes}
 use Rattle.tuple_tree.proofs.Growing.{how_many-with_last}
 use Rattle.tuple_tree.specs.Reading.{◌>>=◌, Reader, rest_of, more, byte_at, items_with, inner_at, item_at, items_at}
@@ -23,18 +23,18 @@ Read = Option (TemplateTree × List ℕ)
 abbrev pair_with : List ℕ → List ℕ → Option (List ℕ × List ℕ)
 pair_with fs rest = Some (fs, rest)
 
-abbrev as_inner : TemplateTree × List ℕ → Option (Item Slot × List ℕ)
+abbrev as_inner : TemplateTree × List ℕ → Option (TreeItem Slot × List ℕ)
 as_inner t = Some (inner t.0, t.1)
 
 -- the bytes after a field that was read, and after what it matches
-abbrev after_one : List ℕ → Item Slot × List ℕ → Option (List ℕ × List ℕ)
+abbrev after_one : List ℕ → TreeItem Slot × List ℕ → Option (List ℕ × List ℕ)
 after_one bs f = behind_field f.0 bs >>= pair_with f.1
 
 -- the bytes after a template that was read, and after what it matches
 abbrev after_both : List ℕ → TemplateTree × List ℕ → Option (List ℕ × List ℕ)
 after_both bs p = behind_fields p.0 bs >>= λ rest. Some (p.1, rest)
 
-led : (f : Item Slot) (bs : List ℕ) (o : Read) (q : Option (List ℕ)) → behind_field f bs ≡ q
+led : (f : TreeItem Slot) (bs : List ℕ) (o : Read) (q : Option (List ℕ)) → behind_field f bs ≡ q
     → (joined (item f none) o >>= after_both bs) ≡ (q >>= λ rest. o >>= after_both rest)
 led f bs None None e = refl
 led f bs None (Some r) e = refl
@@ -48,8 +48,8 @@ paired fs (Some r) h = refl
 both_suc : (levels n : ℕ) (fs bs : List ℕ) → behind_both levels (suc n) fs bs ≡ (behind_one levels fs bs >>= λ x. behind_both levels n x.0 x.1)
 unfolding behind_both behind_one
 both_suc levels n fs bs =
-    let at : Reader (Item Slot) = item_at loose_slot_at levels in
-    let cases : (o : Option (Item Slot × List ℕ)) → ((o >>= λ f. more at with_last n (with_last none f.0) f.1) >>= after_both bs)
+    let at : Reader (TreeItem Slot) = item_at loose_slot_at levels in
+    let cases : (o : Option (TreeItem Slot × List ℕ)) → ((o >>= λ f. more at with_last n (with_last none f.0) f.1) >>= after_both bs)
     ≡ ((o >>= after_one bs) >>= λ x. more at with_last n none x.0 >>= after_both x.1) = elim [
       | None ↦ refl
       | Some f ↦
@@ -74,10 +74,10 @@ pub both_ends : (levels n i : ℕ) (fs bs : List ℕ) → n ≤ i → behind_bot
 unfolding behind_both
 both_ends levels n i fs bs p = let m : n - i ≡ 0 = omega arith in rw m refl
 
-more_count : {L : Type 0} (at : Reader (Item L)) (n : ℕ) (s u : Items L) (bs rest : List ℕ) → more at with_last n s bs ≡ Some (u, rest) → how_many u ≡ how_many s + n
+more_count : {L : Type 0} (at : Reader (TreeItem L)) (n : ℕ) (s u : Items L) (bs rest : List ℕ) → more at with_last n s bs ≡ Some (u, rest) → how_many u ≡ how_many s + n
 more_count at zero s u bs rest e = let h = ap how_many (parts e).0 in omega (arith, h)
 more_count at (suc n) s u bs rest e =
-    let cases : (o : Option (Item _ × List ℕ)) → (o >>= λ x. more at with_last n (with_last s x.0) x.1) ≡ Some (u, rest) → how_many u ≡ how_many s + suc n = elim [
+    let cases : (o : Option (TreeItem _ × List ℕ)) → (o >>= λ x. more at with_last n (with_last s x.0) x.1) ≡ Some (u, rest) → how_many u ≡ how_many s + suc n = elim [
       | None ↦ λ h. absurd (let g : ⊥ = cc in g)
       | Some x ↦ λ h. omega (arith, more_count at n (with_last s x.0) u x.1 rest h, how_many-with_last s x.0)
     ] in

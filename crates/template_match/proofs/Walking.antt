@@ -3,7 +3,7 @@ use Rattle.std.proofs.Common.{◌≡◌, ℕ, suc, ◌≤◌, Bool, true, false,
 use Rattle.std.specs.Bool.{Decides}
 use Rattle.std.proofs.lemmas.Bool.{and_parts, eqb-true, eq-eqb}
 use lib.Dec.{eqb}
-use Rattle.tuple_tree.specs.Items.{Item, leaf, inner, none, item, how_many, item_levels, levels_in, item_length, length_in}
+use Rattle.tuple_tree.specs.Items.{TreeItem, leaf, inner, none, item, how_many, item_levels, levels_in, item_length, length_in}
 use Rattle.tuple_tree.specs.Limits.{IsItem, AreItems}
 use Rattle.tuple_tree.specs.Values.{Datum, number, text, bytes, truth, wide, Slot, actual, any, formal, kind_of, datum_length, slot_length, IsDatum, IsSlot, TupleTree, TemplateTree, IsTuple, IsTemplate}
 use Rattle.tuple_tree.specs.ValuesCode.{kind_number, kind_from, kind_from-number}
@@ -22,16 +22,16 @@ use Rattle.template_match.proofs.Stripping.{none_unless, strip_whole, strip_foun
 use Rattle.tuple_tree.proofs.Loosening.{IsLoose, loosen, loosen_item, loose_leaves}
 
 -- the bytes after a spelled value
-behind_spelled : (v : Item Datum) (rest : List ℕ) → IsItem IsDatum v → item_levels v ≤ 7 → item_length datum_length v ≤ 1024 → behind_value (value_spelling v ++ rest) ≡ Some rest
+behind_spelled : (v : TreeItem Datum) (rest : List ℕ) → IsItem IsDatum v → item_levels v ≤ 7 → item_length datum_length v ≤ 1024 → behind_value (value_spelling v ++ rest) ≡ Some rest
 unfolding behind_value
 behind_spelled v rest d p q = ap rest_of (item_again IsLoose datum_length datum_spelling loose_at loose_leaves v 7 rest (loosen_item loosen v d) p q)
 
-is_datum_decides : (x : Datum) (v : Item Datum) → Decides (is_datum x v) (v ≡ leaf x)
+is_datum_decides : (x : Datum) (v : TreeItem Datum) → Decides (is_datum x v) (v ≡ leaf x)
 is_datum_decides x (leaf y) = let d = datum_decides x y in (λ h. ap leaf (sym (d.0 h)), λ e. d.1 (let f : leaf y ≡ leaf x = e in cc))
 is_datum_decides x (inner t) = (λ h. cc, λ e. cc)
 
 -- An actual field's spelling begins no other value's.
-actual_walk : (x : Datum) (v : Item Datum) (rest : List ℕ) → IsDatum x → datum_length x ≤ 1024 → IsItem IsDatum v → item_levels v ≤ 7 → item_length datum_length v ≤ 1024
+actual_walk : (x : Datum) (v : TreeItem Datum) (rest : List ℕ) → IsDatum x → datum_length x ≤ 1024 → IsItem IsDatum v → item_levels v ≤ 7 → item_length datum_length v ≤ 1024
     → strip (datum_spelling x) (value_spelling v ++ rest) ≡ cond (is_datum x v) (Some rest) None
 actual_walk x v rest dx px dv lv pv =
     let d = is_datum_decides x v in
@@ -58,7 +58,7 @@ same_tag : (k l : Kind) → value_tag k ≡ value_tag l → k ≡ l
 same_tag k l e = sym (kind_from-number k) ∙ ap kind_from (omega (arith, e, tag_number k, tag_number l)) ∙ kind_from-number l
 
 -- each value begins with the tag of its kind
-tagged : (v : Item Datum) (rest : List ℕ) → (tail : List ℕ) × (value_spelling v ++ rest ≡ value_tag (kind_of v) ∷ tail)
+tagged : (v : TreeItem Datum) (rest : List ℕ) → (tail : List ℕ) × (value_spelling v ++ rest ≡ value_tag (kind_of v) ∷ tail)
 tagged (leaf (number n)) rest = (_, refl)
 tagged (leaf (text s)) rest = (_, refl)
 tagged (leaf (bytes s)) rest = (_, refl)
@@ -66,7 +66,7 @@ tagged (leaf (truth b)) rest = (_, refl)
 tagged (leaf (wide n)) rest = (_, refl)
 tagged (inner t) rest = (_, refl)
 
-formal_walk : (k : Kind) (v : Item Datum) (rest : List ℕ) → IsItem IsDatum v → item_levels v ≤ 7 → item_length datum_length v ≤ 1024
+formal_walk : (k : Kind) (v : TreeItem Datum) (rest : List ℕ) → IsItem IsDatum v → item_levels v ≤ 7 → item_length datum_length v ≤ 1024
     → behind_kind k (value_spelling v ++ rest) ≡ cond (is_of_kind k v) (Some rest) None
 unfolding behind_kind
 formal_walk k v rest dv lv pv =
@@ -101,7 +101,7 @@ not_counted p t q =
     cases (is_match p t) refl
 
 mutual
-  field_walk : (f : Item Slot) (v : Item Datum) (rest : List ℕ) → IsItem IsSlot f → item_length slot_length f ≤ 1024 → IsItem IsDatum v → item_levels v ≤ 7 → item_length datum_length v ≤ 1024
+  field_walk : (f : TreeItem Slot) (v : TreeItem Datum) (rest : List ℕ) → IsItem IsSlot f → item_length slot_length f ≤ 1024 → IsItem IsDatum v → item_levels v ≤ 7 → item_length datum_length v ≤ 1024
       → behind_field f (value_spelling v ++ rest) ≡ cond (is_field_match f v) (Some rest) None
   field_walk (leaf (actual x)) v rest df pf dv lv pv = actual_walk x v rest df pf dv lv pv
   field_walk (leaf any) v rest df pf dv lv pv = behind_spelled v rest dv lv pv

@@ -3,7 +3,7 @@ use Rattle.std.specs.Prelude.{Bool, true, false, ◌&&◌}
 use Rattle.std.specs.Ordering.{int_eq}
 use Rattle.std.specs.Str.{bytes_eq}
 use Rattle.std.specs.Bool.{beq}
-use Rattle.tuple_tree.specs.Items.{Item, leaf, inner, none, item}
+use Rattle.tuple_tree.specs.Items.{TreeItem, leaf, inner, none, item}
 use Rattle.tuple_tree.specs.declared.atoms.Kind.{Kind}
 use Rattle.tuple_tree.specs.declared.atoms.Kind.TheVariants as kinds
 use Rattle.tuple_tree.specs.Values.{Datum, number, text, bytes, truth, wide, Slot, actual, any, formal, TupleTree, TemplateTree}
@@ -17,12 +17,12 @@ datum_eq (truth b) (truth c) = beq b c
 datum_eq (wide m) (wide n) = int_eq m n
 datum_eq _ _ = false
 
-abbrev pub is_datum : Datum → Item Datum → Bool
+abbrev pub is_datum : Datum → TreeItem Datum → Bool
 is_datum x (leaf y) = datum_eq x y
 is_datum x (inner t) = false
 
 -- Whether a value is of a kind.
-abbrev pub is_of_kind : Kind → Item Datum → Bool
+abbrev pub is_of_kind : Kind → TreeItem Datum → Bool
 is_of_kind kinds.Number (leaf (number n)) = true
 is_of_kind kinds.Text (leaf (text s)) = true
 is_of_kind kinds.Bytes (leaf (bytes s)) = true
@@ -31,13 +31,13 @@ is_of_kind kinds.Tuple (inner t) = true
 is_of_kind kinds.Wide (leaf (wide n)) = true
 is_of_kind _ _ = false
 
-abbrev pub is_slot_match : Slot → Item Datum → Bool
+abbrev pub is_slot_match : Slot → TreeItem Datum → Bool
 is_slot_match (actual x) v = is_datum x v
 is_slot_match any v = true
 is_slot_match (formal k) v = is_of_kind k v
 
 abbrev mutual
-  pub is_field_match : Item Slot → Item Datum → Bool
+  pub is_field_match : TreeItem Slot → TreeItem Datum → Bool
   is_field_match (leaf s) v = is_slot_match s v
   is_field_match (inner p) (leaf x) = false
   is_field_match (inner p) (inner t) = is_match p t

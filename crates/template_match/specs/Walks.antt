@@ -1,6 +1,6 @@
 -- What the private walks along the bytes of values, and of a template at once, give: the bytes after them, if they match.
 use Rattle.std.specs.Prelude.{ℕ, ◌==◌, if◌then◌else◌, List, [], ◌∷◌, Option, Some, None}
-use Rattle.tuple_tree.specs.Items.{Item, leaf, inner, none, item, with_last, how_many}
+use Rattle.tuple_tree.specs.Items.{TreeItem, leaf, inner, none, item, with_last, how_many}
 use Rattle.tuple_tree.specs.Values.{Slot, actual, any, formal, TemplateTree}
 use Rattle.tuple_tree.specs.declared.atoms.Kind.{Kind}
 use Rattle.tuple_tree.specs.declared.atoms.Kind.TheVariants as kinds
@@ -37,7 +37,7 @@ behind_slot any bs = behind_value bs
 behind_slot (formal k) bs = behind_kind k bs
 
 abbrev mutual
-  pub behind_field : Item Slot → List ℕ → Option (List ℕ)
+  pub behind_field : TreeItem Slot → List ℕ → Option (List ℕ)
   behind_field (leaf s) bs = behind_slot s bs
   behind_field (inner p) bs = strip (5 ∷ how_many p ∷ []) bs >>= λ rest. behind_fields p rest
 

@@ -5,7 +5,7 @@ use Rattle.tuple_codec.specs.Operations.{Operation, Outcome}
 use Rattle.tuple_text.specs.Written.{operation_written, outcome_text}
 use Rattle.protocol.specs.System.Trace.{Entry}
 use Rattle.protocol.specs.System.Trace.Entry.{Invoke, Got, Tick, Executed, Installed, Sent, Accepted}
-use Rattle.trace_text.specs.Frames.{party_text, short, calls_text, frame_text, receivers_text}
+use Rattle.trace_text.specs.Frames.{party_text, short, calls_text, shown_frame, receivers_text}
 
 -- a word, a client and the timestamp of its call
 abbrev pub of_call : List ℕ → ℕ → ℕ → List ℕ
@@ -15,24 +15,24 @@ abbrev pub invoke_line : ℕ → ℕ → Operation → List ℕ
 invoke_line client timestamp op = of_call (codes "invoke") client timestamp ++ operation_written op
 
 abbrev pub got_line : ℕ → List ℕ → List ℕ
-got_line party bytes = codes "got " ++ party_text party ++ codes " " ++ frame_text bytes
+got_line party bytes = codes "got " ++ party_text party ++ codes " " ++ shown_frame bytes
 
 abbrev pub tick_line : ℕ → List ℕ
 tick_line party = codes "tick " ++ party_text party
 
 -- a word, a replica and a number
-abbrev pub of_number : List ℕ → ℕ → ℕ → List ℕ
-of_number word replica number = word ++ codes " r" ++ decimal replica ++ codes " number " ++ decimal number ++ codes " "
+abbrev pub replica_and_number : List ℕ → ℕ → ℕ → List ℕ
+replica_and_number word replica number = word ++ codes " r" ++ decimal replica ++ codes " number " ++ decimal number ++ codes " "
 
 abbrev pub executed_line : ℕ → ℕ → List ℕ → List ℕ
-executed_line replica number batch = of_number (codes "executed") replica number ++ calls_text batch
+executed_line replica number batch = replica_and_number (codes "executed") replica number ++ calls_text batch
 
 abbrev pub installed_line : ℕ → ℕ → List ℕ → List ℕ
-installed_line replica number root = of_number (codes "installed") replica number ++ codes "root " ++ short root
+installed_line replica number root = replica_and_number (codes "installed") replica number ++ codes "root " ++ short root
 
 abbrev pub sent_line : ℕ → List ℕ → List ℕ
 sent_line party bytes =
-    codes "sent " ++ party_text party ++ codes " " ++ frame_text bytes ++ codes " to " ++ receivers_text bytes
+    codes "sent " ++ party_text party ++ codes " " ++ shown_frame bytes ++ codes " to " ++ receivers_text bytes
 
 abbrev pub accepted_line : ℕ → ℕ → Outcome → List ℕ
 accepted_line client timestamp outcome = of_call (codes "accepted") client timestamp ++ outcome_text outcome

@@ -7,11 +7,11 @@ gap_behind gap [] = []
 gap_behind gap (x ∷ xs) = gap
 
 -- the texts, with the separator before each but the first
-abbrev pub joined : {X : Type 0} → List ℕ → (X → List ℕ) → List X → List ℕ
-joined gap text [] = []
-joined gap text (x ∷ xs) = text x ++ flat_map (λ y. gap ++ text y) xs
+abbrev pub separated : {X : Type 0} → List ℕ → (X → List ℕ) → List X → List ℕ
+separated gap text [] = []
+separated gap text (x ∷ xs) = text x ++ flat_map (λ y. gap ++ text y) xs
 
 -- the same, or another text if there are none
-abbrev pub listed : {X : Type 0} → List ℕ → List ℕ → (X → List ℕ) → List X → List ℕ
-listed gap none text [] = none
-listed gap none text (x ∷ xs) = joined gap text (x ∷ xs)
+abbrev pub separated_or : {X : Type 0} → List ℕ → List ℕ → (X → List ℕ) → List X → List ℕ
+separated_or gap none text [] = none
+separated_or gap none text (x ∷ xs) = separated gap text (x ∷ xs)

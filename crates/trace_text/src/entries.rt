@@ -1,9 +1,9 @@
 //! Entries.
 
 ghost use Rattle.std.specs.Prelude.{◌≡◌, ◌++◌, OnOk, OnErr};
-ghost use Rattle.tuple_text.specs.Written.{Appends};
+ghost use Rattle.tuple_text.specs.Written.{WritesText};
 ghost use Rattle.trace_text.specs.Lines.{entry_line, invoke_line, got_line, tick_line, executed_line};
-ghost use Rattle.trace_text.specs.Lines.{installed_line, sent_line, accepted_line, of_call, of_number};
+ghost use Rattle.trace_text.specs.Lines.{installed_line, sent_line, accepted_line, of_call, replica_and_number};
 ghost use Rattle.events.specs.EntryView.{entry_of_kind};
 ghost use Rattle.tuple_codec.specs.OperationView.{operation_of, outcome_of};
 ghost use Rattle.terms.specs.Parties.{party_number};
@@ -28,7 +28,7 @@ pub fn write_entry(alloc: Global, entry: &Entry, out: &mut Vec<u8>) -> Result<()
 }
 
 fn put_kind(alloc: Global, kind: &EntryKind, out: &mut Vec<u8>) -> Result<(), NoMemory>
-    ensures { Appends result out.old.items (entry_line (entry_of_kind kind.now)) out.new.items }
+    ensures { WritesText result out.old.items (entry_line (entry_of_kind kind.now)) out.new.items }
 {
     match kind {
         EntryKind::Invoke(client, timestamp, op) => {
@@ -50,7 +50,7 @@ fn put_kind(alloc: Global, kind: &EntryKind, out: &mut Vec<u8>) -> Result<(), No
 }
 
 fn put_got(alloc: Global, party: Party, bytes: &[u8], out: &mut Vec<u8>) -> Result<(), NoMemory>
-    ensures { Appends result out.old.items (got_line (party_number party) bytes.now) out.new.items }
+    ensures { WritesText result out.old.items (got_line (party_number party) bytes.now) out.new.items }
 {
     put_party(alloc, "got ", party, out)?;
     append(b" ", out)?;
@@ -58,7 +58,7 @@ fn put_got(alloc: Global, party: Party, bytes: &[u8], out: &mut Vec<u8>) -> Resu
 }
 
 fn put_sent(alloc: Global, party: Party, bytes: &[u8], out: &mut Vec<u8>) -> Result<(), NoMemory>
-    ensures { Appends result out.old.items (sent_line (party_number party) bytes.now) out.new.items }
+    ensures { WritesText result out.old.items (sent_line (party_number party) bytes.now) out.new.items }
 {
     put_party(alloc, "sent ", party, out)?;
     append(b" ", out)?;
@@ -74,7 +74,7 @@ fn put_executed(
     batch: &[u8],
     out: &mut Vec<u8>,
 ) -> Result<(), NoMemory>
-    ensures { Appends result out.old.items (executed_line replica.0 number.0 batch.now) out.new.items }
+    ensures { WritesText result out.old.items (executed_line replica.0 number.0 batch.now) out.new.items }
 {
     put_number(alloc, "executed", replica, number, out)?;
     put_batch(alloc, batch, out)
@@ -87,7 +87,7 @@ fn put_installed(
     root: &Digest,
     out: &mut Vec<u8>,
 ) -> Result<(), NoMemory>
-    ensures { Appends result out.old.items (installed_line replica.0 number.0 root.now) out.new.items }
+    ensures { WritesText result out.old.items (installed_line replica.0 number.0 root.now) out.new.items }
 {
     put_number(alloc, "installed", replica, number, out)?;
     append(b"root ", out)?;
@@ -102,7 +102,7 @@ fn put_number(
     number: Number,
     out: &mut Vec<u8>,
 ) -> Result<(), NoMemory>
-    ensures { Appends result out.old.items (of_number word.now replica.0 number.0) out.new.items }
+    ensures { WritesText result out.old.items (replica_and_number word.now replica.0 number.0) out.new.items }
 {
     let (replica, number) = (replica.0, number.0);
     put(format!(in alloc; "{word} r{replica} number {number} "), out)
@@ -115,14 +115,14 @@ fn put_invoke(
     op: &Op<Global>,
     out: &mut Vec<u8>,
 ) -> Result<(), NoMemory>
-    ensures { Appends result out.old.items (invoke_line client.number timestamp.0 (operation_of op.now)) out.new.items }
+    ensures { WritesText result out.old.items (invoke_line client.number timestamp.0 (operation_of op.now)) out.new.items }
 {
     put_call(alloc, "invoke", client, timestamp, out)?;
     put_op(op, out)
 }
 
 fn put_tick(alloc: Global, party: Party, out: &mut Vec<u8>) -> Result<(), NoMemory>
-    ensures { Appends result out.old.items (tick_line (party_number party)) out.new.items }
+    ensures { WritesText result out.old.items (tick_line (party_number party)) out.new.items }
 {
     put_party(alloc, "tick ", party, out)
 }
@@ -134,7 +134,7 @@ fn put_accepted(
     answer: &Answer<Global>,
     out: &mut Vec<u8>,
 ) -> Result<(), NoMemory>
-    ensures { Appends result out.old.items (accepted_line client.number timestamp.0 (outcome_of answer.now)) out.new.items }
+    ensures { WritesText result out.old.items (accepted_line client.number timestamp.0 (outcome_of answer.now)) out.new.items }
 {
     put_call(alloc, "accepted", client, timestamp, out)?;
     put_answer(answer, out)
@@ -148,7 +148,7 @@ fn put_call(
     timestamp: Timestamp,
     out: &mut Vec<u8>,
 ) -> Result<(), NoMemory>
-    ensures { Appends result out.old.items (of_call word.now client.number timestamp.0) out.new.items }
+    ensures { WritesText result out.old.items (of_call word.now client.number timestamp.0) out.new.items }
 {
     let (client, time) = (client.number, timestamp.0);
     put(format!(in alloc; "{word} c{client} time {time} "), out)

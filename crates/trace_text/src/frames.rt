@@ -1,10 +1,10 @@
 //! Frames as text.
 
 ghost use Rattle.std.specs.Prelude.{◌++◌, codes, decimal};
-ghost use Rattle.tuple_text.specs.Written.{Appends};
+ghost use Rattle.tuple_text.specs.Written.{WritesText};
 ghost use Rattle.wire_format.specs.Views.{body_data};
-ghost use Rattle.trace_text.specs.Frames.{of_number, of_view, asked, changed, opened, part_text};
-ghost use Rattle.trace_text.specs.Frames.{body_text, frame_text, receivers_text};
+ghost use Rattle.trace_text.specs.Frames.{sender_and_number, of_view, request_words, changed, new_view_words, part_text};
+ghost use Rattle.trace_text.specs.Frames.{shown_body, shown_frame, receivers_text};
 ghost use Rattle.trace_text.specs.Shown.{name_text, request_shown, pre_prepare_shown, vote_shown};
 ghost use Rattle.trace_text.specs.Shown.{checkpoint_shown, view_change_shown, new_view_shown};
 ghost use Rattle.trace_text.specs.Shown.{started_shown, replied_shown, reply_shown, page_shown};
@@ -23,7 +23,7 @@ use wire::{
 
 /// Appends the text of the frame that these bytes spell.
 pub(crate) fn put_frame(alloc: Global, bytes: &[u8], out: &mut Vec<u8>) -> Result<(), NoMemory>
-    ensures { Appends result out.old.items (frame_text bytes.now) out.new.items }
+    ensures { WritesText result out.old.items (shown_frame bytes.now) out.new.items }
 {
     match decode(alloc, bytes) {
         Ok(frame) => put_body(alloc, &frame.body, out),
@@ -36,14 +36,14 @@ pub(crate) fn put_frame(alloc: Global, bytes: &[u8], out: &mut Vec<u8>) -> Resul
 
 // Appends the text for bytes that are no frame.
 fn put_len(alloc: Global, len: usize, out: &mut Vec<u8>) -> Result<(), NoMemory>
-    ensures { Appends result out.old.items (decimal len ++ codes " bytes that are no frame") out.new.items }
+    ensures { WritesText result out.old.items (decimal len ++ codes " bytes that are no frame") out.new.items }
 {
     put(format!(in alloc; "{len} bytes that are no frame"), out)
 }
 
 /// Appends the receivers for whom the frame has a MAC; a signature is for all.
 pub(crate) fn put_to(alloc: Global, bytes: &[u8], out: &mut Vec<u8>) -> Result<(), NoMemory>
-    ensures { Appends result out.old.items (receivers_text bytes.now) out.new.items }
+    ensures { WritesText result out.old.items (receivers_text bytes.now) out.new.items }
 {
     match judge(bytes) {
         Ok(header) => match &header.authenticator {
@@ -55,7 +55,7 @@ pub(crate) fn put_to(alloc: Global, bytes: &[u8], out: &mut Vec<u8>) -> Result<(
 }
 
 fn put_body(alloc: Global, body: &Body, out: &mut Vec<u8>) -> Result<(), NoMemory>
-    ensures { Appends result out.old.items (body_text (body_data body.now)) out.new.items }
+    ensures { WritesText result out.old.items (shown_body (body_data body.now)) out.new.items }
 {
     let sender = body.sender;
     match &body.message {
@@ -103,7 +103,7 @@ fn put_request(
     request: &Request,
     out: &mut Vec<u8>,
 ) -> Result<(), NoMemory>
-    ensures { Appends result out.old.items (request_shown sender request.now) out.new.items }
+    ensures { WritesText result out.old.items (request_shown sender request.now) out.new.items }
 {
     put_asked(alloc, sender, request.timestamp.0, request.mode, out)?;
     put_op(&request.op, out)
@@ -116,7 +116,7 @@ fn put_asked(
     mode: Mode,
     out: &mut Vec<u8>,
 ) -> Result<(), NoMemory>
-    ensures { Appends result out.old.items (asked (name_text sender) time mode) out.new.items }
+    ensures { WritesText result out.old.items (request_words (name_text sender) time mode) out.new.items }
 {
     let (sender, mode) = (Name(sender), mode_name(mode));
     put(
@@ -131,7 +131,7 @@ fn put_pre_prepare(
     m: &PrePrepare,
     out: &mut Vec<u8>,
 ) -> Result<(), NoMemory>
-    ensures { Appends result out.old.items (pre_prepare_shown sender m.now) out.new.items }
+    ensures { WritesText result out.old.items (pre_prepare_shown sender m.now) out.new.items }
 {
     put_of_view(alloc, "pre-prepare", sender, m.view.0, m.number.0, out)?;
     put_batch(alloc, m.batch.text.as_slice(), out)
@@ -147,7 +147,7 @@ fn put_vote(
     digest: &Digest,
     out: &mut Vec<u8>,
 ) -> Result<(), NoMemory>
-    ensures { Appends result out.old.items (vote_shown word.now sender view number digest.now) out.new.items }
+    ensures { WritesText result out.old.items (vote_shown word.now sender view number digest.now) out.new.items }
 {
     put_of_view(alloc, word, sender, view, number, out)?;
     append(b"digest ", out)?;
@@ -162,7 +162,7 @@ fn put_of_view(
     number: u64,
     out: &mut Vec<u8>,
 ) -> Result<(), NoMemory>
-    ensures { Appends result out.old.items (of_view word.now (name_text sender) view number) out.new.items }
+    ensures { WritesText result out.old.items (of_view word.now (name_text sender) view number) out.new.items }
 {
     let sender = Name(sender);
     put(
@@ -177,7 +177,7 @@ fn put_checkpoint(
     m: &Checkpoint,
     out: &mut Vec<u8>,
 ) -> Result<(), NoMemory>
-    ensures { Appends result out.old.items (checkpoint_shown sender m.now) out.new.items }
+    ensures { WritesText result out.old.items (checkpoint_shown sender m.now) out.new.items }
 {
     put_of_number(alloc, "checkpoint", sender, m.number.0, out)?;
     append(b"root ", out)?;
@@ -191,7 +191,7 @@ fn put_of_number(
     number: u64,
     out: &mut Vec<u8>,
 ) -> Result<(), NoMemory>
-    ensures { Appends result out.old.items (of_number word.now (name_text sender) number) out.new.items }
+    ensures { WritesText result out.old.items (sender_and_number word.now (name_text sender) number) out.new.items }
 {
     let sender = Name(sender);
     put(format!(in alloc; "{word} {sender} number {number} "), out)
@@ -203,7 +203,7 @@ fn put_view_change(
     change: &ViewChange,
     out: &mut Vec<u8>,
 ) -> Result<(), NoMemory>
-    ensures { Appends result out.old.items (view_change_shown sender change.now) out.new.items }
+    ensures { WritesText result out.old.items (view_change_shown sender change.now) out.new.items }
 {
     put_changed(alloc, sender, change.view.0, change.low.0, out)?;
     put_checkpoints(alloc, change.checkpoints.as_slice(), out)?;
@@ -220,7 +220,7 @@ fn put_changed(
     low: u64,
     out: &mut Vec<u8>,
 ) -> Result<(), NoMemory>
-    ensures { Appends result out.old.items (changed (name_text sender) view low) out.new.items }
+    ensures { WritesText result out.old.items (changed (name_text sender) view low) out.new.items }
 {
     put_party(alloc, "view-change ", sender, out)?;
     put_number(alloc, " view ", view, out)?;
@@ -234,7 +234,7 @@ fn put_new_view(
     new: &NewView,
     out: &mut Vec<u8>,
 ) -> Result<(), NoMemory>
-    ensures { Appends result out.old.items (new_view_shown sender new.now) out.new.items }
+    ensures { WritesText result out.old.items (new_view_shown sender new.now) out.new.items }
 {
     put_started(alloc, sender, new, out)?;
     put_short(alloc, &new.root, out)?;
@@ -249,7 +249,7 @@ fn put_started(
     new: &NewView,
     out: &mut Vec<u8>,
 ) -> Result<(), NoMemory>
-    ensures { Appends result out.old.items (started_shown sender new.now) out.new.items }
+    ensures { WritesText result out.old.items (started_shown sender new.now) out.new.items }
 {
     put_opened(alloc, sender, new.view.0, out)?;
     put_senders(alloc, new.changes.as_slice(), out)?;
@@ -258,7 +258,7 @@ fn put_started(
 }
 
 fn put_opened(alloc: Global, sender: Party, view: u64, out: &mut Vec<u8>) -> Result<(), NoMemory>
-    ensures { Appends result out.old.items (opened (name_text sender) view) out.new.items }
+    ensures { WritesText result out.old.items (new_view_words (name_text sender) view) out.new.items }
 {
     let sender = Name(sender);
     put(
@@ -268,7 +268,7 @@ fn put_opened(alloc: Global, sender: Party, view: u64, out: &mut Vec<u8>) -> Res
 }
 
 fn put_reply(alloc: Global, sender: Party, reply: &Reply, out: &mut Vec<u8>) -> Result<(), NoMemory>
-    ensures { Appends result out.old.items (reply_shown sender reply.now) out.new.items }
+    ensures { WritesText result out.old.items (reply_shown sender reply.now) out.new.items }
 {
     put_replied(alloc, sender, reply, out)?;
     put_answer(&reply.answer, out)
@@ -280,7 +280,7 @@ fn put_replied(
     reply: &Reply,
     out: &mut Vec<u8>,
 ) -> Result<(), NoMemory>
-    ensures { Appends result out.old.items (replied_shown sender reply.now) out.new.items }
+    ensures { WritesText result out.old.items (replied_shown sender reply.now) out.new.items }
 {
     put_party(alloc, "reply ", sender, out)?;
     put_party(alloc, " client ", Party::Client(reply.client), out)?;
@@ -300,7 +300,7 @@ fn put_part(
     place: Place,
     out: &mut Vec<u8>,
 ) -> Result<(), NoMemory>
-    ensures { Appends result out.old.items (part_text word.now (name_text sender) number place.level place.index)
+    ensures { WritesText result out.old.items (part_text word.now (name_text sender) number place.level place.index)
         out.new.items }
 {
     let sender = Name(sender);
@@ -311,7 +311,7 @@ fn put_part(
 }
 
 fn put_page(alloc: Global, sender: Party, m: &Page, out: &mut Vec<u8>) -> Result<(), NoMemory>
-    ensures { Appends result out.old.items (page_shown sender m.now) out.new.items }
+    ensures { WritesText result out.old.items (page_shown sender m.now) out.new.items }
 {
     let (sender, number) = (Name(sender), m.number.0);
     let (index, len) = (m.index, m.text.len());

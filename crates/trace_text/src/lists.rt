@@ -2,7 +2,7 @@
 
 ghost use Rattle.std.specs.Prelude.{◌++◌};
 ghost use Rattle.terms.specs.Parties.{party_number};
-ghost use Rattle.tuple_text.specs.Written.{Appends};
+ghost use Rattle.tuple_text.specs.Written.{WritesText};
 ghost use Rattle.wire_format.specs.Views.{message_data, batch_text};
 ghost use Rattle.trace_text.specs.Frames.{call_by, call_text, calls_text, sender_text, batch_in_brackets};
 ghost use Rattle.trace_text.specs.Shown.{calls_shown, time_text, receivers_shown, checkpoints_shown};
@@ -17,14 +17,14 @@ use wire::{Batch, BatchEntry, CheckpointEntry, Message, ReceiverMac, decode, jud
 
 /// Appends the clients and timestamps of a batch's requests.
 pub(crate) fn put_batch(alloc: Global, text: &[u8], out: &mut Vec<u8>) -> Result<(), NoMemory>
-    ensures { Appends result out.old.items (calls_text text.now) out.new.items }
+    ensures { WritesText result out.old.items (calls_text text.now) out.new.items }
 {
     let requests = requests(text);
     put_calls(alloc, requests.as_slice(), out)
 }
 
 fn put_calls(alloc: Global, items: &[&[u8]], out: &mut Vec<u8>) -> Result<(), NoMemory>
-    ensures { Appends result out.old.items (calls_shown items.now) out.new.items }
+    ensures { WritesText result out.old.items (calls_shown items.now) out.new.items }
 {
     if items.is_empty() {
         return append(b"null", out);
@@ -38,7 +38,7 @@ fn put_calls(alloc: Global, items: &[&[u8]], out: &mut Vec<u8>) -> Result<(), No
 }
 
 fn put_call(alloc: Global, gap: &str, frame: &[u8], out: &mut Vec<u8>) -> Result<(), NoMemory>
-    ensures { Appends result out.old.items (gap.now ++ call_text frame.now) out.new.items }
+    ensures { WritesText result out.old.items (gap.now ++ call_text frame.now) out.new.items }
 {
     append(gap.as_bytes(), out)?;
     match decode(alloc, frame) {
@@ -53,7 +53,7 @@ fn put_call_by(
     message: &Message,
     out: &mut Vec<u8>,
 ) -> Result<(), NoMemory>
-    ensures { Appends result out.old.items (call_by (party_number sender) (message_data message.now)) out.new.items }
+    ensures { WritesText result out.old.items (call_by (party_number sender) (message_data message.now)) out.new.items }
 {
     match message {
         Message::Request(request) => put_time(alloc, sender, request.timestamp.0, out),
@@ -62,7 +62,7 @@ fn put_call_by(
 }
 
 fn put_time(alloc: Global, sender: Party, time: u64, out: &mut Vec<u8>) -> Result<(), NoMemory>
-    ensures { Appends result out.old.items (time_text sender time) out.new.items }
+    ensures { WritesText result out.old.items (time_text sender time) out.new.items }
 {
     let sender = Name(sender);
     put(format!(in alloc; "{sender}:{time}"), out)
@@ -73,7 +73,7 @@ pub(crate) fn put_receivers(
     items: &[ReceiverMac],
     out: &mut Vec<u8>,
 ) -> Result<(), NoMemory>
-    ensures { Appends result out.old.items (receivers_shown items.now) out.new.items }
+    ensures { WritesText result out.old.items (receivers_shown items.now) out.new.items }
 {
     if items.is_empty() {
         return append(b"all", out);
@@ -91,7 +91,7 @@ pub(crate) fn put_checkpoints(
     items: &[CheckpointEntry],
     out: &mut Vec<u8>,
 ) -> Result<(), NoMemory>
-    ensures { Appends result out.old.items (checkpoints_shown items.now) out.new.items }
+    ensures { WritesText result out.old.items (checkpoints_shown items.now) out.new.items }
 {
     if items.is_empty() {
         return append(b"-", out);
@@ -110,7 +110,7 @@ fn put_checkpoint(
     entry: &CheckpointEntry,
     out: &mut Vec<u8>,
 ) -> Result<(), NoMemory>
-    ensures { Appends result out.old.items (gap.now ++ checkpoint_entry_shown entry.now) out.new.items }
+    ensures { WritesText result out.old.items (gap.now ++ checkpoint_entry_shown entry.now) out.new.items }
 {
     put_number(alloc, gap, entry.number.0, out)?;
     append(b":", out)?;
@@ -122,7 +122,7 @@ pub(crate) fn put_entries(
     items: &[BatchEntry],
     out: &mut Vec<u8>,
 ) -> Result<(), NoMemory>
-    ensures { Appends result out.old.items (batch_entries_shown items.now) out.new.items }
+    ensures { WritesText result out.old.items (batch_entries_shown items.now) out.new.items }
 {
     if items.is_empty() {
         return append(b"-", out);
@@ -141,7 +141,7 @@ fn put_entry(
     entry: &BatchEntry,
     out: &mut Vec<u8>,
 ) -> Result<(), NoMemory>
-    ensures { Appends result out.old.items (gap.now ++ batch_entry_shown entry.now) out.new.items }
+    ensures { WritesText result out.old.items (gap.now ++ batch_entry_shown entry.now) out.new.items }
 {
     put_number(alloc, gap, entry.number.0, out)?;
     append(b":", out)?;
@@ -155,7 +155,7 @@ pub(crate) fn put_senders(
     items: &[Vec<u8>],
     out: &mut Vec<u8>,
 ) -> Result<(), NoMemory>
-    ensures { Appends result out.old.items (senders_shown items.now) out.new.items }
+    ensures { WritesText result out.old.items (senders_shown items.now) out.new.items }
 {
     if items.is_empty() {
         return append(b"-", out);
@@ -169,7 +169,7 @@ pub(crate) fn put_senders(
 }
 
 fn put_sender(alloc: Global, gap: &str, frame: &[u8], out: &mut Vec<u8>) -> Result<(), NoMemory>
-    ensures { Appends result out.old.items (gap.now ++ sender_text frame.now) out.new.items }
+    ensures { WritesText result out.old.items (gap.now ++ sender_text frame.now) out.new.items }
 {
     match judge(frame) {
         Ok(header) => put_party(alloc, gap, header.sender, out),
@@ -178,7 +178,7 @@ fn put_sender(alloc: Global, gap: &str, frame: &[u8], out: &mut Vec<u8>) -> Resu
 }
 
 pub(crate) fn put_batches(alloc: Global, items: &[Batch], out: &mut Vec<u8>) -> Result<(), NoMemory>
-    ensures { Appends result out.old.items (batches_shown items.now) out.new.items }
+    ensures { WritesText result out.old.items (batches_shown items.now) out.new.items }
 {
     if items.is_empty() {
         return append(b"-", out);
@@ -197,7 +197,7 @@ fn put_in_brackets(
     batch: &Batch,
     out: &mut Vec<u8>,
 ) -> Result<(), NoMemory>
-    ensures { Appends result out.old.items (gap.now ++ batch_in_brackets (batch_text batch.now)) out.new.items }
+    ensures { WritesText result out.old.items (gap.now ++ batch_in_brackets (batch_text batch.now)) out.new.items }
 {
     append(gap.as_bytes(), out)?;
     append(b"[", out)?;

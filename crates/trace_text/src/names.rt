@@ -2,7 +2,7 @@
 
 ghost use Rattle.std.specs.Prelude.{◌≡◌, ◌++◌, decimal, Some};
 ghost use Rattle.terms.specs.Parties.{party_number};
-ghost use Rattle.tuple_text.specs.Written.{Appends};
+ghost use Rattle.tuple_text.specs.Written.{WritesText};
 ghost use Rattle.trace_text.specs.Frames.{party_text, short, mode_text, place_text};
 
 use crate::putting::put;
@@ -64,7 +64,7 @@ pub(crate) fn put_party(
     party: Party,
     out: &mut Vec<u8>,
 ) -> Result<(), NoMemory>
-    ensures { Appends result out.old.items (before.now ++ party_text (party_number party)) out.new.items }
+    ensures { WritesText result out.old.items (before.now ++ party_text (party_number party)) out.new.items }
 {
     let party = Name(party);
     put(format!(in alloc; "{before}{party}"), out)
@@ -77,14 +77,14 @@ pub(crate) fn put_number(
     number: u64,
     out: &mut Vec<u8>,
 ) -> Result<(), NoMemory>
-    ensures { Appends result out.old.items (before.now ++ decimal number) out.new.items }
+    ensures { WritesText result out.old.items (before.now ++ decimal number) out.new.items }
 {
     put(format!(in alloc; "{before}{number}"), out)
 }
 
 /// Appends the first four bytes of a digest, two hexadecimal digits each.
 pub(crate) fn put_short(alloc: Global, digest: &Digest, out: &mut Vec<u8>) -> Result<(), NoMemory>
-    ensures { Appends result out.old.items (short digest.now) out.new.items }
+    ensures { WritesText result out.old.items (short digest.now) out.new.items }
 {
     put(hex::encode(alloc, &digest[..4]), out)
 }

@@ -5,7 +5,7 @@ use Rattle.tuple_tree.specs.Values.{AreBytes, IsDatum, IsSlot, datum_length, slo
 use Rattle.tuple_tree.specs.Reading.{Reader, datum_at, slot_at, tuple_at, template_at}
 use Rattle.tuple_tree.specs.Spelling.{datum_spelling, slot_spelling, tuple_spelling, template_spelling}
 use Rattle.tuple_codec.specs.Spelling.{Spells, FrontSpells}
-use Rattle.tuple_codec.specs.Gives.{Fails}
+use Rattle.tuple_codec.specs.Gives.{DecodingFails}
 use Rattle.tuple_codec.specs.declared.bad.Bad.{Bad}
 use Rattle.tuple_codec.specs.declared.bad.Bad.TheVariants as bad
 use Rattle.tuple_tree.proofs.Readers.{Found, Again, parts}
@@ -39,7 +39,7 @@ module _ {V : Type 0} (IsValue : V → Type 0) (spelling : V → List ℕ) (at :
       let h = parts (sym e ∙ only bs w k s) in
       (h.0, omega (arith, ap length h.1, length-drop k bs))
 
-  pub only_err : (bs : List ℕ) (e : Bad) (w : V) (k : ℕ) → Fails e (at bs) → Spells IsValue spelling (take k bs) w → e ≡ bad.NoMemory
+  pub only_err : (bs : List ℕ) (e : Bad) (w : V) (k : ℕ) → DecodingFails e (at bs) → Spells IsValue spelling (take k bs) w → e ≡ bad.NoMemory
   only_err bs bad.NoMemory w k h s = refl
   only_err bs bad.Malformed w k h s = absurd (let e : None ≡ Some (w, drop k bs) = sym h ∙ only bs w k s in cc)
 

@@ -2,7 +2,7 @@
 use Rattle.std.proofs.Common.{◌≡◌, ℕ, ◌+◌, ◌<◌, ◌≤◌, List, ◌++◌, length, take, drop, get_or, Result, Ok, Err, ap, sym, refl, ◌∙◌, arith, append_assoc, append-nil}
 use Rattle.std.proofs.lemmas.List.{take_at, take-take, take-append-le, length-take, at_drop_more, at_drop_all}
 use Rattle.tuple_tree.specs.Values.{TupleTree}
-use Rattle.tuple_tree.specs.Puts.{Puts}
+use Rattle.tuple_tree.specs.Puts.{PutsText}
 use Rattle.tuple_tree.specs.Spelling.{tuple_spelling}
 use Rattle.tuple_codec.specs.Spelling.{tuples_spelling}
 
@@ -21,7 +21,7 @@ kept_grown a b c y h e =
     ap (take (length a)) e ∙ take-append-le (length a) b y l ∙ h
 
 -- A text, and then another one.
-pub then : {U E : Type 0} (x y a b c : List ℕ) (r : Result U E) → b ≡ a ++ x → Puts y b c r → Puts (x ++ y) a c r
+pub then : {U E : Type 0} (x y a b c : List ℕ) (r : Result U E) → b ≡ a ++ x → PutsText y b c r → PutsText (x ++ y) a c r
 then x y a b c (Ok u) e h = h ∙ ap (λ s. s ++ y) e ∙ append_assoc a x y
 then x y a b c (Err f) e h = kept_on a b c (grown a b x e) h
 

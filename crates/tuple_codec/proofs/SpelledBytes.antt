@@ -5,7 +5,7 @@ use Rattle.std.specs.Prelude.{nat_lt}
 use Rattle.std.specs.Int.{w16, w32, w64, w128, to_be_bytes, cast_unsigned}
 use Rattle.std.specs.Str.{IsUtf8}
 use Rattle.std.proofs.Math.Utf8.{scalar, scalars, encode, encodes, next, scalar_cases}
-use Rattle.tuple_tree.specs.Items.{Item, leaf, inner, Items, none, item, how_many}
+use Rattle.tuple_tree.specs.Items.{TreeItem, leaf, inner, Items, none, item, how_many}
 use Rattle.tuple_tree.specs.Limits.{IsItem, AreItems}
 use Rattle.tuple_tree.specs.Values.{Datum, number, text, bytes, truth, wide, Slot, actual, any, formal, AreBytes, IsDatum, IsSlot, TupleTree, TemplateTree, IsTuple, IsTemplate}
 use Rattle.tuple_tree.specs.declared.atoms.Kind.{Kind}
@@ -103,7 +103,7 @@ slot_bytes (formal k) h = bytes_more (formal_tag k) [] (formal_below k) no_bytes
 
 module _ {L : Type 0} (IsLeaf : L → Type 0) (spelling : L → List ℕ) (leaf_bytes : (x : L) → IsLeaf x → AreBytes (spelling x)) where
   mutual
-    item_bytes : (x : Item L) → IsItem IsLeaf x → AreBytes (item_spelling spelling x)
+    item_bytes : (x : TreeItem L) → IsItem IsLeaf x → AreBytes (item_spelling spelling x)
     item_bytes (leaf x) h = leaf_bytes x h
     item_bytes (inner t) h =
         bytes_more 5 (how_many t ∷ items_spelling spelling t) (omega arith) (bytes_more (how_many t) (items_spelling spelling t) (omega (arith, h.0)) (items_bytes t h.1))

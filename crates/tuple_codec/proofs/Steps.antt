@@ -4,22 +4,22 @@ use Rattle.std.proofs.lemmas.Bool.{le-ltb}
 use Rattle.std.proofs.lemmas.List.{take-append-drop, drop_at, length-take}
 use lib.Dec.{ltb}
 use Rattle.tuple_tree.specs.Values.{TupleTree, AreBytes}
-use Rattle.tuple_codec.specs.Gives.{Fails}
+use Rattle.tuple_codec.specs.Gives.{DecodingFails}
 use Rattle.tuple_codec.specs.declared.bad.Bad.{Bad}
 use Rattle.tuple_codec.specs.declared.bad.Bad.TheVariants as bad
 use Rattle.tuple_tree.specs.Reading.{Reader, more, byte_at, framed, tuple_at}
-use Rattle.tuple_codec.specs.Reading.{with_tuple, tuples_at}
+use Rattle.tuple_codec.specs.Reading.{with_last_tuple, tuples_at}
 use Rattle.tuple_tree.proofs.Readers.{Found, bytes_take}
 use Rattle.tuple_tree.proofs.Steps.{step}
 
 module _ {X S : Type 0} (at : Reader X) (grow : S → X → S) where
-  pub one_fails : (e : Bad) (n i : ℕ) (s : S) (bs : List ℕ) → i < n → Fails e (at bs) → Fails e (more at grow (n - i) s bs)
+  pub one_fails : (e : Bad) (n i : ℕ) (s : S) (bs : List ℕ) → i < n → DecodingFails e (at bs) → DecodingFails e (more at grow (n - i) s bs)
   one_fails bad.NoMemory n i s bs p h = tt
   one_fails bad.Malformed n i s bs p h = step at grow n i s bs p ∙ rw h refl
 
 -- the same of tuples
 pub whole_tuples : (bs front rest : List ℕ) (n i : ℕ) (ts : List TupleTree) → byte_at bs ≡ Some (n, front) → n ≤ 64
-    → more tuple_at with_tuple (n - i) ts rest ≡ more tuple_at with_tuple n [] front → more tuple_at with_tuple (n - i) ts rest ≡ tuples_at bs
+    → more tuple_at with_last_tuple (n - i) ts rest ≡ more tuple_at with_last_tuple n [] front → more tuple_at with_last_tuple (n - i) ts rest ≡ tuples_at bs
 unfolding tuples_at
 whole_tuples bs front rest n i ts e p h = let l : ltb 64 n ≡ false = le-ltb 64 n p in h ∙ sym (rw (e, l) refl)
 
@@ -35,7 +35,7 @@ pub framed_there : {V : Type 0} (at : Reader V) (bs rest : List ℕ) (limit : �
 unfolding framed
 framed_there at bs rest limit v e = rw e refl
 
-pub framed_fails : {V : Type 0} (e : Bad) (at : Reader V) (bs : List ℕ) (limit : ℕ) → Fails e (at (take limit bs)) → Fails e (framed limit at bs)
+pub framed_fails : {V : Type 0} (e : Bad) (at : Reader V) (bs : List ℕ) (limit : ℕ) → DecodingFails e (at (take limit bs)) → DecodingFails e (framed limit at bs)
 unfolding framed
 framed_fails bad.NoMemory at bs limit h = tt
 framed_fails bad.Malformed at bs limit h = rw h refl

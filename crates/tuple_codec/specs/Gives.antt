@@ -3,14 +3,14 @@ use Rattle.std.specs.Prelude.{◌≡◌, ℕ, ◌≤◌, List, length, take, Opt
 use Rattle.tuple_codec.specs.declared.bad.Bad.{Bad}
 use Rattle.tuple_codec.specs.declared.bad.Bad.TheVariants as bad
 
-abbrev pub Fails : {Y : Type 0} → Bad → Option Y → Type 0
-Fails bad.NoMemory read = Unit {0}
-Fails bad.Malformed read = read ≡ None
+abbrev pub DecodingFails : {Y : Type 0} → Bad → Option Y → Type 0
+DecodingFails bad.NoMemory read = Unit {0}
+DecodingFails bad.Malformed read = read ≡ None
 
 -- the same, unless memory ran out
-abbrev pub Gives : {X Y : Type 0} → (X → Y) → Result X Bad → Option Y → Type 0
-Gives view (Ok x) read = read ≡ Some (view x)
-Gives view (Err e) read = Fails e read
+abbrev pub DecodingGives : {X Y : Type 0} → (X → Y) → Result X Bad → Option Y → Type 0
+DecodingGives view (Ok x) read = read ≡ Some (view x)
+DecodingGives view (Err e) read = DecodingFails e read
 
 -- The given value comes with a count, and so many first bytes spell it.
 abbrev pub DecodesSpelled : {X V : Type 0} → (X → V) → (List ℕ → V → Type 0) → List ℕ → Result (X × ℕ) Bad → Type 0

@@ -3,23 +3,23 @@
 use Rattle.std.specs.Prelude.{ℕ, ◌&&◌, nat_lt, nat_le, if◌then◌else◌, List, [], ◌∷◌, ◌++◌, None}
 use Rattle.tuple_tree.specs.Values.{TupleTree, TemplateTree}
 use Rattle.tuple_codec.specs.Operations.{Operation, out, rdp, inp, cas, rd_all, in_all, upgrade, Outcome, done, found, absent, swapped, all, full, refused}
-use Rattle.tuple_tree.specs.Reading.{◌>>=◌, Reader, read_as, alone, Row, by_tag, unknown, more, byte_at, flag_at, tuple_at, template_at}
+use Rattle.tuple_tree.specs.Reading.{◌>>=◌, Reader, read_as, alone, TaggedReader, by_tag, unknown, more, byte_at, flag_at, tuple_at, template_at}
 
 unfoldable pub cas_at : Reader Operation
 cas_at bs = template_at bs >>= λ p. read_as (cas p.0) tuple_at p.1
 
 -- a count of 1 to 64, and a template
-unfoldable pub counted_at : Reader (ℕ × TemplateTree)
-counted_at bs = byte_at bs >>= λ n. if nat_le 1 n.0 && nat_le n.0 64 then read_as (λ p. (n.0, p)) template_at n.1 else None
+unfoldable pub counted_template_at : Reader (ℕ × TemplateTree)
+counted_template_at bs = byte_at bs >>= λ n. if nat_le 1 n.0 && nat_le n.0 64 then read_as (λ p. (n.0, p)) template_at n.1 else None
 
-abbrev pub operation_rows : List (Row Operation)
+abbrev pub operation_rows : List (TaggedReader Operation)
 operation_rows =
     (0x21, read_as out tuple_at)
     ∷ (0x22, read_as rdp template_at)
     ∷ (0x23, read_as inp template_at)
     ∷ (0x24, cas_at)
-    ∷ (0x25, read_as (λ x. rd_all x.0 x.1) counted_at)
-    ∷ (0x26, read_as (λ x. in_all x.0 x.1) counted_at)
+    ∷ (0x25, read_as (λ x. rd_all x.0 x.1) counted_template_at)
+    ∷ (0x26, read_as (λ x. in_all x.0 x.1) counted_template_at)
     ∷ (0x27, alone upgrade)
     ∷ []
 
@@ -29,11 +29,11 @@ operation_behind tag bs = by_tag operation_rows unknown tag bs
 unfoldable pub operation_at : Reader Operation
 operation_at bs = byte_at bs >>= λ x. operation_behind x.0 x.1
 
-abbrev pub with_tuple : List TupleTree → TupleTree → List TupleTree
-with_tuple ts t = ts ++ t ∷ []
+abbrev pub with_last_tuple : List TupleTree → TupleTree → List TupleTree
+with_last_tuple ts t = ts ++ t ∷ []
 
 unfoldable pub tuples_at : Reader (List TupleTree)
-tuples_at bs = byte_at bs >>= λ n. if nat_lt 64 n.0 then None else more tuple_at with_tuple n.0 [] n.1
+tuples_at bs = byte_at bs >>= λ n. if nat_lt 64 n.0 then None else more tuple_at with_last_tuple n.0 [] n.1
 
 -- the answers with a content after their tag
 abbrev pub found_at : Reader Outcome
@@ -45,7 +45,7 @@ swapped_at = read_as swapped flag_at
 abbrev pub all_at : Reader Outcome
 all_at = read_as all tuples_at
 
-abbrev pub outcome_rows : List (Row Outcome)
+abbrev pub outcome_rows : List (TaggedReader Outcome)
 outcome_rows =
     (0x31, alone done)
     ∷ (0x32, found_at)

@@ -5,7 +5,7 @@ ghost use Rattle.tuple_codec.specs.Operations.{Operation, Outcome};
 ghost use Rattle.tuple_tree.specs.Gives.{Yields};
 ghost use Rattle.tuple_codec.specs.Spelling.{SpellsOperation, SpellsOutcome};
 ghost use Rattle.tuple_tree.specs.Reading.{rest_of, tuple_at, template_at};
-ghost use Rattle.tuple_codec.specs.Reading.{cas_at, counted_at, operation_behind, operation_at, tuples_at, outcome_behind, outcome_at};
+ghost use Rattle.tuple_codec.specs.Reading.{cas_at, counted_template_at, operation_behind, operation_at, tuples_at, outcome_behind, outcome_at};
 
 use crate::operations::{MAX_ANSWERS, Max};
 use crate::reading::frame;
@@ -65,9 +65,9 @@ fn skip_cas(bytes: &[u8]) -> Option<&[u8]>
     }
 }
 
-#[tactic(auto, unfolding(crate::specs::Reading::counted_at))]
+#[tactic(auto, unfolding(crate::specs::Reading::counted_template_at))]
 fn skip_counted(bytes: &[u8]) -> Option<&[u8]>
-    ensures { Yields (λ rest. rest.now) result (rest_of (counted_at bytes.now)) }
+    ensures { Yields (λ rest. rest.now) result (rest_of (counted_template_at bytes.now)) }
 {
     let (count, after) = read_byte(bytes)?;
     match Max::new(count) {

@@ -1,7 +1,7 @@
 //! From values to bytes.
 
 ghost use Rattle.std.specs.Prelude.{◌≡◌, ◌++◌, ◌∷◌, OnOk, OnErr};
-ghost use Rattle.tuple_tree.specs.Puts.{Puts};
+ghost use Rattle.tuple_tree.specs.Puts.{PutsText};
 ghost use Rattle.tuple_codec.specs.Operations.{all};
 ghost use Rattle.tuple_codec.specs.OperationView.{op_spelling, answer_spelling};
 ghost use Rattle.tuple_tree.specs.Spelling.{flag, tuple_spelling, template_spelling};
@@ -86,7 +86,7 @@ pub fn encode_result<A: Allocator, B: Allocator>(
 }
 
 fn put_op<A: Allocator, B: Allocator>(op: &Op<A>, out: &mut Vec<u8, B>) -> Result<(), NoMemory>
-    ensures { Puts (op_spelling op.now) out.old.items out.new.items result }
+    ensures { PutsText (op_spelling op.now) out.old.items out.new.items result }
 {
     match op {
         Op::Out(tuple) => put_tuple_behind(0x21, tuple, out),
@@ -104,7 +104,7 @@ fn put_cas<A: Allocator, B: Allocator>(
     tuple: &Tuple<A>,
     out: &mut Vec<u8, B>,
 ) -> Result<(), NoMemory>
-    ensures { Puts (cas_spelling template.now tuple.now) out.old.items out.new.items result }
+    ensures { PutsText (cas_spelling template.now tuple.now) out.old.items out.new.items result }
 {
     put_template_behind(0x24, template, out)?;
     put_tuple(tuple, out)
@@ -116,7 +116,7 @@ fn put_counted<A: Allocator, B: Allocator>(
     template: &Template<A>,
     out: &mut Vec<u8, B>,
 ) -> Result<(), NoMemory>
-    ensures { Puts (tag ∷ counted_spelling (max.count, template.now)) out.old.items out.new.items result }
+    ensures { PutsText (tag ∷ counted_spelling (max.count, template.now)) out.old.items out.new.items result }
 {
     put_byte(tag, out)?;
     put_template_behind(max.count, template, out)
@@ -126,7 +126,7 @@ fn put_answer<A: Allocator, B: Allocator>(
     answer: &Answer<A>,
     out: &mut Vec<u8, B>,
 ) -> Result<(), NoMemory>
-    ensures { Puts (answer_spelling answer.now) out.old.items out.new.items result }
+    ensures { PutsText (answer_spelling answer.now) out.old.items out.new.items result }
 {
     match answer {
         Answer::Done => put_byte(0x31, out),
@@ -143,7 +143,7 @@ fn put_all<A: Allocator, B: Allocator>(
     tuples: &Tuples<A>,
     out: &mut Vec<u8, B>,
 ) -> Result<(), NoMemory>
-    ensures { Puts (outcome_spelling (all tuples.now)) out.old.items out.new.items result }
+    ensures { PutsText (outcome_spelling (all tuples.now)) out.old.items out.new.items result }
 {
     put_behind(0x35, &[tuples.len() as u8], out)?;
     put_tuples(tuples, out)
@@ -153,7 +153,7 @@ fn put_tuples<A: Allocator, B: Allocator>(
     tuples: &Tuples<A>,
     out: &mut Vec<u8, B>,
 ) -> Result<(), NoMemory>
-    ensures { Puts (tuples_spelling tuples.now) out.old.items out.new.items result }
+    ensures { PutsText (tuples_spelling tuples.now) out.old.items out.new.items result }
 {
     for tuple in tuples.as_slice() {
         put_tuple(tuple, out)?;
@@ -166,7 +166,7 @@ fn put_tuple_behind<A: Allocator, B: Allocator>(
     tuple: &Tuple<A>,
     out: &mut Vec<u8, B>,
 ) -> Result<(), NoMemory>
-    ensures { Puts (tag ∷ tuple_spelling tuple.now) out.old.items out.new.items result }
+    ensures { PutsText (tag ∷ tuple_spelling tuple.now) out.old.items out.new.items result }
 {
     put_byte(tag, out)?;
     put_tuple(tuple, out)
@@ -177,7 +177,7 @@ fn put_template_behind<A: Allocator, B: Allocator>(
     template: &Template<A>,
     out: &mut Vec<u8, B>,
 ) -> Result<(), NoMemory>
-    ensures { Puts (tag ∷ template_spelling template.now) out.old.items out.new.items result }
+    ensures { PutsText (tag ∷ template_spelling template.now) out.old.items out.new.items result }
 {
     put_byte(tag, out)?;
     put_template(template, out)

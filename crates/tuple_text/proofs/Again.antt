@@ -1,6 +1,6 @@
 -- The text of a value, with bytes after it that can't continue it, is read as that value, or passes a limit.
 use Rattle.std.proofs.Common.{◌≡◌, ℕ, zero, suc, ◌<◌, ◌≤◌, ◌==◌, Bool, true, false, cond, List, [], ◌∷◌, ◌++◌, length, codes, refl, ap, sym, subst, ◌∙◌, append_assoc, arith, ◌⊎◌, inl, inr, if◌then◌else◌, length-append}
-use Rattle.tuple_tree.specs.Items.{Item, leaf, inner, Items, none, item, with_last, item_levels}
+use Rattle.tuple_tree.specs.Items.{TreeItem, leaf, inner, Items, none, item, with_last, item_levels}
 use Rattle.tuple_text.specs.Texts.{AreBlanks, ItemText, WholeText}
 use Rattle.tuple_text.specs.Lines.{EachLeaf, LeafIn}
 use Rattle.tuple_text.specs.Reading.{Read, got, stop, Reading, ◌>>=◌, look, word, turn, follows, full, items, no_room, deeper}
@@ -73,12 +73,12 @@ module _ {L : Type 0} (leaf_text : L → List ℕ) where
   rest_ends (item x xs) w u h = subst EndsItem (sym (ap (λ t. t ++ 41 ∷ u) h.3 ∙ append_assoc h.0 (h.1 ++ h.2) (41 ∷ u))) (gap_ends h.0 ((h.1 ++ h.2) ++ 41 ∷ u) h.4 h.5)
 
   -- why an item has no room
-  abbrev pub NoRoomFor : ℕ → Item L → Stop → Type 0
+  abbrev pub NoRoomFor : ℕ → TreeItem L → Stop → Type 0
   NoRoomFor n x s = (s ≡ TooManyFields) ⊎ ((s ≡ TooDeep) × (n < item_levels x))
 
-  module _ (IsLeaf : L → Type 0) (n : ℕ) (why : ℕ → Stop) (one : Reading (Item L))
-      (head : (x : Item L) (w : List ℕ) → LeafIn IsLeaf x → ItemText leaf_text x w → (b : ℕ) × (t : List ℕ) × (w ≡ b ∷ t) × ((b == 32) ≡ false) × ((b == 41) ≡ false) × NoRoomFor n x (why b))
-      (one_again : (x : Item L) (w u : List ℕ) → LeafIn IsLeaf x → ItemText leaf_text x w → EndsItem u → AgainAs (ItemExceeds n x) x u (one (w ++ u)))
+  module _ (IsLeaf : L → Type 0) (n : ℕ) (why : ℕ → Stop) (one : Reading (TreeItem L))
+      (head : (x : TreeItem L) (w : List ℕ) → LeafIn IsLeaf x → ItemText leaf_text x w → (b : ℕ) × (t : List ℕ) × (w ≡ b ∷ t) × ((b == 32) ≡ false) × ((b == 41) ≡ false) × NoRoomFor n x (why b))
+      (one_again : (x : TreeItem L) (w u : List ℕ) → LeafIn IsLeaf x → ItemText leaf_text x w → EndsItem u → AgainAs (ItemExceeds n x) x u (one (w ++ u)))
     where
       weaken : (D E : Stop → Type 0) (v : Items L) (u : List ℕ) (x : Read (Items L)) → ((s : Stop) → D s → E s) → AgainAs D v u x → AgainAs E v u x
       weaken D E v u (got w rest) k h = h
@@ -94,7 +94,7 @@ module _ {L : Type 0} (leaf_text : L → List ℕ) where
       full_again free t lead b u h k p q =
           ap (λ y. y >>= λ on rest. if on then full why rest else got t rest) (turn_goes free lead b u h k p q) ∙ full_stops why b u
 
-      none_fits : (x : Item L) (xs : Items L) (s : Stop) → NoRoomFor n x s → Exceed n zero (item x xs) s
+      none_fits : (x : TreeItem L) (xs : Items L) (s : Stop) → NoRoomFor n x s → Exceed n zero (item x xs) s
       none_fits x xs s (inl e) = subst (Exceed n zero (item x xs)) (sym e) (λ p q. omega (arith, p))
       none_fits x xs s (inr e) = subst (Exceed n zero (item x xs)) (sym e.0) (let p = e.1 in omega (arith, p))
 
@@ -148,23 +148,23 @@ module _ {L : Type 0} (leaf_text : L → List ℕ) (IsLeaf : L → Type 0) (begi
   opens zero xs = inr (refl, omega arith)
   opens (suc n) xs = inl refl
 
-  pub item_head : (n : ℕ) (x : Item L) (w : List ℕ) → LeafIn IsLeaf x → ItemText leaf_text x w → (b : ℕ) × (t : List ℕ) × (w ≡ b ∷ t) × ((b == 32) ≡ false) × ((b == 41) ≡ false) × NoRoomFor leaf_text n x (no_room begins n b)
+  pub item_head : (n : ℕ) (x : TreeItem L) (w : List ℕ) → LeafIn IsLeaf x → ItemText leaf_text x w → (b : ℕ) × (t : List ℕ) × (w ≡ b ∷ t) × ((b == 32) ≡ false) × ((b == 41) ≡ false) × NoRoomFor leaf_text n x (no_room begins n b)
   item_head n (leaf x) w h t =
       let k = leaf_head x h in
       (k.0, k.1, t ∙ k.2, apart begins 32 k.0 k.3 no_blank, apart begins 41 k.0 k.3 no_close, inl (refused n k.0 (apart begins 40 k.0 k.3 no_open) k.3))
   item_head n (inner xs) w h t = (40, t.0 ++ 41 ∷ [], t.1, refl, refl, opens n xs)
 
-  at_leaf : (b : ℕ) (u : List ℕ) (f : Reading (Item L)) → begins b ≡ true → look 40 f (plain_leaf begins leaf_at) (b ∷ u) ≡ (leaf_at (b ∷ u) >>= λ x rest. got (leaf x) rest)
+  at_leaf : (b : ℕ) (u : List ℕ) (f : Reading (TreeItem L)) → begins b ≡ true → look 40 f (plain_leaf begins leaf_at) (b ∷ u) ≡ (leaf_at (b ∷ u) >>= λ x rest. got (leaf x) rest)
   at_leaf b u f e = look_other 40 b u f (plain_leaf begins leaf_at) (apart begins 40 b e no_open)
 
-  leaf_reads : (x : L) (w u : List ℕ) (f : Reading (Item L)) → IsLeaf x → w ≡ leaf_text x → EndsItem u → look 40 f (plain_leaf begins leaf_at) (w ++ u) ≡ got (leaf x) u
+  leaf_reads : (x : L) (w u : List ℕ) (f : Reading (TreeItem L)) → IsLeaf x → w ≡ leaf_text x → EndsItem u → look 40 f (plain_leaf begins leaf_at) (w ++ u) ≡ got (leaf x) u
   leaf_reads x w u f h t k =
       let d = leaf_head x h in
       let e = ap (λ s. s ++ u) d.2 in
       ap (λ s. look 40 f (plain_leaf begins leaf_at) (s ++ u)) t ∙ ap (look 40 f (plain_leaf begins leaf_at)) e ∙ at_leaf d.0 (d.1 ++ u) f d.3
       ∙ ap (λ s. leaf_at s >>= λ x rest. got (leaf x) rest) (sym e) ∙ ap (λ y. y >>= λ x rest. got (leaf x) rest) (leaf_again x u h k)
 
-  pub item_again : (n : ℕ) (x : Item L) (w u : List ℕ) → LeafIn IsLeaf x → ItemText leaf_text x w → EndsItem u → AgainAs (ItemExceeds n x) x u (plain_item begins leaf_at n (w ++ u))
+  pub item_again : (n : ℕ) (x : TreeItem L) (w u : List ℕ) → LeafIn IsLeaf x → ItemText leaf_text x w → EndsItem u → AgainAs (ItemExceeds n x) x u (plain_item begins leaf_at n (w ++ u))
   unfolding plain_item
   item_again zero (leaf x) w u h t k = again_got (ItemExceeds zero (leaf x)) (leaf x) u (look 40 (λ u. stop TooDeep u) (plain_leaf begins leaf_at) (w ++ u)) (leaf_reads x w u (λ u. stop TooDeep u) h t k)
   item_again (suc n) (leaf x) w u h t k =

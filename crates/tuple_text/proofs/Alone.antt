@@ -4,7 +4,7 @@ use Rattle.tuple_tree.specs.Values.{TemplateTree}
 use Rattle.tuple_codec.specs.Operations.{rdp}
 use Rattle.tuple_text.specs.Lines.{IsLine}
 use Rattle.tuple_text.specs.Faults.{Faults, IsBadAt, behind}
-use Rattle.tuple_text.specs.Reading.{Read, got, stop, ◌>>=◌, blanks, template, argument, ending, ended, one_line, verb_line, operation, line, lone_template, fault_at, Stops}
+use Rattle.tuple_text.specs.Reading.{Read, got, stop, ◌>>=◌, blanks, template, argument, ending, ended, one_line, verb_line, operation, line, lone_template, fault_at, ReadingStops}
 use Rattle.tuple_text.specs.declared.reader.Stop.{Stop}
 use Rattle.tuple_text.specs.declared.reader.Stop.TheVariants.{BadByte, TooDeep, TooManyFields, TooLong, NoMemory}
 use Rattle.tuple_text.specs.declared.faults.LineFault.TheVariants as faults
@@ -108,7 +108,7 @@ text_stopped bs s rest e =
     let m = four_behind (front (as_line bs)) (text_front bs) (length rest) (line_front bs) l in
     subst (λ f. Faults f (as_line bs)) (fault_behind s (length (text_front bs) - length rest) (length (front (as_line bs)) - length rest) m) (stopped_faults (as_line bs) s rest (stop_line_of bs s rest e))
 
-pub text_faults : (bs : List ℕ) (s : Stop) (at rest : List ℕ) → at ≡ text_front bs → Stops s (lone_template at) rest → Faults (behind 4 (fault_at (length at - length rest) s)) (as_line bs)
+pub text_faults : (bs : List ℕ) (s : Stop) (at rest : List ℕ) → at ≡ text_front bs → ReadingStops s (lone_template at) rest → Faults (behind 4 (fault_at (length at - length rest) s)) (as_line bs)
 text_faults bs NoMemory at rest e h = tt
 text_faults bs BadByte at rest e h = subst (λ t. Faults (behind 4 (fault_at (length t - length rest) BadByte)) (as_line bs)) (sym e) (text_stopped bs BadByte rest (ap lone_template (sym e) ∙ h))
 text_faults bs TooDeep at rest e h = subst (λ t. Faults (behind 4 (fault_at (length t - length rest) TooDeep)) (as_line bs)) (sym e) (text_stopped bs TooDeep rest (ap lone_template (sym e) ∙ h))
@@ -118,7 +118,7 @@ text_faults bs TooLong at rest e h = subst (λ t. Faults (behind 4 (fault_at (le
 text_no_stop : (bs : List ℕ) (p : TemplateTree) (s : Stop) (rest : List ℕ) → IsLine (rdp p) (as_line bs) → lone_template (text_front bs) ≡ stop s rest → ⊥
 text_no_stop bs p s rest h e = line_no_stop (as_line bs) (rdp p) s rest h (stop_line_of bs s rest e)
 
-pub text_memory : (bs : List ℕ) (s : Stop) (at rest : List ℕ) (n : ℕ) (p : TemplateTree) → at ≡ text_front bs → Stops s (lone_template at) rest → IsLine (rdp p) (as_line bs) → fault_at n s ≡ faults.NoMemory
+pub text_memory : (bs : List ℕ) (s : Stop) (at rest : List ℕ) (n : ℕ) (p : TemplateTree) → at ≡ text_front bs → ReadingStops s (lone_template at) rest → IsLine (rdp p) (as_line bs) → fault_at n s ≡ faults.NoMemory
 text_memory bs NoMemory at rest n p e h l = refl
 text_memory bs BadByte at rest n p e h l = absurd (text_no_stop bs p BadByte rest l (ap lone_template (sym e) ∙ h))
 text_memory bs TooDeep at rest n p e h l = absurd (text_no_stop bs p TooDeep rest l (ap lone_template (sym e) ∙ h))

@@ -1,6 +1,6 @@
 -- The text of a list's items up to its closing parenthesis, in the order of reading.
 use Rattle.std.proofs.Common.{◌≡◌, ℕ, Bool, true, false, List, ◌++◌, refl, ap, inl, inr}
-use Rattle.tuple_tree.specs.Items.{Item, Items, none, item, with_last}
+use Rattle.tuple_tree.specs.Items.{TreeItem, Items, none, item, with_last}
 use Rattle.tuple_text.specs.Texts.{AreBlanks, ItemText, ItemsText, MoreText}
 use Rattle.tuple_text.proofs.Blanks.{Frees, gap_passed}
 
@@ -14,11 +14,11 @@ module _ {L : Type 0} where
   join_none none = refl
   join_none (item x t) = ap (item x) (join_none t)
 
-  pub join_last : (t : Items L) (x : Item L) (u : Items L) → join (with_last t x) u ≡ join t (item x u)
+  pub join_last : (t : Items L) (x : TreeItem L) (u : Items L) → join (with_last t x) u ≡ join t (item x u)
   join_last none x u = refl
   join_last (item y t) x u = ap (item y) (join_last t x u)
 
-  abbrev pub Each : (Item L → Type 0) → Items L → Type 0
+  abbrev pub Each : (TreeItem L → Type 0) → Items L → Type 0
   Each P none = Unit {0}
   Each P (item x xs) = P x × Each P xs
 

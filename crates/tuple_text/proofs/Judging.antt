@@ -9,10 +9,10 @@ use Rattle.tuple_codec.specs.Operations.{Operation, out, rdp, inp, cas, rd_all, 
 use Rattle.tuple_text.specs.declared.verbs.Verb.{Verb}
 use Rattle.tuple_text.specs.declared.verbs.Verb.TheVariants.{Rd, In}
 use Rattle.tuple_text.specs.Texts.{AreBlanks}
-use Rattle.tuple_text.specs.Lines.{LineText, IsLine, IsSkipped, IsComment, name}
-use Rattle.tuple_text.specs.Faults.{AnyOperation, KeepsCount, KeepsBoth, EndsTooLong, Passes, StopsAt, IsBadAt, Faults}
-use Rattle.tuple_text.specs.Faults.{Begins as BeginsLine}
-use Rattle.tuple_text.specs.Reading.{Read, got, stop, Reading, ◌>>=◌, nothing, look, blanks, word, finish, ending, ended, positive, argument, tuple, template, out_line, cas_line, upgrade_line, letters, one_of, all_of, one_line, all_line, verb_line, operation, line, fault_at, Stops}
+use Rattle.tuple_text.specs.Lines.{LineText, IsLine, IsSkipped, IsComment, operation_name}
+use Rattle.tuple_text.specs.Faults.{AnyOperation, KeepsCount, KeepsBoth, EndsTooLong, PassesNoLimit, StopsAt, IsBadAt, Faults}
+use Rattle.tuple_text.specs.Faults.{LineBegins as BeginsLine}
+use Rattle.tuple_text.specs.Reading.{Read, got, stop, Reading, ◌>>=◌, nothing, look, blanks, word, finish, ending, ended, positive, argument, tuple, template, out_line, cas_line, upgrade_line, letters, one_of, all_of, one_line, all_line, verb_line, operation, line, fault_at, ReadingStops}
 use Rattle.tuple_text.specs.declared.reader.Stop.{Stop}
 use Rattle.tuple_text.specs.declared.reader.Stop.TheVariants.{BadByte, TooDeep, TooManyFields, TooLong, NoMemory}
 use Rattle.tuple_text.specs.declared.faults.LineFault.TheVariants as faults
@@ -75,7 +75,7 @@ short_to bs n x e h k p l =
     let w : take k bs ++ drop k (front bs) ≡ front bs = ap (λ s. s ++ drop k (front bs)) (sym (take_take k 65536 bs (omega (arith, h.limit)))) ∙ take-append-drop k (front bs) in
     not_before bs n k x h p (subst (StopsBefore (drop k (front bs))) (ap line w ∙ e) (too_long_stops (take k bs) (drop k (front bs)) l))
 
-pub passes : (bs : List ℕ) (n : ℕ) (x : Read Operation) → line (front bs) ≡ x → At bs n (left x) → Begins LimitedLine both (take n bs) → Passes bs n
+pub passes : (bs : List ℕ) (n : ℕ) (x : Read Operation) → line (front bs) ≡ x → At bs n (left x) → Begins LimitedLine both (take n bs) → PassesNoLimit bs n
 passes bs n x e h b = record { within = h.within; limit = h.limit; begins = begins_line both (take n bs) b; short = short_to bs n x e h }
 
 -- If reading stops before b, each line that continues with b passes the limit.
@@ -113,7 +113,7 @@ module _ (bs : List ℕ) where
   halted_begins : (s : Stop) (n : ℕ) (rest : List ℕ) → Halted bs s n rest → Begins LimitedLine both (take n bs)
   halted_begins s n rest h = subst (Begins LimitedLine both) h.same h.stuck.begins
 
-  halted_passes : (s : Stop) (n : ℕ) (rest : List ℕ) → Halted bs s n rest → Passes bs n
+  halted_passes : (s : Stop) (n : ℕ) (rest : List ℕ) → Halted bs s n rest → PassesNoLimit bs n
   halted_passes s n rest h = passes bs n (stop s rest) h.read h.place (halted_begins s n rest h)
 
   next_exceeds : (s : Stop) (n b : ℕ) (t : List ℕ) → Halted bs s n (b ∷ t) → (u : List ℕ) (o : Operation) → LineText o (take (n + 1) bs ++ u) → Exceeds o s
@@ -308,7 +308,7 @@ pub line_no_stop : (bs : List ℕ) (o : Operation) (s : Stop) (rest : List ℕ) 
 line_no_stop bs o s rest h e = let g : stop s rest ≡ got o [] = sym e ∙ line_is_read bs o h in cc
 
 -- No line of an operation is skipped.
-name_head : (o : Operation) → (b : ℕ) × (t : List ℕ) × (name o ≡ b ∷ t) × (97 ≤ b)
+name_head : (o : Operation) → (b : ℕ) × (t : List ℕ) × (operation_name o ≡ b ∷ t) × (97 ≤ b)
 name_head (out t) = (111, codes "ut", refl, omega arith)
 name_head (rdp p) = (114, codes "dp", refl, omega arith)
 name_head (inp p) = (105, codes "np", refl, omega arith)
@@ -325,7 +325,7 @@ no_comment : (lead : List ℕ) (b : ℕ) (t : List ℕ) → AreBlanks lead → 9
 no_comment [] b t p h k = omega (arith, k)
 no_comment (c ∷ lead) b t p h k = omega (arith, k, p.0)
 
-skipped_no : (lead rest bs : List ℕ) (o : Operation) → bs ≡ lead ++ (name o ++ rest) → AreBlanks lead → IsSkipped bs → ⊥
+skipped_no : (lead rest bs : List ℕ) (o : Operation) → bs ≡ lead ++ (operation_name o ++ rest) → AreBlanks lead → IsSkipped bs → ⊥
 skipped_no lead rest bs o e p (inl k) =
     let n = name_head o in no_blanks lead n.0 (n.1 ++ rest) n.3 (subst AreBlanks (e ∙ ap (λ s. lead ++ (s ++ rest)) n.2) k)
 skipped_no lead rest bs o e p (inr k) =
@@ -365,14 +365,14 @@ front_to bs m n e = shorter_to bs m n (min_is m (length bs) n e) (omega arith) (
 pub front_is : (bs : List ℕ) (m : ℕ) → m ≡ min (length bs) 65536 → take m bs ≡ front bs
 front_is bs m e = front_to bs m 65536 e
 
-pub stops_faults : (bs : List ℕ) (s : Stop) (at rest : List ℕ) → at ≡ front bs → Stops s (line at) rest → Faults (fault_at (length at - length rest) s) bs
+pub stops_faults : (bs : List ℕ) (s : Stop) (at rest : List ℕ) → at ≡ front bs → ReadingStops s (line at) rest → Faults (fault_at (length at - length rest) s) bs
 stops_faults bs NoMemory at rest e h = tt
 stops_faults bs BadByte at rest e h = subst (λ t. Faults (fault_at (length t - length rest) BadByte) bs) (sym e) (stopped_faults bs BadByte rest (ap line (sym e) ∙ h))
 stops_faults bs TooDeep at rest e h = subst (λ t. Faults (fault_at (length t - length rest) TooDeep) bs) (sym e) (stopped_faults bs TooDeep rest (ap line (sym e) ∙ h))
 stops_faults bs TooManyFields at rest e h = subst (λ t. Faults (fault_at (length t - length rest) TooManyFields) bs) (sym e) (stopped_faults bs TooManyFields rest (ap line (sym e) ∙ h))
 stops_faults bs TooLong at rest e h = subst (λ t. Faults (fault_at (length t - length rest) TooLong) bs) (sym e) (stopped_faults bs TooLong rest (ap line (sym e) ∙ h))
 
-pub stops_memory : (bs : List ℕ) (s : Stop) (at rest : List ℕ) (n : ℕ) (o : Operation) → at ≡ front bs → Stops s (line at) rest → IsLine o bs → fault_at n s ≡ faults.NoMemory
+pub stops_memory : (bs : List ℕ) (s : Stop) (at rest : List ℕ) (n : ℕ) (o : Operation) → at ≡ front bs → ReadingStops s (line at) rest → IsLine o bs → fault_at n s ≡ faults.NoMemory
 stops_memory bs NoMemory at rest n o e h l = refl
 stops_memory bs BadByte at rest n o e h l = absurd (line_no_stop bs o BadByte rest l (ap line (sym e) ∙ h))
 stops_memory bs TooDeep at rest n o e h l = absurd (line_no_stop bs o TooDeep rest l (ap line (sym e) ∙ h))

@@ -1,6 +1,6 @@
 -- The levels of an item, and the limits that a list's items keep or pass.
 use Rattle.std.proofs.Common.{ℕ, suc, ◌<◌, ◌≤◌, arith}
-use Rattle.tuple_tree.specs.Items.{Item, leaf, inner, Items, none, item, how_many, item_levels, levels_in, whole_length}
+use Rattle.tuple_tree.specs.Items.{TreeItem, leaf, inner, Items, none, item, how_many, item_levels, levels_in, whole_length}
 use Rattle.tuple_tree.specs.Limits.{IsItem, AreItems}
 use Rattle.tuple_text.specs.Lines.{EachLeaf, LeafIn}
 use Rattle.tuple_text.specs.declared.reader.Stop.{Stop}
@@ -9,7 +9,7 @@ use Rattle.tuple_text.proofs.Right.{Limits, both, levels, no_limits}
 use Rattle.tuple_text.proofs.Endings.{Each}
 
 module _ {L : Type 0} where
-  abbrev pub Counted : Item L → Type 0
+  abbrev pub Counted : TreeItem L → Type 0
   Counted x = IsItem (λ _. Unit {0}) x
 
   abbrev pub AreCounted : Items L → Type 0
@@ -22,13 +22,13 @@ module _ {L : Type 0} where
   Overflows length_of t = 1024 < whole_length length_of t
 
   -- an item with at most so many levels
-  abbrev pub Within : ℕ → Limits → Item L → Type 0
+  abbrev pub Within : ℕ → Limits → TreeItem L → Type 0
   Within n both x = (item_levels x ≤ n) × Counted x
   Within n levels x = item_levels x ≤ n
   Within n no_limits x = Unit {0}
 
   -- the limits that an item passes with room for n levels, and that a list passes with room for so many items
-  abbrev pub ItemExceeds : ℕ → Item L → Stop → Type 0
+  abbrev pub ItemExceeds : ℕ → TreeItem L → Stop → Type 0
   ItemExceeds n x BadByte = ⊥
   ItemExceeds n x TooDeep = n < item_levels x
   ItemExceeds n x TooManyFields = Counted x → ⊥
@@ -42,14 +42,14 @@ module _ {L : Type 0} where
   Exceed n room xs TooLong = ⊥
   Exceed n room xs NoMemory = ⊥
 
-  pub first_exceeds : (n room : ℕ) (x : Item L) (xs : Items L) (s : Stop) → ItemExceeds n x s → Exceed n (suc room) (item x xs) s
+  pub first_exceeds : (n room : ℕ) (x : TreeItem L) (xs : Items L) (s : Stop) → ItemExceeds n x s → Exceed n (suc room) (item x xs) s
   first_exceeds n room x xs BadByte h = h
   first_exceeds n room x xs TooDeep h = omega (arith, h)
   first_exceeds n room x xs TooManyFields h = λ p q. h q.0
   first_exceeds n room x xs TooLong h = h
   first_exceeds n room x xs NoMemory h = h
 
-  pub rest_exceeds : (n room : ℕ) (x : Item L) (xs : Items L) (s : Stop) → Exceed n room xs s → Exceed n (suc room) (item x xs) s
+  pub rest_exceeds : (n room : ℕ) (x : TreeItem L) (xs : Items L) (s : Stop) → Exceed n room xs s → Exceed n (suc room) (item x xs) s
   rest_exceeds n room x xs BadByte h = h
   rest_exceeds n room x xs TooDeep h = omega (arith, h)
   rest_exceeds n room x xs TooManyFields h = λ p q. h (omega (arith, p)) q.1
@@ -65,10 +65,10 @@ module _ {L : Type 0} where
   inner_exceeds n xs NoMemory h = h
 
 module _ {L : Type 0} (IsLeaf : L → Type 0) where
-  abbrev pub OneIs : ℕ → Limits → Item L → Type 0
+  abbrev pub OneIs : ℕ → Limits → TreeItem L → Type 0
   OneIs n c x = LeafIn IsLeaf x × Within n c x
 
-  pub weaker : (n : ℕ) (c : Limits) (x : Item L) → OneIs n both x → OneIs n c x
+  pub weaker : (n : ℕ) (c : Limits) (x : TreeItem L) → OneIs n both x → OneIs n c x
   weaker n both x h = h
   weaker n levels x h = (h.0, h.1.0)
   weaker n no_limits x h = (h.0, tt)
@@ -96,7 +96,7 @@ module _ {L : Type 0} (P : L → Type 0) where
     are_items none h k = tt
     are_items (item x xs) h k = (is_item x h.0 k.0, are_items xs h.1 k.1)
 
-    is_item : (x : Item L) → LeafIn P x → Counted x → IsItem P x
+    is_item : (x : TreeItem L) → LeafIn P x → Counted x → IsItem P x
     is_item (leaf x) h k = h
     is_item (inner xs) h k = (k.0, are_items xs h k.1)
 
@@ -105,6 +105,6 @@ module _ {L : Type 0} (P : L → Type 0) where
     are_counted none h = tt
     are_counted (item x xs) h = (is_counted x h.0, are_counted xs h.1)
 
-    is_counted : (x : Item L) → IsItem P x → Counted x
+    is_counted : (x : TreeItem L) → IsItem P x → Counted x
     is_counted (leaf x) h = tt
     is_counted (inner xs) h = (h.0, are_counted xs h.1)

@@ -7,7 +7,7 @@ use Rattle.tuple_tree.specs.Limits.{IsWithin}
 use Rattle.tuple_tree.specs.Values.{datum_length, slot_length, IsDatum, IsSlot, TupleTree, TemplateTree}
 use Rattle.tuple_codec.specs.Operations.{Operation, out, rdp, inp, cas, rd_all, in_all, upgrade, IsOperation}
 use Rattle.tuple_text.specs.Texts.{AreBlanks, IsGap, WholeText, datum_text, slot_text}
-use Rattle.tuple_text.specs.Lines.{EachLeaf, LineText, TupleArgument, TemplateArgument, CountArgument, ArgumentsText, arguments, name}
+use Rattle.tuple_text.specs.Lines.{EachLeaf, LineText, TupleArgument, TemplateArgument, CountArgument, ArgumentsText, arguments, operation_name}
 use Rattle.tuple_text.specs.Faults.{KeepsCount, KeepsLevels, KeepsCounts, EndsTooLong, ArgumentsClosed, argument_lengths}
 use Rattle.tuple_text.specs.Reading.{Read, got, stop, Reading, ◌>>=◌, positive, kept, no_room, datum, slot, begins_datum, begins_slot, close, tuple, template, argument, ended, out_line, cas_line, upgrade_line, one_line, all_line, verb_line, operation, line}
 use Rattle.tuple_text.specs.declared.reader.Stop.{Stop}
@@ -195,7 +195,7 @@ rest_of (rd_all n p) = all_rest rd_all
 rest_of (in_all n p) = all_rest in_all
 rest_of upgrade = ended upgrade
 
-named_front : (o : Operation) (behind : List ℕ) → operation (name o ++ behind) ≡ rest_of o behind
+named_front : (o : Operation) (behind : List ℕ) → operation (operation_name o ++ behind) ≡ rest_of o behind
 unfolding operation out_line verb_line one_line all_line cas_line upgrade_line
 named_front (out t) behind = refl
 named_front (rdp p) behind = refl
@@ -205,7 +205,7 @@ named_front (rd_all n p) behind = refl
 named_front (in_all n p) behind = refl
 named_front upgrade behind = refl
 
-no_blank_name : (o : Operation) (behind : List ℕ) → NoBlank (name o ++ behind)
+no_blank_name : (o : Operation) (behind : List ℕ) → NoBlank (operation_name o ++ behind)
 no_blank_name (out t) behind = refl
 no_blank_name (rdp p) behind = refl
 no_blank_name (inp p) behind = refl
@@ -214,9 +214,9 @@ no_blank_name (rd_all n p) behind = refl
 no_blank_name (in_all n p) behind = refl
 no_blank_name upgrade behind = refl
 
-line_front : (o : Operation) (lead behind : List ℕ) → AreBlanks lead → line (lead ++ (name o ++ behind)) ≡ rest_of o behind
+line_front : (o : Operation) (lead behind : List ℕ) → AreBlanks lead → line (lead ++ (operation_name o ++ behind)) ≡ rest_of o behind
 unfolding line
-line_front o lead behind h = ap (λ y. y >>= λ _ rest. operation rest) (blanks_again true lead (name o ++ behind) h (no_blank_name o behind)) ∙ named_front o behind
+line_front o lead behind h = ap (λ y. y >>= λ _ rest. operation rest) (blanks_again true lead (operation_name o ++ behind) h (no_blank_name o behind)) ∙ named_front o behind
 
 ended_again : (o : Operation) (w : List ℕ) → AreBlanks w → ended o w ≡ got o []
 unfolding ended
@@ -313,5 +313,5 @@ rest_stops upgrade k w u n h l = absurd (omega (arith, n))
 
 pub too_long_stops : (bs u : List ℕ) → EndsTooLong bs → StopsBefore u (line (bs ++ u))
 too_long_stops bs u h =
-    let e : bs ++ u ≡ h.lead ++ (name h.o ++ (h.rest ++ u)) = ap (λ s. s ++ u) h.whole ∙ append_assoc h.lead (name h.o ++ h.rest) u ∙ ap (λ s. h.lead ++ s) (append_assoc (name h.o) h.rest u) in
+    let e : bs ++ u ≡ h.lead ++ (operation_name h.o ++ (h.rest ++ u)) = ap (λ s. s ++ u) h.whole ∙ append_assoc h.lead (operation_name h.o ++ h.rest) u ∙ ap (λ s. h.lead ++ s) (append_assoc (operation_name h.o) h.rest u) in
     subst (StopsBefore u) (sym (ap line e ∙ line_front h.o h.lead (h.rest ++ u) h.blanks)) (rest_stops h.o h.k h.rest u h.last h.closed h.long)

@@ -7,7 +7,7 @@ use Rattle.tuple_tree.specs.Limits.{IsWithin}
 use Rattle.tuple_tree.specs.Values.{datum_length, slot_length, IsDatum, IsSlot, TupleTree, TemplateTree}
 use Rattle.tuple_codec.specs.Operations.{Operation, out, rdp, inp, cas, rd_all, in_all, upgrade, IsOperation}
 use Rattle.tuple_text.specs.Texts.{AreBlanks, WholeText, datum_text, slot_text}
-use Rattle.tuple_text.specs.Lines.{EachLeaf, LineText, name, arguments, ArgumentsText}
+use Rattle.tuple_text.specs.Lines.{EachLeaf, LineText, operation_name, arguments, ArgumentsText}
 use Rattle.tuple_text.specs.Faults.{KeepsCount, KeepsLevels, KeepsBoth, EndsTooLong, ArgumentsClosed, argument_lengths}
 use Rattle.tuple_text.specs.Reading.{◌>>=◌, nothing, look, blanks, positive, datum, slot, begins_datum, begins_slot, tuple, template, argument, ended, out_line, cas_line, upgrade_line, letters, one_of, all_of, one_line, all_line, verb_line, operation, line}
 use Rattle.tuple_text.specs.declared.verbs.Verb.{Verb}
@@ -96,7 +96,7 @@ Keeps no_limits o = Unit {0}
 
 -- the operation's name and arguments
 abbrev Named : Operation → List ℕ → Type 0
-Named o w = (rest : List ℕ) × (w ≡ name o ++ rest) × ArgumentsText (arguments o) rest
+Named o w = (rest : List ℕ) × (w ≡ operation_name o ++ rest) × ArgumentsText (arguments o) rest
 
 abbrev Good : Operation → List ℕ → Type 0
 Good o w = Named o w × IsOperation o
@@ -106,7 +106,7 @@ Limited c o w = Named o w × Keeps c o
 
 abbrev TooLongBehind : List ℕ → Type 0
 TooLongBehind w =
-    (o : Operation) × (k : ℕ) × (rest : List ℕ) × (w ≡ name o ++ rest) × ArgumentsClosed (take (k + 1) (arguments o)) rest × (k < length (arguments o)) × (1024 < slice_index (argument_lengths o) k)
+    (o : Operation) × (k : ℕ) × (rest : List ℕ) × (w ≡ operation_name o ++ rest) × ArgumentsClosed (take (k + 1) (arguments o)) rest × (k < length (arguments o)) × (1024 < slice_index (argument_lengths o) k)
 
 argued : (space l front r w : List ℕ) → w ≡ front ++ r → front ≡ space ++ l → w ≡ space ++ (l ++ r)
 argued space l front r w e f = e ∙ ap (λ t. t ++ r) f ∙ append_assoc space l r

@@ -1,6 +1,6 @@
 -- Reading lists keeps to the grammar, whatever their items are.
 use Rattle.std.proofs.Common.{◌≡◌, ℕ, zero, suc, ◌≤◌, ◌==◌, Bool, true, false, cond, List, [], ◌∷◌, ◌++◌, codes, refl, ap, sym, subst, ◌∙◌, append_assoc, append-nil, arith, if◌then◌else◌}
-use Rattle.tuple_tree.specs.Items.{Item, Items, none, item, with_last, how_many}
+use Rattle.tuple_tree.specs.Items.{TreeItem, Items, none, item, with_last, how_many}
 use Rattle.tuple_text.specs.Texts.{AreBlanks, ItemText, WholeText}
 use Rattle.tuple_text.specs.Reading.{got, stop, Reading, ◌>>=◌, word, blanks, turn, follows, full, items}
 use Rattle.tuple_text.specs.declared.reader.Stop.{Stop}
@@ -52,12 +52,12 @@ ClosesTo Q t v w = (v ≡ t) × (w ≡ 41 ∷ []) × Q v
 abbrev pub ClosesLong : {L : Type 0} → (Items L → Type 0) → Items L → List ℕ → Type 0
 ClosesLong P t w = (w ≡ 41 ∷ []) × P t
 
-module _ {L : Type 0} (leaf_text : L → List ℕ) (OneIs : Limits → Item L → Type 0) where
-  abbrev pub IsOne : Item L → List ℕ → Type 0
+module _ {L : Type 0} (leaf_text : L → List ℕ) (OneIs : Limits → TreeItem L → Type 0) where
+  abbrev pub IsOne : TreeItem L → List ℕ → Type 0
   IsOne x w = ItemText leaf_text x w × OneIs both x
 
   abbrev pub BeginsOne : Limits → List ℕ → Type 0
-  BeginsOne c w = (x : Item L) × (u : List ℕ) × ItemText leaf_text x (w ++ u) × OneIs c x
+  BeginsOne c w = (x : TreeItem L) × (u : List ℕ) × ItemText leaf_text x (w ++ u) × OneIs c x
 
   abbrev pub Counts : Limits → ℕ → Items L → Type 0
   Counts both room xs = how_many xs ≤ room
@@ -81,11 +81,11 @@ module _ {L : Type 0} (leaf_text : L → List ℕ) (OneIs : Limits → Item L �
 
   -- an item, and what follows it
   abbrev IsMore : ℕ → Items L → Items L → List ℕ → Type 0
-  IsMore room t v w = (x : Item L) × (front rest : List ℕ) × (w ≡ front ++ rest) × IsOne x front × IsItems room false (with_last t x) v rest
+  IsMore room t v w = (x : TreeItem L) × (front rest : List ℕ) × (w ≡ front ++ rest) × IsOne x front × IsItems room false (with_last t x) v rest
 
   abbrev BeginsMore : ℕ → Limits → List ℕ → Type 0
   BeginsMore room c w =
-      (x : Item L) × (xs : Items L) × (u front rest : List ℕ) × (w ++ u ≡ front ++ rest) × ItemText leaf_text x front × OneIs c x × Ends leaf_text false xs rest × Each (OneIs c) xs × Counts c room xs
+      (x : TreeItem L) × (xs : Items L) × (u front rest : List ℕ) × (w ++ u ≡ front ++ rest) × ItemText leaf_text x front × OneIs c x × Ends leaf_text false xs rest × Each (OneIs c) xs × Counts c room xs
 
   -- if no further item has room, one may still begin
   abbrev NoRoom : Limits → List ℕ → Type 0
@@ -98,7 +98,7 @@ module _ {L : Type 0} (leaf_text : L → List ℕ) (OneIs : Limits → Item L �
   no_count levels room = tt
   no_count no_limits room = tt
 
-  one_count : (c : Limits) (room : ℕ) (x : Item L) (xs : Items L) → Counts c room xs → Counts c (suc room) (item x xs)
+  one_count : (c : Limits) (room : ℕ) (x : TreeItem L) (xs : Items L) → Counts c room xs → Counts c (suc room) (item x xs)
   one_count both room x xs h = omega (arith, h)
   one_count levels room x xs h = tt
   one_count no_limits room x xs h = tt
@@ -127,7 +127,7 @@ module _ {L : Type 0} (leaf_text : L → List ℕ) (OneIs : Limits → Item L �
   one_begins_more : (room : ℕ) (c : Limits) (w : List ℕ) → BeginsOne c w → BeginsMore room c w
   one_begins_more room c w h = (h.0, none, h.1, w ++ h.1, [], sym (append-nil (w ++ h.1)), h.2, h.3, tt, tt, no_count c room)
 
-  more_begins_more : (room : ℕ) (x : Item L) (front : List ℕ) → IsOne x front → ((c : Limits) → OneIs both x → OneIs c x) → (c : Limits) (w : List ℕ) → BeginsItems room false c w → BeginsMore room c (front ++ w)
+  more_begins_more : (room : ℕ) (x : TreeItem L) (front : List ℕ) → IsOne x front → ((c : Limits) → OneIs both x → OneIs c x) → (c : Limits) (w : List ℕ) → BeginsItems room false c w → BeginsMore room c (front ++ w)
   more_begins_more room x front h weaker c w k = (x, k.0, k.1, front, w ++ k.1, append_assoc front w k.1, h.0, weaker c h.1, k.2, k.3, k.4)
 
   -- the text of a whole list
@@ -149,7 +149,7 @@ module _ {L : Type 0} (leaf_text : L → List ℕ) (OneIs : Limits → Item L �
   pub some_list : (c : Limits) → IsList c none (40 ∷ 41 ∷ [])
   some_list c = record { text = ([], refl, tt); each = tt; count = no_count c 32 }
 
-  module _ (why : ℕ → Stop) (one : Reading (Item L)) (one_right : (bs : List ℕ) → RightAs IsOne BeginsOne bs (one bs)) (weaker : (c : Limits) (x : Item L) → OneIs both x → OneIs c x)
+  module _ (why : ℕ → Stop) (one : Reading (TreeItem L)) (one_right : (bs : List ℕ) → RightAs IsOne BeginsOne bs (one bs)) (weaker : (c : Limits) (x : TreeItem L) → OneIs both x → OneIs c x)
       (refuses : (b : ℕ) (bs : List ℕ) → DecidesAt BeginsOne Never (why b) [] (b ∷ bs)) where
     no_room_decides : (s : Stop) (rest : List ℕ) → DecidesAt BeginsOne Never s [] rest → DecidesAt NoRoom Never s [] rest
     no_room_decides BadByte rest h = tt
@@ -180,7 +180,7 @@ module _ {L : Type 0} (leaf_text : L → List ℕ) (OneIs : Limits → Item L �
     zero_right t true rest = full_right t rest
     zero_right t false rest = record { passed = []; whole = refl; is = (refl, refl) }
 
-    more_right : (room : ℕ) (t : Items L) (on : Bool) (rest : List ℕ) → ((x : Item L) (after : List ℕ) → RightAs (IsItems room false (with_last t x)) (BeginsItems room false) after (items why with_last one room false (with_last t x) after))
+    more_right : (room : ℕ) (t : Items L) (on : Bool) (rest : List ℕ) → ((x : TreeItem L) (after : List ℕ) → RightAs (IsItems room false (with_last t x)) (BeginsItems room false) after (items why with_last one room false (with_last t x) after))
         → RightAs (AtTurn (IsMore room t) t on) (BeginsAtTurn (BeginsMore room) on) rest (if on then (one rest >>= λ x after. items why with_last one room false (with_last t x) after) else got t rest)
     more_right room t true rest h =
         then_right IsOne BeginsOne (λ x. IsItems room false (with_last t x)) (λ x. BeginsItems room false) (IsMore room t) (BeginsMore room) rest (one rest) (λ x after. items why with_last one room false (with_last t x) after)

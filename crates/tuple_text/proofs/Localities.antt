@@ -1,7 +1,7 @@
 -- Each reading of the grammar is local.
 use Rattle.std.proofs.Common.{◌≡◌, ℕ, zero, suc, ◌-◌, ◌+◌, ◌*◌, ◌/◌, Bool, true, false, cond, ◌&&◌, List, [], ◌∷◌, codes, pos, negsuc, Option, None, Some, option_map, refl, if◌then◌else◌}
 use Rattle.std.specs.Prelude.{◌==◌, nat_le}
-use Rattle.tuple_tree.specs.Items.{Item, leaf, inner, Items, none}
+use Rattle.tuple_tree.specs.Items.{TreeItem, leaf, inner, Items, none}
 use Rattle.tuple_tree.specs.Values.{number, text, bytes, truth, wide, actual, any, formal, datum_length, slot_length}
 use Rattle.tuple_tree.specs.declared.atoms.Kind.{Kind}
 use Rattle.tuple_tree.specs.declared.atoms.Kind.TheVariants as kinds
@@ -156,7 +156,7 @@ module _ {L : Type 0} (length_of : L → ℕ) (begins : ℕ → Bool) (leaf_at :
   leaf_item_local : IsLocal (leaf_item length_of begins leaf_at)
   leaf_item_local = local_then leaf_at (λ x rest. got (Some (leaf x)) rest) leaf_local (λ x. local_got (Some (leaf x)))
 
-  list_local : (why : ℕ → Stop) (one : Reading (Option (Item L))) → IsLocal one → IsLocal (list length_of begins leaf_at why one)
+  list_local : (why : ℕ → Stop) (one : Reading (Option (TreeItem L))) → IsLocal one → IsLocal (list length_of begins leaf_at why one)
   list_local why one l =
       local_then (word (codes "(")) (λ _ rest. items why (kept_with length_of) one 32 true (Some none) rest >>= λ t at. word (codes ")") at >>= λ _ after. got t after) (word_local (codes "("))
       (λ _. local_then (items why (kept_with length_of) one 32 true (Some none)) (λ t at. word (codes ")") at >>= λ _ after. got t after) (items_local why (kept_with length_of) one l 32 true (Some none))

@@ -1,7 +1,7 @@
 -- Reading lists within lists keeps to the grammar.
 use Rattle.std.proofs.Common.{◌≡◌, ℕ, zero, suc, ◌==◌, nat_le, Bool, true, false, cond, List, [], ◌∷◌, ◌++◌, codes, None, Some, refl, ap, arith}
 use Rattle.std.proofs.lemmas.Bool.{eqb-true, leb-true, leb-false}
-use Rattle.tuple_tree.specs.Items.{Item, leaf, inner, Items, none, whole_length}
+use Rattle.tuple_tree.specs.Items.{TreeItem, leaf, inner, Items, none, whole_length}
 use Rattle.tuple_text.specs.Reading.{got, stop, Reading, ◌>>=◌, named, deeper, no_room, kept, fitting, close}
 use Rattle.tuple_text.specs.declared.reader.Stop.TheVariants.{BadByte, TooDeep, TooManyFields}
 use Rattle.tuple_text.proofs.Right.{Limits, both, levels, no_limits, DecidesAt, RightTo, RightAs, Never, right_to, nothing_passed, look_at}
@@ -13,7 +13,7 @@ use Rattle.tuple_text.proofs.Lists.{IsOne, BeginsOne, IsList, BeginsList, IsKept
 
 module _ {L : Type 0} (leaf_text : L → List ℕ) (IsLeaf : L → Type 0) (begins : ℕ → Bool) (leaf_at : Reading L) (leaf_right : (bs : List ℕ) → RightAs (IsText leaf_text IsLeaf) (BeginsText leaf_text IsLeaf) bs (leaf_at bs))
     (leaf_starts : (c : Limits) (b : ℕ) → begins b ≡ true → BeginsText leaf_text IsLeaf c (b ∷ [])) (some : BeginsText leaf_text IsLeaf both []) where
-  abbrev IsOneAt : ℕ → Item L → List ℕ → Type 0
+  abbrev IsOneAt : ℕ → TreeItem L → List ℕ → Type 0
   IsOneAt n = IsOne leaf_text (OneIs IsLeaf n)
 
   abbrev BeginsOneAt : ℕ → Limits → List ℕ → Type 0

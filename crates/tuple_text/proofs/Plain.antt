@@ -1,7 +1,7 @@
 -- Lists read without a limit of bytes, and the part of them that is kept.
 use Rattle.std.proofs.Common.{◌≡◌, ℕ, zero, suc, ◌<◌, ◌≤◌, ◌==◌, nat_le, Bool, true, false, cond, List, [], ◌∷◌, codes, Option, None, Some, option_map, refl, ap, sym, ◌∙◌, arith, if◌then◌else◌}
 use Rattle.std.proofs.lemmas.Bool.{le-leb, lt-leb, leb-false}
-use Rattle.tuple_tree.specs.Items.{Item, leaf, inner, Items, none, with_last, whole_length}
+use Rattle.tuple_tree.specs.Items.{TreeItem, leaf, inner, Items, none, with_last, whole_length}
 use Rattle.tuple_tree.proofs.Growing.{length_in-with_last}
 use Rattle.tuple_text.specs.Reading.{Read, got, stop, Reading, ◌>>=◌, look, word, turn, full, items, no_room, kept, kept_with, leaf_item, list, item_at, items_at, close, whole}
 use Rattle.tuple_text.specs.declared.reader.Stop.{Stop}
@@ -37,22 +37,22 @@ module _ {T X U Y : Type 0} (why : ℕ → Stop) (add : T → X → T) (put : U 
   items_seen (suc room) free t bs = next_seen room t (turn free bs) (λ v bs. items_seen room false v bs)
 
 module _ {L : Type 0} (begins : ℕ → Bool) (leaf_at : Reading L) where
-  abbrev pub plain_leaf : Reading (Item L)
+  abbrev pub plain_leaf : Reading (TreeItem L)
   plain_leaf bs = leaf_at bs >>= λ x rest. got (leaf x) rest
 
-  abbrev pub plain_items : (ℕ → Stop) → Reading (Item L) → Reading (Items L)
+  abbrev pub plain_items : (ℕ → Stop) → Reading (TreeItem L) → Reading (Items L)
   plain_items why one bs = items why with_last one 32 true none bs
 
-  abbrev pub plain_list : (ℕ → Stop) → Reading (Item L) → Reading (Items L)
+  abbrev pub plain_list : (ℕ → Stop) → Reading (TreeItem L) → Reading (Items L)
   plain_list why one bs = word (codes "(") bs >>= λ _ rest. plain_items why one rest >>= λ t at. word (codes ")") at >>= λ _ after. got t after
 
-  unfoldable pub plain_item : ℕ → Reading (Item L)
+  unfoldable pub plain_item : ℕ → Reading (TreeItem L)
   plain_item zero bs = look 40 (λ u. stop TooDeep u) plain_leaf bs
   plain_item (suc levels) bs = look 40 (λ u. plain_list (no_room begins levels) (plain_item levels) u >>= λ t rest. got (inner t) rest) plain_leaf bs
 
 module _ {L : Type 0} (length_of : L → ℕ) where
   -- the item if it is kept
-  abbrev pub kept_item : Item L → Option (Item L)
+  abbrev pub kept_item : TreeItem L → Option (TreeItem L)
   kept_item (leaf x) = Some (leaf x)
   kept_item (inner t) = option_map inner (kept length_of t)
 
@@ -66,12 +66,12 @@ module _ {L : Type 0} (length_of : L → ℕ) where
   inner_with t u true e = refl
   inner_with t u false e = sym (fits_not (with_last t (inner u)) (let p : 1024 < whole_length length_of u = leb-false _ _ e in omega (arith, p, length_in-with_last length_of t (inner u))))
 
-  none_with : (t : Items L) (x : Item L) (s : Bool) → nat_le (whole_length length_of t) 1024 ≡ s → kept_with length_of (cond s (Some t) None) (kept_item x) ≡ kept length_of (with_last t x)
+  none_with : (t : Items L) (x : TreeItem L) (s : Bool) → nat_le (whole_length length_of t) 1024 ≡ s → kept_with length_of (cond s (Some t) None) (kept_item x) ≡ kept length_of (with_last t x)
   none_with t x false e = sym (fits_not (with_last t x) (let p : 1024 < whole_length length_of t = leb-false _ _ e in omega (arith, p, length_in-with_last length_of t x)))
   none_with t (leaf x) true e = refl
   none_with t (inner u) true e = inner_with t u (nat_le (whole_length length_of u) 1024) refl
 
-  pub kept_law : (t : Items L) (x : Item L) → kept_with length_of (kept length_of t) (kept_item x) ≡ kept length_of (with_last t x)
+  pub kept_law : (t : Items L) (x : TreeItem L) → kept_with length_of (kept length_of t) (kept_item x) ≡ kept length_of (with_last t x)
   kept_law t x = none_with t x (nat_le (whole_length length_of t) 1024) refl
 
   module _ (begins : ℕ → Bool) (leaf_at : Reading L) where

@@ -1,24 +1,24 @@
 -- Steps of the reader of lists.
 use Rattle.std.proofs.Common.{◌≡◌, ◌≢◌, ℕ, zero, suc, ◌+◌, ◌-◌, ◌≤◌, ◌==◌, Bool, true, false, ◌&&◌, cond, List, [], ◌∷◌, Option, Some, codes, option_map, refl, ap, sym, subst, ◌∙◌, arith, ◌⊎◌, inl, inr, if◌then◌else◌}
 use Rattle.std.proofs.lemmas.Bool.{eqb-true, eq-eqb, ne_eqb}
-use Rattle.tuple_tree.specs.Items.{Item, leaf, inner, Items, none}
-use Rattle.tuple_text.specs.Reading.{Read, got, stop, Reading, ◌>>=◌, Stops, look, word, named, turn, full, further, items, opens, no_room, kept_with, leaf_item, list, item_at, items_at, datum, slot}
+use Rattle.tuple_tree.specs.Items.{TreeItem, leaf, inner, Items, none}
+use Rattle.tuple_text.specs.Reading.{Read, got, stop, Reading, ◌>>=◌, ReadingStops, look, word, named, turn, full, further, items, opens, no_room, kept_with, leaf_item, list, item_at, items_at, datum, slot}
 use Rattle.tuple_text.specs.Parts.{adding}
 use Rattle.tuple_text.specs.declared.reader.Stop.{Stop}
 use Rattle.tuple_text.specs.declared.reader.Stop.TheVariants.{BadByte, TooDeep, TooManyFields, TooLong, NoMemory}
 
 -- If a reading stops, each reading that goes on from it stops too.
-pub stops_through : {V W : Type 0} → (s : Stop) (x : Read V) (f : V → Reading W) (rest : List ℕ) → Stops s x rest → Stops s (x >>= f) rest
+pub stops_through : {V W : Type 0} → (s : Stop) (x : Read V) (f : V → Reading W) (rest : List ℕ) → ReadingStops s x rest → ReadingStops s (x >>= f) rest
 stops_through BadByte x f rest h = ap (λ y. y >>= f) h
 stops_through TooDeep x f rest h = ap (λ y. y >>= f) h
 stops_through TooManyFields x f rest h = ap (λ y. y >>= f) h
 stops_through TooLong x f rest h = ap (λ y. y >>= f) h
 stops_through NoMemory x f rest h = tt
 
-pub stops_as : {V : Type 0} → (s : Stop) (x y : Read V) (rest : List ℕ) → x ≡ y → Stops s y rest → Stops s x rest
-stops_as s x y rest e h = subst (λ z. Stops s z rest) (sym e) h
+pub stops_as : {V : Type 0} → (s : Stop) (x y : Read V) (rest : List ℕ) → x ≡ y → ReadingStops s y rest → ReadingStops s x rest
+stops_as s x y rest e h = subst (λ z. ReadingStops s z rest) (sym e) h
 
-pub stops_at : {V : Type 0} → (s : Stop) (x : Read V) (rest : List ℕ) → x ≡ stop s rest → Stops s x rest
+pub stops_at : {V : Type 0} → (s : Stop) (x : Read V) (rest : List ℕ) → x ≡ stop s rest → ReadingStops s x rest
 stops_at BadByte x rest h = h
 stops_at TooDeep x rest h = h
 stops_at TooManyFields x rest h = h
@@ -36,7 +36,7 @@ module _ (why : ℕ → Stop) where
   abbrev in_room : Bool → Bool → Reading Bool
   in_room is_full on rest = if on && is_full then full why rest else got on rest
 
-  pub turn_stops : (n : ℕ) (free : Bool) (s : Stop) (bs rest : List ℕ) → Stops s (turn free bs) rest → Stops s (further why n free bs) rest
+  pub turn_stops : (n : ℕ) (free : Bool) (s : Stop) (bs rest : List ℕ) → ReadingStops s (turn free bs) rest → ReadingStops s (further why n free bs) rest
   unfolding further
   turn_stops n free s bs rest h = stops_through s (turn free bs) (in_room (n == 32)) rest h
 
@@ -55,7 +55,7 @@ module _ (why : ℕ → Stop) where
       ∙ ap (λ b. in_room b on rest) (ne_eqb n 32 p) ∙ either on rest
 
   -- There is no room for a further item.
-  pub none_further : {V : Type 0} (n : ℕ) (free on : Bool) (s : Stop) (bs at rest : List ℕ) → turn free bs ≡ got on at → on ≡ true → n ≡ 32 → full {V = V} why at ≡ stop s rest → Stops s (further why n free bs) rest
+  pub none_further : {V : Type 0} (n : ℕ) (free on : Bool) (s : Stop) (bs at rest : List ℕ) → turn free bs ≡ got on at → on ≡ true → n ≡ 32 → full {V = V} why at ≡ stop s rest → ReadingStops s (further why n free bs) rest
   unfolding further
   none_further n free on s bs at rest e o z h =
       stops_at s (further why n free bs) rest
@@ -99,7 +99,7 @@ module _ {T X : Type 0} (why : ℕ → Stop) (add : T → X → T) (one : Readin
   unfolding further
   goes_on n free t bs whole s = sym s.reads ∙ by_room (n == 32) n free t bs s.count refl
 
-  pub further_stops : (n : ℕ) (free : Bool) (t : T) (s : Stop) (bs rest : List ℕ) (whole : Read T) → SoFar n free t bs whole → Stops s (further why n free bs) rest → Stops s whole rest
+  pub further_stops : (n : ℕ) (free : Bool) (t : T) (s : Stop) (bs rest : List ℕ) (whole : Read T) → SoFar n free t bs whole → ReadingStops s (further why n free bs) rest → ReadingStops s whole rest
   further_stops n free t s bs rest whole so h =
       stops_as s whole (further why n free bs >>= behind (32 - (n + 1)) t) rest (goes_on n free t bs whole so)
       (stops_through s (further why n free bs) (behind (32 - (n + 1)) t) rest h)
@@ -120,7 +120,7 @@ module _ {T X : Type 0} (why : ℕ → Stop) (add : T → X → T) (one : Readin
   by_adding room t (got x after) = refl
   by_adding room t (stop s rest) = refl
 
-  pub one_stops : (n : ℕ) (free on : Bool) (t : T) (s : Stop) (bs at rest : List ℕ) (whole : Read T) → SoFar n free t bs whole → further why n free bs ≡ got on at → on ≡ true → Stops s (adding add one t at) rest → Stops s whole rest
+  pub one_stops : (n : ℕ) (free on : Bool) (t : T) (s : Stop) (bs at rest : List ℕ) (whole : Read T) → SoFar n free t bs whole → further why n free bs ≡ got on at → on ≡ true → ReadingStops s (adding add one t at) rest → ReadingStops s whole rest
   one_stops n free on t s bs at rest whole so h e k =
       stops_as s whole (adding add one t at >>= items why add one (32 - (n + 1)) false) rest (at_item n free on t bs at whole so h e ∙ by_adding (32 - (n + 1)) t (one at))
       (stops_through s (adding add one t at) (items why add one (32 - (n + 1)) false) rest k)
@@ -153,7 +153,7 @@ module _ {L : Type 0} (length_of : L → ℕ) (begins : ℕ → Bool) (leaf_at :
   open_case [] f g h = absurd (let g : ⊥ = cc in g)
   open_case (b ∷ bs) f g h = ap (λ s. cond s (f (b ∷ bs)) (g (b ∷ bs))) h
 
-  plain_case : (bs : List ℕ) (f : Reading (Option (Item L))) → opens bs ≡ false → look 40 f (leaf_item length_of begins leaf_at) bs ≡ leaf_item length_of begins leaf_at bs
+  plain_case : (bs : List ℕ) (f : Reading (Option (TreeItem L))) → opens bs ≡ false → look 40 f (leaf_item length_of begins leaf_at) bs ≡ leaf_item length_of begins leaf_at bs
   plain_case [] f h = ap (λ y. y >>= λ x rest. got (Some (leaf x)) rest) (sym empty)
   plain_case (b ∷ bs) f h = ap (λ s. cond s (f (b ∷ bs)) (leaf_item length_of begins leaf_at (b ∷ bs))) h
 
@@ -169,10 +169,10 @@ module _ {L : Type 0} (length_of : L → ℕ) (begins : ℕ → Bool) (leaf_at :
   at_ninth (suc levels) bs h e = absurd (omega arith)
 
   -- what follows the items of a list, and the parenthesis that opens it
-  abbrev pub closed : Option (Items L) → Reading (Option (Item L))
+  abbrev pub closed : Option (Items L) → Reading (Option (TreeItem L))
   closed t = named (codes ")") (option_map inner t)
 
-  abbrev pub opened : ℕ → Bool → Reading (Option (Item L))
+  abbrev pub opened : ℕ → Bool → Reading (Option (TreeItem L))
   opened levels on rest = items_at length_of begins leaf_at levels rest >>= closed
 
   by_end : (y : Read Bool) (t : Option (Items L)) → ((y >>= λ _ after. got t after) >>= λ t rest. got (option_map inner t) rest) ≡ (y >>= λ _ rest. got (option_map inner t) rest)

@@ -5,14 +5,14 @@ use Rattle.std.proofs.lemmas.Bool.{eqb-true}
 use Rattle.std.proofs.lemmas.Grind.{flat_map-append}
 use Rattle.std.proofs.lemmas.List.{take_at, take-append-drop}
 use Rattle.std.proofs.Math.Seq.{drop-cons, drop-nil, get_or-take}
-use Rattle.tuple_tree.specs.Items.{Item, leaf, inner, Items, none, item}
+use Rattle.tuple_tree.specs.Items.{TreeItem, leaf, inner, Items, none, item}
 use Rattle.tuple_text.specs.Texts.{ItemText, ItemsText, MoreText, escaped, hex_pair}
 use Rattle.tuple_tree.specs.Values.{TupleTree}
-use Rattle.tuple_text.specs.Written.{item_written, items_written, more_written, tuple_written, tuples_written, is_escaped, Appends}
+use Rattle.tuple_text.specs.Written.{item_written, items_written, more_written, tuple_written, tuples_written, is_escaped, WritesText}
 
 module _ {L : Type 0} (leaf_text : L → List ℕ) where
   mutual
-    pub item_is_text : (x : Item L) → ItemText leaf_text x (item_written leaf_text x)
+    pub item_is_text : (x : TreeItem L) → ItemText leaf_text x (item_written leaf_text x)
     item_is_text (leaf x) = refl
     item_is_text (inner xs) = (items_written leaf_text xs, refl, items_are_text xs)
 
@@ -54,12 +54,12 @@ pub error_behind : (old mid left whole new : List ℕ) → SoFar old mid left wh
 error_behind old mid left whole new s h = error_second old s.done mid new s.at h
 
 -- The last part is written, or an error comes in it.
-pub last_part : {V E : Type 0} → (r : Result V E) (old mid left text whole new : List ℕ) → SoFar old mid left whole → left ≡ text → Appends r mid text new → Appends r old whole new
+pub last_part : {V E : Type 0} → (r : Result V E) (old mid left text whole new : List ℕ) → SoFar old mid left whole → left ≡ text → WritesText r mid text new → WritesText r old whole new
 last_part (Ok v) old mid left text whole new s p e = nothing_left old new [] whole (one_more old mid left text [] whole new s (p ∙ sym (append-nil text)) e) refl
 last_part (Err f) old mid left text whole new s p h = error_behind old mid left whole new s h
 
 -- two parts
-pub second_part : {V E : Type 0} → (r : Result V E) (old mid front text new : List ℕ) → mid ≡ old ++ front → Appends r mid text new → Appends r old (front ++ text) new
+pub second_part : {V E : Type 0} → (r : Result V E) (old mid front text new : List ℕ) → mid ≡ old ++ front → WritesText r mid text new → WritesText r old (front ++ text) new
 second_part r old mid front text new e h = last_part r old mid text text (front ++ text) new (so_far old front text mid e) refl h
 
 -- The old bytes stand at the front of those that an error leaves.

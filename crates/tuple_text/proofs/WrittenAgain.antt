@@ -5,7 +5,7 @@ use Rattle.std.proofs.lemmas.Int.{ints}
 use Rattle.std.proofs.lemmas.Fmt.{length-decimal-le, length-decimal-le_wide}
 use Rattle.std.specs.Fmt.{decimal}
 use Rattle.std.specs.List.{flat_map}
-use Rattle.tuple_tree.specs.Items.{Item, leaf, inner, Items, none, item, item_length, length_in}
+use Rattle.tuple_tree.specs.Items.{TreeItem, leaf, inner, Items, none, item, item_length, length_in}
 use Rattle.tuple_tree.specs.Limits.{IsItem, AreItems, IsWithin}
 use Rattle.tuple_tree.specs.Values.{Datum, number, text, bytes, truth, wide, Slot, actual, any, formal, datum_length, slot_length, IsDatum, IsSlot, IsTuple, IsTemplate, TupleTree, TemplateTree}
 use Rattle.tuple_tree.specs.declared.atoms.Kind.TheVariants as kinds
@@ -22,14 +22,14 @@ module _ {L : Type 0} (P : L → Type 0) where
     are_leaves none h = tt
     are_leaves (item x xs) h = (is_leaf x h.0, are_leaves xs h.1)
 
-    is_leaf : (x : Item L) → IsItem P x → LeafIn P x
+    is_leaf : (x : TreeItem L) → IsItem P x → LeafIn P x
     is_leaf (leaf x) h = h
     is_leaf (inner xs) h = are_leaves xs h.1
 
 -- A text is at most eight times as long as the encoding, with a blank for each item.
 module _ {L : Type 0} (leaf_text : L → List ℕ) (IsLeaf : L → Type 0) (length_of : L → ℕ) (short : (x : L) → IsLeaf x → length (leaf_text x) + 1 ≤ 8 * length_of x) where
   mutual
-    item_short : (x : Item L) → IsItem IsLeaf x → length (item_written leaf_text x) + 1 ≤ 8 * item_length length_of x
+    item_short : (x : TreeItem L) → IsItem IsLeaf x → length (item_written leaf_text x) + 1 ≤ 8 * item_length length_of x
     item_short (leaf x) h = short x h
     item_short (inner xs) h = let k = items_short xs h.1 in omega (arith, k, length-append (items_written leaf_text xs) (41 ∷ []))
 

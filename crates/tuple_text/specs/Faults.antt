@@ -8,7 +8,7 @@ use Rattle.tuple_tree.specs.Limits.{AreItems}
 use Rattle.tuple_tree.specs.Values.{datum_length, slot_length}
 use Rattle.tuple_codec.specs.Operations.{Operation, out, rdp, inp, cas, rd_all, in_all, upgrade}
 use Rattle.tuple_text.specs.Texts.{AreBlanks, IsGap}
-use Rattle.tuple_text.specs.Lines.{name, arguments, LineText, IsSkipped}
+use Rattle.tuple_text.specs.Lines.{operation_name, arguments, LineText, IsSkipped}
 use Rattle.tuple_text.specs.declared.faults.LineFault.{LineFault}
 use Rattle.tuple_text.specs.declared.faults.LineFault.TheVariants.{BadByte, TooDeep, TooManyFields, TooLong, NoMemory}
 
@@ -41,8 +41,8 @@ abbrev pub KeepsBoth : Operation → Type 0
 KeepsBoth o = KeepsLevels o × KeepsCounts o
 
 -- Some line begins so, and P holds of its operation.
-abbrev pub Begins : (Operation → Type 0) → List ℕ → Type 0
-Begins P bs = (rest : List ℕ) × (o : Operation) × LineText o (bs ++ rest) × P o
+abbrev pub LineBegins : (Operation → Type 0) → List ℕ → Type 0
+LineBegins P bs = (rest : List ℕ) × (o : Operation) × LineText o (bs ++ rest) × P o
 
 -- a gap before each argument, and nothing after the last
 abbrev pub ArgumentsClosed : List (List ℕ → Type 0) → List ℕ → Type 0
@@ -67,44 +67,44 @@ pub record EndsTooLong (bs : List ℕ) : Type 0 where
   pub k : ℕ
   pub lead : List ℕ
   pub rest : List ℕ
-  pub whole : bs ≡ lead ++ (name o ++ rest)
+  pub whole : bs ≡ lead ++ (operation_name o ++ rest)
   pub blanks : AreBlanks lead
   pub closed : ArgumentsClosed (take (k + 1) (arguments o)) rest
   pub last : k < length (arguments o)
   pub long : 1024 < slice_index (argument_lengths o) k
 
 -- The first n bytes begin a line and pass no limit.
-pub record Passes (bs : List ℕ) (n : ℕ) : Type 0 where
+pub record PassesNoLimit (bs : List ℕ) (n : ℕ) : Type 0 where
   pub within : n ≤ length bs
   pub limit : n ≤ 65536
-  pub begins : Begins KeepsBoth (take n bs)
+  pub begins : LineBegins KeepsBoth (take n bs)
   pub short : (k : ℕ) → k ≤ n → EndsTooLong (take k bs) → ⊥
 
 -- The byte at n is the first that decides, and the bytes before it begin a line.
 pub record StopsAt (bs : List ℕ) (n : ℕ) : Type 0 where
-  pub passes : Passes bs n
+  pub passes : PassesNoLimit bs n
   pub there : n < length bs
   pub limit : n < 65536
 
 -- The first n bytes are the longest beginning of the line that begins some line.
 pub record IsBadAt (bs : List ℕ) (n : ℕ) : Type 0 where
-  pub passes : Passes bs n
-  pub longest : n < length bs → n < 65536 → Begins AnyOperation (take (n + 1) bs) → ⊥
+  pub passes : PassesNoLimit bs n
+  pub longest : n < length bs → n < 65536 → LineBegins AnyOperation (take (n + 1) bs) → ⊥
   pub unfinished : n ≡ length bs → (o : Operation) → LineText o bs → ⊥
 
 abbrev pub Faults : LineFault → List ℕ → Type 0
 Faults (BadByte n) bs = IsBadAt bs n
 Faults TooDeep bs =
-    (n : ℕ) × StopsAt bs n × Begins AnyOperation (take (n + 1) bs) × (Begins KeepsLevels (take (n + 1) bs) → ⊥)
+    (n : ℕ) × StopsAt bs n × LineBegins AnyOperation (take (n + 1) bs) × (LineBegins KeepsLevels (take (n + 1) bs) → ⊥)
 Faults TooManyFields bs =
-    (n : ℕ) × StopsAt bs n × Begins KeepsLevels (take (n + 1) bs) × (Begins KeepsCounts (take (n + 1) bs) → ⊥)
+    (n : ℕ) × StopsAt bs n × LineBegins KeepsLevels (take (n + 1) bs) × (LineBegins KeepsCounts (take (n + 1) bs) → ⊥)
 Faults TooLong bs =
-    (n : ℕ) × StopsAt bs n × Begins KeepsBoth (take (n + 1) bs) × EndsTooLong (take (n + 1) bs)
+    (n : ℕ) × StopsAt bs n × LineBegins KeepsBoth (take (n + 1) bs) × EndsTooLong (take (n + 1) bs)
 Faults NoMemory bs = Unit {0}
 
 -- The line is not skipped, and this is its fault.
-abbrev pub Refuses : LineFault → List ℕ → Type 0
-Refuses fault bs = (IsSkipped bs → ⊥) × Faults fault bs
+abbrev pub RefusesLine : LineFault → List ℕ → Type 0
+RefusesLine fault bs = (IsSkipped bs → ⊥) × Faults fault bs
 
 -- the same fault with n more bytes in front
 abbrev pub behind : ℕ → LineFault → LineFault

@@ -2,7 +2,7 @@
 -- ends. Of the limits only the ranges of numbers and of the count of an rdAll or inAll belong to the grammar.
 use Rattle.std.specs.Prelude.{◌≡◌, ◌⊎◌, ℕ, ◌≤◌, List, [], ◌∷◌, ◌++◌, length, codes}
 use Rattle.std.specs.Fmt.{decimal}
-use Rattle.tuple_tree.specs.Items.{Item, leaf, inner, Items, none, item}
+use Rattle.tuple_tree.specs.Items.{TreeItem, leaf, inner, Items, none, item}
 use Rattle.tuple_tree.specs.Values.{IsDatum, IsSlot, TupleTree, TemplateTree}
 use Rattle.tuple_codec.specs.Operations.{Operation, out, rdp, inp, cas, rd_all, in_all, upgrade, IsOperation}
 use Rattle.tuple_text.specs.Texts.{AreBlanks, IsGap, TupleText, TemplateText}
@@ -14,7 +14,7 @@ module _ {L : Type 0} (IsLeaf : L → Type 0) where
     EachLeaf none = Unit {0}
     EachLeaf (item x xs) = LeafIn x × EachLeaf xs
 
-    pub LeafIn : Item L → Type 0
+    pub LeafIn : TreeItem L → Type 0
     LeafIn (leaf x) = IsLeaf x
     LeafIn (inner xs) = EachLeaf xs
 
@@ -27,14 +27,14 @@ TemplateArgument p bs = TemplateText p bs × EachLeaf IsSlot p
 abbrev pub CountArgument : ℕ → List ℕ → Type 0
 CountArgument n bs = (bs ≡ decimal n) × (1 ≤ n) × (n ≤ 64)
 
-abbrev pub name : Operation → List ℕ
-name (out t) = codes "out"
-name (rdp p) = codes "rdp"
-name (inp p) = codes "inp"
-name (cas p t) = codes "cas"
-name (rd_all n p) = codes "rdAll"
-name (in_all n p) = codes "inAll"
-name upgrade = codes "upgrade"
+abbrev pub operation_name : Operation → List ℕ
+operation_name (out t) = codes "out"
+operation_name (rdp p) = codes "rdp"
+operation_name (inp p) = codes "inp"
+operation_name (cas p t) = codes "cas"
+operation_name (rd_all n p) = codes "rdAll"
+operation_name (in_all n p) = codes "inAll"
+operation_name upgrade = codes "upgrade"
 
 -- the properties of the arguments' texts, in order
 abbrev pub arguments : Operation → List (List ℕ → Type 0)
@@ -54,7 +54,7 @@ ArgumentsText (argument ∷ more) bs =
 
 abbrev pub LineText : Operation → List ℕ → Type 0
 LineText o bs =
-    (lead rest : List ℕ) × (bs ≡ lead ++ (name o ++ rest)) × AreBlanks lead × ArgumentsText (arguments o) rest
+    (lead rest : List ℕ) × (bs ≡ lead ++ (operation_name o ++ rest)) × AreBlanks lead × ArgumentsText (arguments o) rest
 
 -- the line of an operation within all limits, at most 65,536 bytes
 pub record IsLine (o : Operation) (bs : List ℕ) : Type 0 where

@@ -92,18 +92,18 @@ NoHex [] = Unit {0}
 NoHex (b ∷ bs) = is_hex b ≡ false
 
 -- the rest of a byte string; s are the bytes read before, and high perhaps the first digit of a pair
-abbrev pub pairs : List ℕ → Option ℕ → Reading (List ℕ)
-pairs s None [] = got s []
-pairs s None (b ∷ bs) = if is_hex b then pairs s (Some (hex_value b)) bs else got s (b ∷ bs)
-pairs s (Some high) [] = stop BadByte []
-pairs s (Some high) (b ∷ bs) =
-    if is_hex b then pairs (s ++ (high * 16 + hex_value b) ∷ []) None bs
+abbrev pub digit_pairs : List ℕ → Option ℕ → Reading (List ℕ)
+digit_pairs s None [] = got s []
+digit_pairs s None (b ∷ bs) = if is_hex b then digit_pairs s (Some (hex_value b)) bs else got s (b ∷ bs)
+digit_pairs s (Some high) [] = stop BadByte []
+digit_pairs s (Some high) (b ∷ bs) =
+    if is_hex b then digit_pairs (s ++ (high * 16 + hex_value b) ∷ []) None bs
     else stop BadByte (b ∷ bs)
 
 -- The digits are passed as the front of a byte string, and spell these bytes.
 abbrev pub PassesPairs : List ℕ → List ℕ → Type 0
-PassesPairs s digits = (rest : List ℕ) → pairs [] None (digits ++ rest) ≡ pairs s None rest
+PassesPairs s digits = (rest : List ℕ) → digit_pairs [] None (digits ++ rest) ≡ digit_pairs s None rest
 
 unfoldable pub bytes_literal : Reading (List ℕ)
 bytes_literal [] = stop BadByte []
-bytes_literal (b ∷ bs) = if b == 120 then pairs [] None bs else stop BadByte (b ∷ bs)
+bytes_literal (b ∷ bs) = if b == 120 then digit_pairs [] None bs else stop BadByte (b ∷ bs)

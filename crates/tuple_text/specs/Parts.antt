@@ -1,9 +1,9 @@
 -- Definitions for the private methods of the reader: the parts of a tuple, and those of a template.
 use Rattle.std.specs.Prelude.{◌≡◌, ℕ, Bool, codes, Result, Ok, Err, Option, option_map}
-use Rattle.tuple_tree.specs.Items.{Item, inner, Items}
+use Rattle.tuple_tree.specs.Items.{TreeItem, inner, Items}
 use Rattle.tuple_tree.specs.Seen.{seen_datum}
 use Rattle.tuple_tree.specs.Values.{Datum, text, bytes, Slot, TupleTree, TemplateTree, datum_length, slot_length}
-use Rattle.tuple_text.specs.Reading.{◌>>=◌, got, stop, Reading, named, datum, slot, begins_datum, begins_slot, full, further, no_room, kept_with, leaf_item, item_at, items_at, close, Gives}
+use Rattle.tuple_text.specs.Reading.{◌>>=◌, got, stop, Reading, named, datum, slot, begins_datum, begins_slot, full, further, no_room, kept_with, leaf_item, item_at, items_at, close, ReadingGives}
 use Rattle.tuple_text.specs.declared.literals.Literal.{Literal}
 use Rattle.tuple_text.specs.declared.literals.Literal.TheVariants.{Scalar, Text, Bytes}
 use Rattle.tuple_text.specs.declared.reader.Reader.{Reader}
@@ -11,8 +11,8 @@ use Rattle.tuple_text.specs.declared.reader.Stop.{Stop}
 use Rattle.tuple_text.specs.declared.reader.Stop.TheVariants.{NoMemory}
 
 -- The method reads as the definition does, unless memory ran out. After it the reader has the bytes that are left.
-abbrev pub Reads : {X V : Type 0} → (X → V) → Result X Stop → Reading V → Reader → Reader → Type 0
-Reads view result reading old new = Gives view result (reading old.rest.now) new.rest.now
+abbrev pub MethodReads : {X V : Type 0} → (X → V) → Result X Stop → Reading V → Reader → Reader → Type 0
+MethodReads view result reading old new = ReadingGives view result (reading old.rest.now) new.rest.now
 
 -- the value that was read
 abbrev pub datum_read : {A : Type 0} → Literal A → Datum
@@ -21,17 +21,17 @@ datum_read (Text v) = text v.items
 datum_read (Bytes v) = bytes v.items
 
 -- an item that is no list
-abbrev pub plain_value : Reading (Option (Item Datum))
+abbrev pub plain_value : Reading (Option (TreeItem Datum))
 plain_value = leaf_item datum_length begins_datum datum
 
-abbrev pub plain_slot : Reading (Option (Item Slot))
+abbrev pub plain_slot : Reading (Option (TreeItem Slot))
 plain_slot = leaf_item slot_length begins_slot slot
 
 -- an item with so many levels below it
-abbrev pub value_at : ℕ → Reading (Option (Item Datum))
+abbrev pub value_at : ℕ → Reading (Option (TreeItem Datum))
 value_at levels = item_at datum_length begins_datum datum levels
 
-abbrev pub field_at : ℕ → Reading (Option (Item Slot))
+abbrev pub field_at : ℕ → Reading (Option (TreeItem Slot))
 field_at levels = item_at slot_length begins_slot slot levels
 
 -- the items up to the closing parenthesis
@@ -49,7 +49,7 @@ abbrev pub field_follows : ℕ → ℕ → Bool → Reading Bool
 field_follows levels count free = further (no_room begins_slot levels) count free
 
 -- the closing parenthesis of a nested list, which is then an item
-abbrev pub closed : {L : Type 0} → Option (Items L) → Reading (Option (Item L))
+abbrev pub closed : {L : Type 0} → Option (Items L) → Reading (Option (TreeItem L))
 closed t = named (codes ")") (option_map inner t)
 
 -- the closing parenthesis of the outermost list
@@ -60,10 +60,10 @@ abbrev pub close_template : Option TemplateTree → Reading TemplateTree
 close_template p = close slot_length begins_slot slot p
 
 -- a list and an item at its end, either of which may be too long
-abbrev pub tuple_with : Option TupleTree → Option (Item Datum) → Option TupleTree
+abbrev pub tuple_with : Option TupleTree → Option (TreeItem Datum) → Option TupleTree
 tuple_with t v = kept_with datum_length t v
 
-abbrev pub template_with : Option TemplateTree → Option (Item Slot) → Option TemplateTree
+abbrev pub template_with : Option TemplateTree → Option (TreeItem Slot) → Option TemplateTree
 template_with p f = kept_with slot_length p f
 
 -- a list with the next item at its end
@@ -89,9 +89,9 @@ abbrev pub adding_field : ℕ → Option TemplateTree → Reading (Option Templa
 adding_field levels p = adding template_with (field_at levels) p
 
 -- The list is this one now, unless memory ran out.
-abbrev pub Becomes : {T : Type 0} → Result (Unit {0}) Stop → T → T → Type 0
-Becomes (Ok _) whole new = new ≡ whole
-Becomes (Err s) whole new = s ≡ NoMemory
+abbrev pub ListBecomes : {T : Type 0} → Result (Unit {0}) Stop → T → T → Type 0
+ListBecomes (Ok _) whole new = new ≡ whole
+ListBecomes (Err s) whole new = s ≡ NoMemory
 
 -- No further item has room here, for this reason.
 abbrev pub HasNoValueRoom : ℕ → Reader → Stop → Type 0

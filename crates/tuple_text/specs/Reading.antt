@@ -1,7 +1,7 @@
 -- Readers of the grammar at the front of bytes. They give a value and the bytes left, or the reason to stop and the
 -- bytes from the one that stopped them.
 use Rattle.std.specs.Prelude.{◌≡◌, ℕ, zero, suc, ◌+◌, ◌-◌, ◌*◌, ◌/◌, ◌==◌, nat_le, ℤ, pos, negsuc, Bool, true, false, ◌&&◌, ◌||◌, if◌then◌else◌, List, [], ◌∷◌, codes, Result, Ok, Err, Option, None, Some, option_map}
-use Rattle.tuple_tree.specs.Items.{Item, leaf, inner, Items, none, with_last, whole_length}
+use Rattle.tuple_tree.specs.Items.{TreeItem, leaf, inner, Items, none, with_last, whole_length}
 use Rattle.tuple_tree.specs.Values.{Datum, number, text, bytes, truth, wide, Slot, actual, any, formal, TupleTree, TemplateTree, datum_length, slot_length}
 use Rattle.tuple_tree.specs.declared.atoms.Kind.{Kind}
 use Rattle.tuple_tree.specs.declared.atoms.Kind.TheVariants as kinds
@@ -126,7 +126,7 @@ actual_slot bs = datum bs >>= λ x rest. got (actual x) rest
 unfoldable pub slot : Reading Slot
 slot bs = look 42 (named (codes "*") any) (look 63 formal_slot actual_slot) bs
 
-abbrev pub slot_item : Reading (Item Slot)
+abbrev pub slot_item : Reading (TreeItem Slot)
 slot_item bs = slot bs >>= λ x rest. got (leaf x) rest
 
 -- whether some value that is no tuple begins so
@@ -183,23 +183,23 @@ module _ {L : Type 0} (length_of : L → ℕ) where
   kept t = if nat_le (whole_length length_of t) 1024 then Some t else None
 
   -- a list and an item at its end, either of which may be too long
-  abbrev pub kept_with : Option (Items L) → Option (Item L) → Option (Items L)
+  abbrev pub kept_with : Option (Items L) → Option (TreeItem L) → Option (Items L)
   kept_with None x = None
   kept_with (Some t) None = None
   kept_with (Some t) (Some x) = kept (with_last t x)
 
   module _ (begins : ℕ → Bool) (leaf_at : Reading L) where
-    abbrev pub leaf_item : Reading (Option (Item L))
+    abbrev pub leaf_item : Reading (Option (TreeItem L))
     leaf_item bs = leaf_at bs >>= λ x rest. got (Some (leaf x)) rest
 
     -- a list, given the reader of its items and the reason for a full list
-    abbrev pub list : (ℕ → Stop) → Reading (Option (Item L)) → Reading (Option (Items L))
+    abbrev pub list : (ℕ → Stop) → Reading (Option (TreeItem L)) → Reading (Option (Items L))
     list why one bs =
         word (codes "(") bs >>= λ _ rest. items why kept_with one 32 true (Some none) rest
         >>= λ t at. word (codes ")") at >>= λ _ after. got t after
 
     -- an item with so many levels below it
-    unfoldable pub item_at : ℕ → Reading (Option (Item L))
+    unfoldable pub item_at : ℕ → Reading (Option (TreeItem L))
     item_at zero bs = look 40 (λ u. stop TooDeep u) leaf_item bs
     item_at (suc levels) bs =
         look 40 (λ u. list (no_room begins levels) (item_at levels) u >>= λ t rest. got (option_map inner t) rest)
@@ -291,13 +291,13 @@ unfoldable pub lone_template : Reading TemplateTree
 lone_template bs = blanks true bs >>= λ _ rest. template rest >>= λ p after. ending after >>= λ _ last. got p last
 
 -- The method reads as the definition does, unless memory ran out. Its reader has these bytes left.
-abbrev pub Stops : {V : Type 0} → Stop → Read V → List ℕ → Type 0
-Stops NoMemory read rest = Unit {0}
-Stops s read rest = read ≡ stop s rest
+abbrev pub ReadingStops : {V : Type 0} → Stop → Read V → List ℕ → Type 0
+ReadingStops NoMemory read rest = Unit {0}
+ReadingStops s read rest = read ≡ stop s rest
 
-abbrev pub Gives : {X V : Type 0} → (X → V) → Result X Stop → Read V → List ℕ → Type 0
-Gives view (Ok x) read rest = read ≡ got (view x) rest
-Gives view (Err s) read rest = Stops s read rest
+abbrev pub ReadingGives : {X V : Type 0} → (X → V) → Result X Stop → Read V → List ℕ → Type 0
+ReadingGives view (Ok x) read rest = read ≡ got (view x) rest
+ReadingGives view (Err s) read rest = ReadingStops s read rest
 
 abbrev pub fault_at : ℕ → Stop → LineFault
 fault_at n BadByte = faults.BadByte n

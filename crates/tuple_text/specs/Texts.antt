@@ -2,7 +2,7 @@
 use Rattle.std.specs.Prelude.{◌≡◌, ℕ, ◌+◌, ◌/◌, ◌%◌, ◌<◌, ◌==◌, nat_lt, Bool, true, false, if◌then◌else◌, List, [], ◌∷◌, ◌++◌, length, codes}
 use Rattle.std.specs.List.{flat_map}
 use Rattle.std.specs.Fmt.{signed_decimal}
-use Rattle.tuple_tree.specs.Items.{Item, leaf, inner, Items, none, item}
+use Rattle.tuple_tree.specs.Items.{TreeItem, leaf, inner, Items, none, item}
 use Rattle.tuple_tree.specs.Values.{Datum, number, text, bytes, truth, wide, Slot, actual, any, formal, TupleTree, TemplateTree}
 use Rattle.tuple_tree.specs.declared.atoms.Kind.{Kind}
 use Rattle.tuple_tree.specs.declared.atoms.Kind.TheVariants as kinds
@@ -62,7 +62,7 @@ slot_text (formal k) = formal_text k
 -- A list stands in parentheses, one or more blanks between its items, any number at the parentheses.
 module _ {L : Type 0} (leaf_text : L → List ℕ) where
   abbrev mutual
-    pub ItemText : Item L → List ℕ → Type 0
+    pub ItemText : TreeItem L → List ℕ → Type 0
     ItemText (leaf x) bs = bs ≡ leaf_text x
     ItemText (inner xs) bs = (body : List ℕ) × (bs ≡ 40 ∷ body ++ 41 ∷ []) × ItemsText xs body
 

@@ -2,7 +2,7 @@
 use Rattle.std.specs.Prelude.{◌≡◌, ℕ, ◌<◌, ◌≤◌, ◌==◌, nat_lt, Bool, ◌||◌, List, [], ◌∷◌, ◌++◌, length, take, codes, Result, Ok, Err}
 use Rattle.std.specs.List.{flat_map}
 use Rattle.std.specs.Fmt.{decimal}
-use Rattle.tuple_tree.specs.Items.{Item, leaf, inner, Items, none, item}
+use Rattle.tuple_tree.specs.Items.{TreeItem, leaf, inner, Items, none, item}
 use Rattle.tuple_tree.specs.Values.{TupleTree, TemplateTree}
 use Rattle.tuple_codec.specs.Operations.{Operation, out, rdp, inp, cas, rd_all, in_all, upgrade, Outcome, done, found, absent, swapped, all, full, refused}
 use Rattle.tuple_codec.specs.OperationView.{outcome_of}
@@ -11,7 +11,7 @@ use Rattle.tuple_text.specs.Texts.{datum_text, slot_text, truth_text, escaped}
 
 module _ {L : Type 0} (leaf_text : L → List ℕ) where
   abbrev mutual
-    pub item_written : Item L → List ℕ
+    pub item_written : TreeItem L → List ℕ
     item_written (leaf x) = leaf_text x
     item_written (inner xs) = 40 ∷ items_written xs ++ 41 ∷ []
 
@@ -68,9 +68,9 @@ abbrev pub answer_text : {A : Type 0} → Answer A → List ℕ
 answer_text answer = outcome_text (outcome_of answer)
 
 -- The text follows the old bytes. After an error some other bytes may.
-abbrev pub Appends : {V E : Type 0} → Result V E → List ℕ → List ℕ → List ℕ → Type 0
-Appends (Ok v) old text new = new ≡ old ++ text
-Appends (Err e) old text new = (more : List ℕ) × (new ≡ old ++ more)
+abbrev pub WritesText : {V E : Type 0} → Result V E → List ℕ → List ℕ → List ℕ → Type 0
+WritesText (Ok v) old text new = new ≡ old ++ text
+WritesText (Err e) old text new = (more : List ℕ) × (new ≡ old ++ more)
 
 -- whether a byte of a text doesn't stand for itself
 abbrev pub is_escaped : ℕ → Bool

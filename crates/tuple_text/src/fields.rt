@@ -5,8 +5,8 @@ ghost use Rattle.std.specs.Prelude.{◌≡◌, ◌<◌, length, IfOk, Some};
 ghost use Rattle.tuple_tree.specs.Reading.{rest_of, byte_at};
 ghost use Rattle.tuple_tree.specs.Loose.{loose_slot_at};
 ghost use Rattle.tuple_text.specs.Texts.{slot_text};
-ghost use Rattle.tuple_text.specs.Written.{template_written, Appends};
-ghost use Rattle.tuple_text.specs.Walks.{field_at, fields_at, field_written, fields_written, others_written, IsThere, text_of};
+ghost use Rattle.tuple_text.specs.Written.{template_written, WritesText};
+ghost use Rattle.tuple_text.specs.Walks.{spelled_field_at, spelled_fields_at, field_written, fields_written, others_written, IsThere, text_of};
 
 use crate::write::{append, put_atom, put_byte};
 use std::alloc::Allocator;
@@ -22,9 +22,9 @@ pub(crate) fn put_list<'b, B: Allocator>(
     levels: u8,
     out: &mut Vec<u8, B>,
 ) -> Result<&'b [u8], NoMemory>
-    requires { IsThere (fields_at levels count bytes.now) }
-    ensures text { Appends result out.old.items (text_of template_written (fields_at levels count bytes.now)) out.new.items }
-    ensures rest { IfOk result (λ rest. rest_of (fields_at levels count bytes.now) ≡ Some rest.now) }
+    requires { IsThere (spelled_fields_at levels count bytes.now) }
+    ensures text { WritesText result out.old.items (text_of template_written (spelled_fields_at levels count bytes.now)) out.new.items }
+    ensures rest { IfOk result (λ rest. rest_of (spelled_fields_at levels count bytes.now) ≡ Some rest.now) }
 {
     put_byte(b'(', out)?;
     let rest = put_fields(count, bytes, levels, out)?;
@@ -40,9 +40,9 @@ fn put_fields<'b, B: Allocator>(
     levels: u8,
     out: &mut Vec<u8, B>,
 ) -> Result<&'b [u8], NoMemory>
-    requires { IsThere (fields_at levels count bytes.now) }
-    ensures text { Appends result out.old.items (text_of fields_written (fields_at levels count bytes.now)) out.new.items }
-    ensures rest { IfOk result (λ rest. rest_of (fields_at levels count bytes.now) ≡ Some rest.now) }
+    requires { IsThere (spelled_fields_at levels count bytes.now) }
+    ensures text { WritesText result out.old.items (text_of fields_written (spelled_fields_at levels count bytes.now)) out.new.items }
+    ensures rest { IfOk result (λ rest. rest_of (spelled_fields_at levels count bytes.now) ≡ Some rest.now) }
 {
     if count == 0 {
         return Ok(bytes);
@@ -59,9 +59,9 @@ fn put_others<'b, B: Allocator>(
     levels: u8,
     out: &mut Vec<u8, B>,
 ) -> Result<&'b [u8], NoMemory>
-    requires { IsThere (fields_at levels count bytes.now) }
-    ensures text { Appends result out.old.items (text_of others_written (fields_at levels count bytes.now)) out.new.items }
-    ensures rest { IfOk result (λ rest. rest_of (fields_at levels count bytes.now) ≡ Some rest.now) }
+    requires { IsThere (spelled_fields_at levels count bytes.now) }
+    ensures text { WritesText result out.old.items (text_of others_written (spelled_fields_at levels count bytes.now)) out.new.items }
+    ensures rest { IfOk result (λ rest. rest_of (spelled_fields_at levels count bytes.now) ≡ Some rest.now) }
 {
     let mut rest = bytes;
     for _i in 0..count {
@@ -77,9 +77,9 @@ fn put_field<'b, B: Allocator>(
     levels: u8,
     out: &mut Vec<u8, B>,
 ) -> Result<&'b [u8], NoMemory>
-    requires { IsThere (field_at levels bytes.now) }
-    ensures text { Appends result out.old.items (text_of field_written (field_at levels bytes.now)) out.new.items }
-    ensures rest { IfOk result (λ rest. rest_of (field_at levels bytes.now) ≡ Some rest.now) }
+    requires { IsThere (spelled_field_at levels bytes.now) }
+    ensures text { WritesText result out.old.items (text_of field_written (spelled_field_at levels bytes.now)) out.new.items }
+    ensures rest { IfOk result (λ rest. rest_of (spelled_field_at levels bytes.now) ≡ Some rest.now) }
 {
     let (tag, rest) = first_byte(bytes);
     if tag != 5 {
@@ -106,7 +106,7 @@ fn put_slot<'b, B: Allocator>(
     out: &mut Vec<u8, B>,
 ) -> Result<&'b [u8], NoMemory>
     requires { IsThere (loose_slot_at tag bytes.now) }
-    ensures text { Appends result out.old.items (text_of slot_text (loose_slot_at tag bytes.now)) out.new.items }
+    ensures text { WritesText result out.old.items (text_of slot_text (loose_slot_at tag bytes.now)) out.new.items }
     ensures rest { IfOk result (λ rest. rest_of (loose_slot_at tag bytes.now) ≡ Some rest.now) }
 {
     match tag {
@@ -134,7 +134,7 @@ fn put_alone<'b, B: Allocator>(
     bytes: &'b [u8],
     out: &mut Vec<u8, B>,
 ) -> Result<&'b [u8], NoMemory>
-    ensures text { Appends result out.old.items text.now out.new.items }
+    ensures text { WritesText result out.old.items text.now out.new.items }
     ensures rest { IfOk result (λ rest. rest.now ≡ bytes.now) }
 {
     append(text, out)?;

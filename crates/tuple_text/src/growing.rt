@@ -6,7 +6,7 @@ ghost use Rattle.tuple_tree.specs.Values.{actual, IsUtf8IfText};
 ghost use Rattle.tuple_tree.specs.Seen.{seen_datum};
 ghost use Rattle.tuple_tree.specs.TupleView.{value_of};
 ghost use Rattle.tuple_tree.specs.TemplateView.{field_of};
-ghost use Rattle.tuple_text.specs.Parts.{Becomes, tuple_with, template_with};
+ghost use Rattle.tuple_text.specs.Parts.{ListBecomes, tuple_with, template_with};
 
 use crate::reader::Stop;
 use std::alloc::Allocator;
@@ -14,7 +14,7 @@ use tuple_tree::{AtomRef, Field, Refusal, Template, Tuple, Value};
 
 // A list that gets too long isn't kept, but its bytes are still judged. The reader keeps the other limits itself.
 fn refuse<L: Drop>(list: &mut Option<L>, refusal: Refusal) -> Result<(), Stop>
-    ensures forgotten { Becomes result None list.new }
+    ensures forgotten { ListBecomes result None list.new }
     ensures too_long { OnOk result (refusal ≡ Refusal.TooLong) }
 {
     match refusal {
@@ -33,7 +33,7 @@ pub(crate) fn add_atom<A: Allocator>(
     atom: AtomRef<'_>,
 ) -> Result<(), Stop>
     requires { IsUtf8IfText (seen_datum atom) }
-    ensures { Becomes result (tuple_with tuple.old (Some (leaf (seen_datum atom.entry)))) tuple.new }
+    ensures { ListBecomes result (tuple_with tuple.old (Some (leaf (seen_datum atom.entry)))) tuple.new }
 {
     let Some(kept) = tuple else {
         return Ok(());
@@ -50,7 +50,7 @@ pub(crate) fn add_value<A: Allocator>(
     tuple: &mut Option<Tuple<A>>,
     value: Value<A>,
 ) -> Result<(), Stop>
-    ensures { Becomes result (tuple_with tuple.old (Some (value_of value))) tuple.new }
+    ensures { ListBecomes result (tuple_with tuple.old (Some (value_of value))) tuple.new }
 {
     let Some(kept) = tuple else {
         return Ok(());
@@ -68,7 +68,7 @@ pub(crate) fn add_actual<A: Allocator>(
     atom: AtomRef<'_>,
 ) -> Result<(), Stop>
     requires { IsUtf8IfText (seen_datum atom) }
-    ensures { Becomes result (template_with template.old (Some (leaf (actual (seen_datum atom.entry))))) template.new }
+    ensures { ListBecomes result (template_with template.old (Some (leaf (actual (seen_datum atom.entry))))) template.new }
 {
     let Some(kept) = template else {
         return Ok(());
@@ -85,7 +85,7 @@ pub(crate) fn add_field<A: Allocator>(
     template: &mut Option<Template<A>>,
     field: Field<A>,
 ) -> Result<(), Stop>
-    ensures { Becomes result (template_with template.old (Some (field_of field))) template.new }
+    ensures { ListBecomes result (template_with template.old (Some (field_of field))) template.new }
 {
     let Some(kept) = template else {
         return Ok(());

@@ -2,7 +2,7 @@
 
 ghost use Rattle.std.specs.Prelude.{◌≡◌, ◌+◌, ◌≤◌, length, IsTrue, ◌↔◌};
 ghost use Rattle.tuple_text.specs.Lines.{IsSkipped};
-ghost use Rattle.tuple_text.specs.Judged.{JudgesLine, ReadsEachLine, JudgesText, ReadsEachText};
+ghost use Rattle.tuple_text.specs.Judged.{JudgesLine, ReadsEachLine, JudgesTemplateText, ReadsEachText};
 
 use crate::faults::{LineFault, MAX_LINE};
 use crate::reader::Reader;
@@ -62,7 +62,7 @@ pub fn read_line<A: Allocator + Copy>(alloc: A, line: &[u8]) -> Result<Option<Op
 /// As of the line `rdp TEXT`; offsets count from the text's first byte. The byte 65,532 counts as one that can't
 /// continue any text.
 pub fn read_template<A: Allocator + Copy>(alloc: A, text: &[u8]) -> Result<Template<A>, LineFault>
-    ensures answer { JudgesText text.now result }
+    ensures answer { JudgesTemplateText text.now result }
 
     // The text of a template is read as that template, unless memory runs out.
     ensures only { ReadsEachText text.now result }

@@ -3,9 +3,9 @@
 ghost use Rattle.std.specs.Prelude.{◌≡◌, ◌+◌, ◌++◌, ◌∷◌, ◌<◌, ◌≤◌, ◌%◌, ℕ, [], None, true, false, length, slice_index, vec_len, vec_capacity, IfOk, IfErr, IfSome, IfNone, OnOk, IsTrue};
 ghost use Rattle.tuple_tree.specs.Seen.{seen_datum};
 ghost use Rattle.tuple_tree.specs.Values.{text};
-ghost use Rattle.tuple_text.specs.Literals.{is_hex, hex_value, led, step, is_plain, text_rest, PassesPlain, AreHex, NoHex, PassesPairs, pairs};
+ghost use Rattle.tuple_text.specs.Literals.{is_hex, hex_value, led, step, is_plain, text_rest, PassesPlain, AreHex, NoHex, PassesPairs, digit_pairs};
 ghost use Rattle.tuple_text.specs.Reading.{got, datum, quoted, byte_string};
-ghost use Rattle.tuple_text.specs.Parts.{Reads, datum_read};
+ghost use Rattle.tuple_text.specs.Parts.{MethodReads, datum_read};
 
 use crate::reader::{Reader, Stop};
 use std::alloc::Allocator;
@@ -334,7 +334,7 @@ impl<'a> Reader<'a> {
 
     // The rest of a text after its first quote.
     fn text_bytes<A: Allocator + Copy>(&mut self, alloc: A) -> Result<Vec<u8, A>, Stop>
-        ensures { Reads (λ v. v.items) result text_rest self.old self.new }
+        ensures { MethodReads (λ v. v.items) result text_rest self.old self.new }
     {
         let mut bytes = self.plain_bytes(alloc)?;
         let mut expected = Expected::Character;
@@ -377,7 +377,7 @@ impl<'a> Reader<'a> {
     /// Reads a text literal.
     #[tactic(auto, unfolding(crate::specs::Reading::quoted, crate::specs::Literals::text_literal))]
     pub(crate) fn text_literal<A: Allocator + Copy>(&mut self, alloc: A) -> Result<Literal<A>, Stop>
-        ensures { Reads datum_read result quoted self.old self.new }
+        ensures { MethodReads datum_read result quoted self.old self.new }
     {
         match self.rest {
             [b'"', rest @ ..] => {
@@ -402,7 +402,7 @@ impl<'a> Reader<'a> {
 
     // The rest of a byte string after its first letter.
     fn pairs<A: Allocator>(&mut self, alloc: A) -> Result<Vec<u8, A>, Stop>
-        ensures { Reads (λ v. v.items) result (pairs [] None) self.old self.new }
+        ensures { MethodReads (λ v. v.items) result (digit_pairs [] None) self.old self.new }
     {
         let digits = self.hex_digits();
         if digits.len() % 2 == 1 {
@@ -414,7 +414,7 @@ impl<'a> Reader<'a> {
     /// Reads a byte string literal.
     #[tactic(auto, unfolding(crate::specs::Reading::byte_string, crate::specs::Literals::bytes_literal))]
     pub(crate) fn bytes_literal<A: Allocator>(&mut self, alloc: A) -> Result<Literal<A>, Stop>
-        ensures { Reads datum_read result byte_string self.old self.new }
+        ensures { MethodReads datum_read result byte_string self.old self.new }
     {
         match self.rest {
             [b'x', rest @ ..] => {

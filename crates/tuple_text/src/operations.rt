@@ -2,7 +2,7 @@
 
 ghost use Rattle.std.specs.Prelude.{◌≡◌, ◌∷◌, ◌++◌, OnOk, OnErr, decimal};
 ghost use Rattle.tuple_codec.specs.OperationView.{operation_of};
-ghost use Rattle.tuple_text.specs.Written.{template_written, operation_written, Appends};
+ghost use Rattle.tuple_text.specs.Written.{template_written, operation_written, WritesText};
 
 use crate::fields::put_list;
 use crate::write::{append, put_byte, put_tuple};
@@ -32,7 +32,7 @@ pub fn write_op<A: Allocator, B: Allocator>(
 }
 
 fn put_op<A: Allocator, B: Allocator>(op: &Op<A>, out: &mut Vec<u8, B>) -> Result<(), NoMemory>
-    ensures { Appends result out.old.items (operation_written (operation_of op.now)) out.new.items }
+    ensures { WritesText result out.old.items (operation_written (operation_of op.now)) out.new.items }
 {
     match op {
         Op::Out(tuple) => {
@@ -71,7 +71,7 @@ fn put_counted<A: Allocator, B: Allocator>(
     template: &Template<A>,
     out: &mut Vec<u8, B>,
 ) -> Result<(), NoMemory>
-    ensures { Appends result out.old.items (decimal max.count ++ 32 ∷ template_written template.now) out.new.items }
+    ensures { WritesText result out.old.items (decimal max.count ++ 32 ∷ template_written template.now) out.new.items }
 {
     put_count(max, out)?;
     put_byte(b' ', out)?;
@@ -79,7 +79,7 @@ fn put_counted<A: Allocator, B: Allocator>(
 }
 
 fn put_count<B: Allocator>(max: Max, out: &mut Vec<u8, B>) -> Result<(), NoMemory>
-    ensures { Appends result out.old.items (decimal max.count) out.new.items }
+    ensures { WritesText result out.old.items (decimal max.count) out.new.items }
 {
     let mut buffer = Buffer::new();
     append(buffer.format(max.count).as_bytes(), out)
@@ -89,7 +89,7 @@ fn put_template<A: Allocator, B: Allocator>(
     template: &Template<A>,
     out: &mut Vec<u8, B>,
 ) -> Result<(), NoMemory>
-    ensures { Appends result out.old.items (template_written template.now) out.new.items }
+    ensures { WritesText result out.old.items (template_written template.now) out.new.items }
 {
     let _rest = put_list(template.len() as u8, template.bytes(), 7, out)?;
     Ok(())

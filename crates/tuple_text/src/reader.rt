@@ -5,7 +5,7 @@ ghost use Rattle.tuple_tree.specs.Values.{truth as truth_datum};
 ghost use Rattle.tuple_codec.specs.OperationView.{operation_of};
 ghost use Rattle.tuple_text.specs.Texts.{AreBlanks};
 ghost use Rattle.tuple_text.specs.Reading.{fault_at, blanks, word, gap, finish, digits, positive, signed, numeral, wide_numeral, datum, kind, named, behind_b, behind_t, slot_item, turn, follows, got, stop, opens, tuple, template, argument, ending, last, operation, line, out_line, cas_line, upgrade_line, one_line, all_line, verb_line, lone_template};
-ghost use Rattle.tuple_text.specs.Parts.{HasNoValueRoom, HasNoFieldRoom, datum_read, adding_atom, adding_slot, adding_tuple, adding_template, adding_value, adding_field, value_follows, field_follows, values_at, fields_at, close_tuple, close_template, Reads};
+ghost use Rattle.tuple_text.specs.Parts.{HasNoValueRoom, HasNoFieldRoom, datum_read, adding_atom, adding_slot, adding_tuple, adding_template, adding_value, adding_field, value_follows, field_follows, values_at, fields_at, close_tuple, close_template, MethodReads};
 
 use crate::faults::LineFault;
 use crate::growing::{add_actual, add_atom, add_field, add_value};
@@ -92,7 +92,7 @@ impl<'a> Reader<'a> {
     }
 
     fn word(&mut self, letters: &[u8]) -> Result<(), Stop>
-        ensures { Reads (λ _. true) result (word letters.now) self.old self.new }
+        ensures { MethodReads (λ _. true) result (word letters.now) self.old self.new }
     {
         for letter in letters {
             match self.rest {
@@ -109,7 +109,7 @@ impl<'a> Reader<'a> {
     }
 
     fn gap(&mut self) -> Result<(), Stop>
-        ensures { Reads (λ _. true) result gap self.old self.new }
+        ensures { MethodReads (λ _. true) result gap self.old self.new }
     {
         if self.blanks(false) {
             Ok(())
@@ -119,7 +119,7 @@ impl<'a> Reader<'a> {
     }
 
     fn finish(&mut self) -> Result<(), Stop>
-        ensures { Reads (λ _. true) result finish self.old self.new }
+        ensures { MethodReads (λ _. true) result finish self.old self.new }
     {
         if self.rest.is_empty() {
             Ok(())
@@ -159,7 +159,7 @@ impl<'a> Reader<'a> {
         requires high { limit ≤ MOST_WIDE + 1 }
         requires first { first ≤ limit }
         requires positive { 1 ≤ first }
-        ensures gives { Reads (λ n. n) result (digits limit first) self.old self.new }
+        ensures gives { MethodReads (λ n. n) result (digits limit first) self.old self.new }
         ensures low { IfOk result (λ n. 1 ≤ n) }
         ensures high { IfOk result (λ n. n ≤ limit) }
     {
@@ -179,7 +179,7 @@ impl<'a> Reader<'a> {
     fn positive(&mut self, limit: u128) -> Result<u128, Stop>
         requires low { 9 ≤ limit }
         requires high { limit ≤ MOST_WIDE + 1 }
-        ensures gives { Reads (λ n. n) result (positive limit) self.old self.new }
+        ensures gives { MethodReads (λ n. n) result (positive limit) self.old self.new }
         ensures low { IfOk result (λ n. 1 ≤ n) }
         ensures high { IfOk result (λ n. n ≤ limit) }
     {
@@ -197,7 +197,7 @@ impl<'a> Reader<'a> {
     fn signed(&mut self, most: u128) -> Result<i128, Stop>
         requires low { 9 ≤ most }
         requires high { most ≤ MOST_WIDE }
-        ensures gives { Reads (λ n. n) result (signed most) self.old self.new }
+        ensures gives { MethodReads (λ n. n) result (signed most) self.old self.new }
         ensures low { IfOk result (λ n. negsuc most ≤ℤ n) }
         ensures high { IfOk result (λ n. n ≤ℤ pos most) }
     {
@@ -221,7 +221,7 @@ impl<'a> Reader<'a> {
 
     #[tactic(auto, unfolding(crate::specs::Reading::numeral))]
     fn numeral<A: Allocator>(&mut self) -> Result<Literal<A>, Stop>
-        ensures { Reads datum_read result numeral self.old self.new }
+        ensures { MethodReads datum_read result numeral self.old self.new }
     {
         let number = self.signed(MOST)?;
         Ok(Literal::Scalar(AtomRef::Number(number as i64)))
@@ -230,7 +230,7 @@ impl<'a> Reader<'a> {
     // A wide number, after its `w`.
     #[tactic(auto, unfolding(crate::specs::Reading::wide_numeral))]
     fn wide_numeral<A: Allocator>(&mut self) -> Result<Literal<A>, Stop>
-        ensures { Reads datum_read result wide_numeral self.old self.new }
+        ensures { MethodReads datum_read result wide_numeral self.old self.new }
     {
         self.word(b"w")?;
         let number = self.signed(MOST_WIDE)?;
@@ -239,7 +239,7 @@ impl<'a> Reader<'a> {
 
     // A word that stands for a truth value.
     fn truth<A: Allocator>(&mut self, letters: &[u8], truth: bool) -> Result<Literal<A>, Stop>
-        ensures { Reads datum_read result (named letters.now (truth_datum truth)) self.old self.new }
+        ensures { MethodReads datum_read result (named letters.now (truth_datum truth)) self.old self.new }
     {
         self.word(letters)?;
         Ok(Literal::Scalar(AtomRef::Truth(truth)))
@@ -249,7 +249,7 @@ impl<'a> Reader<'a> {
     #[inline(always)]
     #[tactic(auto, unfolding(crate::specs::Reading::datum))]
     fn literal<A: Allocator + Copy>(&mut self, alloc: A) -> Result<Literal<A>, Stop>
-        ensures { Reads datum_read result datum self.old self.new }
+        ensures { MethodReads datum_read result datum self.old self.new }
     {
         match self.rest {
             [] => Err(Stop::BadByte),
@@ -264,7 +264,7 @@ impl<'a> Reader<'a> {
 
     // The rest of a kind's name.
     fn named(&mut self, letters: &[u8], kind: Kind) -> Result<Kind, Stop>
-        ensures { Reads (λ k. k) result (named letters.now kind) self.old self.new }
+        ensures { MethodReads (λ k. k) result (named letters.now kind) self.old self.new }
     {
         self.word(letters)?;
         Ok(kind)
@@ -272,7 +272,7 @@ impl<'a> Reader<'a> {
 
     // The rest of a kind's name after its `b`.
     fn kind_b(&mut self) -> Result<Kind, Stop>
-        ensures { Reads (λ k. k) result behind_b self.old self.new }
+        ensures { MethodReads (λ k. k) result behind_b self.old self.new }
     {
         match self.rest {
             [] => Err(Stop::BadByte),
@@ -283,7 +283,7 @@ impl<'a> Reader<'a> {
 
     // The rest of a kind's name after its `t`.
     fn kind_t(&mut self) -> Result<Kind, Stop>
-        ensures { Reads (λ k. k) result behind_t self.old self.new }
+        ensures { MethodReads (λ k. k) result behind_t self.old self.new }
     {
         match self.rest {
             [] => Err(Stop::BadByte),
@@ -295,7 +295,7 @@ impl<'a> Reader<'a> {
     // The name of a kind.
     #[tactic(auto, unfolding(crate::specs::Reading::kind, crate::specs::Reading::kind_b, crate::specs::Reading::kind_t))]
     fn kind(&mut self) -> Result<Kind, Stop>
-        ensures { Reads (λ k. k) result kind self.old self.new }
+        ensures { MethodReads (λ k. k) result kind self.old self.new }
     {
         match self.rest {
             [] => Err(Stop::BadByte),
@@ -315,7 +315,7 @@ impl<'a> Reader<'a> {
 
     #[tactic(auto, unfolding(crate::specs::Reading::follows))]
     fn follows(&mut self, free: bool) -> Result<bool, Stop>
-        ensures { Reads (λ on. on) result (follows free) self.old self.new }
+        ensures { MethodReads (λ on. on) result (follows free) self.old self.new }
     {
         match self.rest {
             [] => Err(Stop::BadByte),
@@ -328,7 +328,7 @@ impl<'a> Reader<'a> {
     // Passes blanks. Gives whether an item follows or the list is closed; the parenthesis is left.
     #[tactic(auto, unfolding(crate::specs::Reading::turn))]
     fn turn(&mut self, free: bool) -> Result<bool, Stop>
-        ensures { Reads (λ on. on) result (turn free) self.old self.new }
+        ensures { MethodReads (λ on. on) result (turn free) self.old self.new }
     {
         let free = self.blanks(free);
         self.follows(free)
@@ -376,7 +376,7 @@ impl<'a> Reader<'a> {
         alloc: A,
         tuple: &mut Option<Tuple<A>>,
     ) -> Result<(), Stop>
-        ensures { Reads (λ _. tuple.new) result (adding_atom tuple.old) self.old self.new }
+        ensures { MethodReads (λ _. tuple.new) result (adding_atom tuple.old) self.old self.new }
     {
         if let Some(text) = self.plain_text() {
             return add_atom(tuple, AtomRef::Text(text));
@@ -391,7 +391,7 @@ impl<'a> Reader<'a> {
         nested: Option<Tuple<A>>,
         tuple: &mut Option<Tuple<A>>,
     ) -> Result<(), Stop>
-        ensures { Reads (λ _. tuple.new) result (adding_tuple nested tuple.old) self.old self.new }
+        ensures { MethodReads (λ _. tuple.new) result (adding_tuple nested tuple.old) self.old self.new }
     {
         self.word(b")")?;
         match nested {
@@ -411,7 +411,7 @@ impl<'a> Reader<'a> {
         levels: usize,
         tuple: &mut Option<Tuple<A>>,
     ) -> Result<(), Stop>
-        ensures { Reads (λ _. tuple.new) result (adding_value levels tuple.old) self.old self.new }
+        ensures { MethodReads (λ _. tuple.new) result (adding_value levels tuple.old) self.old self.new }
     {
         if !self.opens() {
             return self.add_atom(alloc, tuple);
@@ -426,7 +426,7 @@ impl<'a> Reader<'a> {
 
     // Whether a further value follows `count` others. If the list is full, a further value is refused.
     fn value_follows(&mut self, levels: usize, count: usize, free: bool) -> Result<bool, Stop>
-        ensures { Reads (λ on. on) result (value_follows levels count free) self.old self.new }
+        ensures { MethodReads (λ on. on) result (value_follows levels count free) self.old self.new }
     {
         let follows = self.turn(free)?;
         if follows && count == MAX_FIELDS {
@@ -443,7 +443,7 @@ impl<'a> Reader<'a> {
         alloc: A,
         levels: usize,
     ) -> Result<Option<Tuple<A>>, Stop>
-        ensures { Reads (λ t. t) result (values_at levels) self.old self.new }
+        ensures { MethodReads (λ t. t) result (values_at levels) self.old self.new }
     {
         let mut tuple = Some(Tuple::new_in(alloc));
         let mut count = 0;
@@ -459,7 +459,7 @@ impl<'a> Reader<'a> {
     #[inline(always)]
     #[tactic(auto, unfolding(crate::specs::Reading::close))]
     fn close_tuple<A: Allocator>(&mut self, tuple: Option<Tuple<A>>) -> Result<Tuple<A>, Stop>
-        ensures { Reads (λ t. t) result (close_tuple tuple) self.old self.new }
+        ensures { MethodReads (λ t. t) result (close_tuple tuple) self.old self.new }
     {
         match self.rest {
             [b')', rest @ ..] => match tuple {
@@ -475,7 +475,7 @@ impl<'a> Reader<'a> {
 
     #[tactic(auto, unfolding(crate::specs::Reading::whole))]
     fn tuple<A: Allocator + Copy>(&mut self, alloc: A) -> Result<Tuple<A>, Stop>
-        ensures { Reads (λ t. t) result tuple self.old self.new }
+        ensures { MethodReads (λ t. t) result tuple self.old self.new }
     {
         self.word(b"(")?;
         let tuple = self.values(alloc, BELOW)?;
@@ -489,7 +489,7 @@ impl<'a> Reader<'a> {
         alloc: A,
         template: &mut Option<Template<A>>,
     ) -> Result<(), Stop>
-        ensures { Reads (λ _. template.new) result (adding_slot template.old) self.old self.new }
+        ensures { MethodReads (λ _. template.new) result (adding_slot template.old) self.old self.new }
     {
         match self.rest {
             [] => Err(Stop::BadByte),
@@ -518,7 +518,7 @@ impl<'a> Reader<'a> {
         nested: Option<Template<A>>,
         template: &mut Option<Template<A>>,
     ) -> Result<(), Stop>
-        ensures { Reads (λ _. template.new) result (adding_template nested template.old) self.old self.new }
+        ensures { MethodReads (λ _. template.new) result (adding_template nested template.old) self.old self.new }
     {
         self.word(b")")?;
         match nested {
@@ -538,7 +538,7 @@ impl<'a> Reader<'a> {
         levels: usize,
         template: &mut Option<Template<A>>,
     ) -> Result<(), Stop>
-        ensures { Reads (λ _. template.new) result (adding_field levels template.old) self.old self.new }
+        ensures { MethodReads (λ _. template.new) result (adding_field levels template.old) self.old self.new }
     {
         if !self.opens() {
             return self.add_plain_field(alloc, template);
@@ -553,7 +553,7 @@ impl<'a> Reader<'a> {
 
     // Whether a further field follows `count` others. If the list is full, a further field is refused.
     fn field_follows(&mut self, levels: usize, count: usize, free: bool) -> Result<bool, Stop>
-        ensures { Reads (λ on. on) result (field_follows levels count free) self.old self.new }
+        ensures { MethodReads (λ on. on) result (field_follows levels count free) self.old self.new }
     {
         let follows = self.turn(free)?;
         if follows && count == MAX_FIELDS {
@@ -570,7 +570,7 @@ impl<'a> Reader<'a> {
         alloc: A,
         levels: usize,
     ) -> Result<Option<Template<A>>, Stop>
-        ensures { Reads (λ t. t) result (fields_at levels) self.old self.new }
+        ensures { MethodReads (λ t. t) result (fields_at levels) self.old self.new }
     {
         let mut template = Some(Template::new_in(alloc));
         let mut count = 0;
@@ -589,7 +589,7 @@ impl<'a> Reader<'a> {
         &mut self,
         template: Option<Template<A>>,
     ) -> Result<Template<A>, Stop>
-        ensures { Reads (λ p. p) result (close_template template) self.old self.new }
+        ensures { MethodReads (λ p. p) result (close_template template) self.old self.new }
     {
         match self.rest {
             [b')', rest @ ..] => match template {
@@ -606,7 +606,7 @@ impl<'a> Reader<'a> {
     #[inline(always)]
     #[tactic(auto, unfolding(crate::specs::Reading::whole))]
     fn template<A: Allocator + Copy>(&mut self, alloc: A) -> Result<Template<A>, Stop>
-        ensures { Reads (λ p. p) result template self.old self.new }
+        ensures { MethodReads (λ p. p) result template self.old self.new }
     {
         self.word(b"(")?;
         let template = self.fields(alloc, BELOW)?;
@@ -616,7 +616,7 @@ impl<'a> Reader<'a> {
     #[inline(always)]
     #[tactic(auto, unfolding(crate::specs::Reading::argument))]
     fn tuple_argument<A: Allocator + Copy>(&mut self, alloc: A) -> Result<Tuple<A>, Stop>
-        ensures { Reads (λ t. t) result (argument tuple) self.old self.new }
+        ensures { MethodReads (λ t. t) result (argument tuple) self.old self.new }
     {
         self.gap()?;
         self.tuple(alloc)
@@ -624,7 +624,7 @@ impl<'a> Reader<'a> {
 
     #[tactic(auto, unfolding(crate::specs::Reading::argument))]
     fn template_argument<A: Allocator + Copy>(&mut self, alloc: A) -> Result<Template<A>, Stop>
-        ensures { Reads (λ p. p) result (argument template) self.old self.new }
+        ensures { MethodReads (λ p. p) result (argument template) self.old self.new }
     {
         self.gap()?;
         self.template(alloc)
@@ -633,7 +633,7 @@ impl<'a> Reader<'a> {
     // A gap, a tuple, and blanks alone up to the end.
     #[inline(always)]
     fn last_tuple<A: Allocator + Copy>(&mut self, alloc: A) -> Result<Tuple<A>, Stop>
-        ensures { Reads (λ t. t) result (last (argument tuple)) self.old self.new }
+        ensures { MethodReads (λ t. t) result (last (argument tuple)) self.old self.new }
     {
         let tuple = self.tuple_argument(alloc)?;
         self.ending()?;
@@ -643,7 +643,7 @@ impl<'a> Reader<'a> {
     // A template, and blanks alone up to the end.
     #[inline(always)]
     fn closing_template<A: Allocator + Copy>(&mut self, alloc: A) -> Result<Template<A>, Stop>
-        ensures { Reads (λ p. p) result (last template) self.old self.new }
+        ensures { MethodReads (λ p. p) result (last template) self.old self.new }
     {
         let template = self.template(alloc)?;
         self.ending()?;
@@ -654,7 +654,7 @@ impl<'a> Reader<'a> {
     #[inline(always)]
     #[tactic(auto, unfolding(crate::specs::Reading::argument))]
     fn last_template<A: Allocator + Copy>(&mut self, alloc: A) -> Result<Template<A>, Stop>
-        ensures { Reads (λ p. p) result (last (argument template)) self.old self.new }
+        ensures { MethodReads (λ p. p) result (last (argument template)) self.old self.new }
     {
         self.gap()?;
         self.closing_template(alloc)
@@ -663,7 +663,7 @@ impl<'a> Reader<'a> {
     // How many tuples an `rdAll` or `inAll` asks for.
     #[tactic(auto, unfolding(crate::specs::Reading::argument))]
     fn count_argument(&mut self) -> Result<Max, Stop>
-        ensures { Reads (λ max. max.count) result (argument (positive 64)) self.old self.new }
+        ensures { MethodReads (λ max. max.count) result (argument (positive 64)) self.old self.new }
     {
         self.gap()?;
         let count = self.positive(64)?;
@@ -675,7 +675,7 @@ impl<'a> Reader<'a> {
 
     #[tactic(auto, unfolding(crate::specs::Reading::ending, crate::specs::Reading::ended))]
     fn ending(&mut self) -> Result<(), Stop>
-        ensures { Reads (λ _. true) result ending self.old self.new }
+        ensures { MethodReads (λ _. true) result ending self.old self.new }
     {
         self.blanks(true);
         self.finish()
@@ -683,7 +683,7 @@ impl<'a> Reader<'a> {
 
     #[tactic(auto, unfolding(crate::specs::Reading::out_line, crate::specs::Reading::ended))]
     fn out_line<A: Allocator + Copy>(&mut self, alloc: A) -> Result<Op<A>, Stop>
-        ensures { Reads operation_of result out_line self.old self.new }
+        ensures { MethodReads operation_of result out_line self.old self.new }
     {
         self.word(b"out")?;
         let tuple = self.last_tuple(alloc)?;
@@ -692,7 +692,7 @@ impl<'a> Reader<'a> {
 
     #[tactic(auto, unfolding(crate::specs::Reading::cas_line, crate::specs::Reading::ended))]
     fn cas_line<A: Allocator + Copy>(&mut self, alloc: A) -> Result<Op<A>, Stop>
-        ensures { Reads operation_of result cas_line self.old self.new }
+        ensures { MethodReads operation_of result cas_line self.old self.new }
     {
         self.word(b"cas")?;
         let template = self.template_argument(alloc)?;
@@ -702,7 +702,7 @@ impl<'a> Reader<'a> {
 
     #[tactic(auto, unfolding(crate::specs::Reading::upgrade_line, crate::specs::Reading::ended))]
     fn upgrade_line<A: Allocator>(&mut self) -> Result<Op<A>, Stop>
-        ensures { Reads operation_of result upgrade_line self.old self.new }
+        ensures { MethodReads operation_of result upgrade_line self.old self.new }
     {
         self.word(b"upgrade")?;
         self.ending()?;
@@ -712,7 +712,7 @@ impl<'a> Reader<'a> {
     // The rest of an `rdp` or `inp` line, after its first two letters.
     #[tactic(auto, unfolding(crate::specs::Reading::one_line, crate::specs::Reading::ended))]
     fn one_line<A: Allocator + Copy>(&mut self, alloc: A, verb: Verb) -> Result<Op<A>, Stop>
-        ensures { Reads operation_of result (one_line verb) self.old self.new }
+        ensures { MethodReads operation_of result (one_line verb) self.old self.new }
     {
         self.word(b"p")?;
         let template = self.last_template(alloc)?;
@@ -722,7 +722,7 @@ impl<'a> Reader<'a> {
     // The rest of an `rdAll` or `inAll` line, after its first two letters.
     #[tactic(auto, unfolding(crate::specs::Reading::all_line, crate::specs::Reading::ended))]
     fn all_line<A: Allocator + Copy>(&mut self, alloc: A, verb: Verb) -> Result<Op<A>, Stop>
-        ensures { Reads operation_of result (all_line verb) self.old self.new }
+        ensures { MethodReads operation_of result (all_line verb) self.old self.new }
     {
         self.word(b"All")?;
         let max = self.count_argument()?;
@@ -734,7 +734,7 @@ impl<'a> Reader<'a> {
     #[inline(always)]
     #[tactic(auto, unfolding(crate::specs::Reading::verb_line))]
     fn verb_line<A: Allocator + Copy>(&mut self, alloc: A, verb: Verb) -> Result<Op<A>, Stop>
-        ensures { Reads operation_of result (verb_line verb) self.old self.new }
+        ensures { MethodReads operation_of result (verb_line verb) self.old self.new }
     {
         self.word(verb.letters())?;
         match self.rest {
@@ -746,7 +746,7 @@ impl<'a> Reader<'a> {
 
     #[tactic(auto, unfolding(crate::specs::Reading::operation))]
     fn operation<A: Allocator + Copy>(&mut self, alloc: A) -> Result<Op<A>, Stop>
-        ensures { Reads operation_of result operation self.old self.new }
+        ensures { MethodReads operation_of result operation self.old self.new }
     {
         match self.rest {
             [b'o', ..] => self.out_line(alloc),
@@ -764,7 +764,7 @@ impl<'a> Reader<'a> {
         &mut self,
         alloc: A,
     ) -> Result<Template<A>, Stop>
-        ensures { Reads (λ p. p) result lone_template self.old self.new }
+        ensures { MethodReads (λ p. p) result lone_template self.old self.new }
     {
         self.blanks(true);
         self.closing_template(alloc)
@@ -773,7 +773,7 @@ impl<'a> Reader<'a> {
     /// The operation of the line.
     #[tactic(auto, unfolding(crate::specs::Reading::line))]
     pub(crate) fn line<A: Allocator + Copy>(&mut self, alloc: A) -> Result<Op<A>, Stop>
-        ensures { Reads operation_of result line self.old self.new }
+        ensures { MethodReads operation_of result line self.old self.new }
     {
         self.blanks(true);
         self.operation(alloc)

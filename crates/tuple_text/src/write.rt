@@ -10,7 +10,7 @@ ghost use Rattle.tuple_text.specs.Laws.{TuplesAreLines, TemplatesAreLines};
 ghost use Rattle.tuple_text.specs.Lines.{IsLine};
 ghost use Rattle.tuple_text.specs.Texts.{TupleText, TemplateText, datum_text, quoted_text, truth_text, escaped, hex_pair};
 ghost use Rattle.tuple_text.specs.Texts as Texts;
-ghost use Rattle.tuple_text.specs.Written.{tuple_written, template_written, counted_written, answer_text, is_escaped, Appends, PutsSome};
+ghost use Rattle.tuple_text.specs.Written.{tuple_written, template_written, counted_written, answer_text, is_escaped, WritesText, PutsSome};
 
 use crate::fields::put_list;
 use itoa::Buffer;
@@ -76,14 +76,14 @@ pub fn written_is_read()
 
 // Appends these bytes.
 pub(crate) fn append<B: Allocator>(text: &[u8], out: &mut Vec<u8, B>) -> Result<(), NoMemory>
-    ensures { Appends result out.old.items text.now out.new.items }
+    ensures { WritesText result out.old.items text.now out.new.items }
 {
     Ok(out.extend_from_slice(text)?)
 }
 
 // Appends one byte.
 pub(crate) fn put_byte<B: Allocator>(byte: u8, out: &mut Vec<u8, B>) -> Result<(), NoMemory>
-    ensures { Appends result out.old.items (byte ∷ []) out.new.items }
+    ensures { WritesText result out.old.items (byte ∷ []) out.new.items }
 {
     Ok(out.push(byte)?)
 }
@@ -92,7 +92,7 @@ fn put_answer<A: Allocator, B: Allocator>(
     answer: &Answer<A>,
     out: &mut Vec<u8, B>,
 ) -> Result<(), NoMemory>
-    ensures { Appends result out.old.items (answer_text answer.now) out.new.items }
+    ensures { WritesText result out.old.items (answer_text answer.now) out.new.items }
 {
     match answer {
         Answer::Done => append(b"done", out),
@@ -118,7 +118,7 @@ fn put_tuples<A: Allocator, B: Allocator>(
     tuples: &Tuples<A>,
     out: &mut Vec<u8, B>,
 ) -> Result<(), NoMemory>
-    ensures { Appends result out.old.items (counted_written tuples.now) out.new.items }
+    ensures { WritesText result out.old.items (counted_written tuples.now) out.new.items }
 {
     let mut buffer = Buffer::new();
     append(buffer.format(tuples.len()).as_bytes(), out)?;
@@ -133,7 +133,7 @@ pub(crate) fn put_tuple<A: Allocator, B: Allocator>(
     tuple: &Tuple<A>,
     out: &mut Vec<u8, B>,
 ) -> Result<(), NoMemory>
-    ensures { Appends result out.old.items (tuple_written tuple.now) out.new.items }
+    ensures { WritesText result out.old.items (tuple_written tuple.now) out.new.items }
 {
     let _rest = put_list(tuple.len() as u8, tuple.bytes(), 7, out)?;
     Ok(())
@@ -143,7 +143,7 @@ pub(crate) fn put_atom<B: Allocator>(
     atom: &AtomRef<'_>,
     out: &mut Vec<u8, B>,
 ) -> Result<(), NoMemory>
-    ensures { Appends result out.old.items (datum_text (seen_datum atom.now)) out.new.items }
+    ensures { WritesText result out.old.items (datum_text (seen_datum atom.now)) out.new.items }
 {
     match atom {
         AtomRef::Number(number) => put_number(*number, out),
@@ -155,7 +155,7 @@ pub(crate) fn put_atom<B: Allocator>(
 }
 
 fn put_number<B: Allocator>(number: i64, out: &mut Vec<u8, B>) -> Result<(), NoMemory>
-    ensures { Appends result out.old.items (signed_decimal number) out.new.items }
+    ensures { WritesText result out.old.items (signed_decimal number) out.new.items }
 {
     let mut buffer = Buffer::new();
     append(buffer.format(number).as_bytes(), out)
@@ -163,7 +163,7 @@ fn put_number<B: Allocator>(number: i64, out: &mut Vec<u8, B>) -> Result<(), NoM
 
 // A wide number: a `w` and its digits.
 fn put_wide<B: Allocator>(number: i128, out: &mut Vec<u8, B>) -> Result<(), NoMemory>
-    ensures { Appends result out.old.items (119 ∷ signed_decimal number) out.new.items }
+    ensures { WritesText result out.old.items (119 ∷ signed_decimal number) out.new.items }
 {
     let mut buffer = Buffer::new();
     put_byte(b'w', out)?;
@@ -171,7 +171,7 @@ fn put_wide<B: Allocator>(number: i128, out: &mut Vec<u8, B>) -> Result<(), NoMe
 }
 
 fn put_truth<B: Allocator>(truth: bool, out: &mut Vec<u8, B>) -> Result<(), NoMemory>
-    ensures { Appends result out.old.items (truth_text truth) out.new.items }
+    ensures { WritesText result out.old.items (truth_text truth) out.new.items }
 {
     let text: &[u8] = if truth { b"true" } else { b"false" };
     append(text, out)
@@ -179,7 +179,7 @@ fn put_truth<B: Allocator>(truth: bool, out: &mut Vec<u8, B>) -> Result<(), NoMe
 
 // A text in quotes, with its escapes. Most texts have none, and are put at once.
 fn put_text<B: Allocator>(text: &[u8], out: &mut Vec<u8, B>) -> Result<(), NoMemory>
-    ensures { Appends result out.old.items (quoted_text text.now) out.new.items }
+    ensures { WritesText result out.old.items (quoted_text text.now) out.new.items }
 {
     if plain_len(text) == text.len() {
         put_plain(text, out)
@@ -191,7 +191,7 @@ fn put_text<B: Allocator>(text: &[u8], out: &mut Vec<u8, B>) -> Result<(), NoMem
 // A text in quotes that has no escapes.
 fn put_plain<B: Allocator>(text: &[u8], out: &mut Vec<u8, B>) -> Result<(), NoMemory>
     requires { flat_map escaped text.now ≡ text.now }
-    ensures { Appends result out.old.items (quoted_text text.now) out.new.items }
+    ensures { WritesText result out.old.items (quoted_text text.now) out.new.items }
 {
     out.reserve(text.len() + 2)?;
     out.push_reserved(b'"');
@@ -201,7 +201,7 @@ fn put_plain<B: Allocator>(text: &[u8], out: &mut Vec<u8, B>) -> Result<(), NoMe
 
 // A text in quotes, some of it at a time.
 fn put_escapes<B: Allocator>(text: &[u8], out: &mut Vec<u8, B>) -> Result<(), NoMemory>
-    ensures { Appends result out.old.items (quoted_text text.now) out.new.items }
+    ensures { WritesText result out.old.items (quoted_text text.now) out.new.items }
 {
     put_byte(b'"', out)?;
     let mut done = 0;
@@ -281,7 +281,7 @@ fn are_plain(bytes: &[u8]) -> bool
 }
 
 fn put_escaped<B: Allocator>(byte: u8, out: &mut Vec<u8, B>) -> Result<(), NoMemory>
-    ensures { Appends result out.old.items (escaped byte) out.new.items }
+    ensures { WritesText result out.old.items (escaped byte) out.new.items }
 {
     match byte {
         b'"' => append(b"\\\"", out),
@@ -297,7 +297,7 @@ fn put_escaped<B: Allocator>(byte: u8, out: &mut Vec<u8, B>) -> Result<(), NoMem
 
 // A byte string: an `x` and two digits for each byte.
 fn put_bytes<B: Allocator>(bytes: &[u8], out: &mut Vec<u8, B>) -> Result<(), NoMemory>
-    ensures { Appends result out.old.items (120 ∷ flat_map hex_pair bytes.now) out.new.items }
+    ensures { WritesText result out.old.items (120 ∷ flat_map hex_pair bytes.now) out.new.items }
 {
     out.reserve(1 + 2 * bytes.len())?;
     out.push_reserved(b'x');
@@ -325,7 +325,7 @@ fn hex_digits(group: &[u8]) -> [u8; 2 * GROUP]
 
 // Two digits for each byte.
 fn put_pairs<B: Allocator>(bytes: &[u8], out: &mut Vec<u8, B>) -> Result<(), NoMemory>
-    ensures { Appends result out.old.items (flat_map hex_pair bytes.now) out.new.items }
+    ensures { WritesText result out.old.items (flat_map hex_pair bytes.now) out.new.items }
 {
     out.reserve(2 * bytes.len())?;
     for byte in bytes {

@@ -3,7 +3,7 @@ use Rattle.std.proofs.Common.{◌≡◌, ℕ, ◌+◌, ◌-◌, ◌<◌, ◌≤�
 use lib.Dec.{eqb}
 use Rattle.std.proofs.lemmas.List.{take_at}
 use Rattle.std.proofs.lemmas.Bool.{eq-eqb}
-use Rattle.tuple_tree.specs.Items.{Item, leaf, inner, none, item, how_many, with_last, item_length, length_in, whole_length, item_has, has_leaf}
+use Rattle.tuple_tree.specs.Items.{TreeItem, leaf, inner, none, item, how_many, with_last, item_length, length_in, whole_length, item_has, has_leaf}
 use Rattle.tuple_tree.specs.Values.{Slot, actual, any, formal, slot_length, is_wide_slot, IsSlot, AreBytes, TemplateTree}
 use Rattle.tuple_tree.specs.Reading.{byte_at, slot_at, items_at}
 use Rattle.tuple_tree.specs.Judging.{judged}
@@ -30,7 +30,7 @@ joined b xs ys = cond b xs (xs ++ ys)
 
 -- If no field is open, the front is all.
 mutual
-  pub shut_field : (f : Item Slot) → item_has is_open f ≡ false → field_front f ≡ item_spelling slot_spelling f
+  pub shut_field : (f : TreeItem Slot) → item_has is_open f ≡ false → field_front f ≡ item_spelling slot_spelling f
   shut_field (leaf (actual x)) e = refl
   shut_field (leaf any) e = absurd (let g : ⊥ = cc in g)
   shut_field (leaf (formal k)) e = absurd (let g : ⊥ = cc in g)
@@ -45,7 +45,7 @@ mutual
 
 -- The front stands at the front of the spelling.
 mutual
-  field_begins : (f : Item Slot) → (rest : List ℕ) × (item_spelling slot_spelling f ≡ field_front f ++ rest)
+  field_begins : (f : TreeItem Slot) → (rest : List ℕ) × (item_spelling slot_spelling f ≡ field_front f ++ rest)
   field_begins (leaf (actual x)) = ([], sym (append-nil (slot_spelling (actual x))))
   field_begins (leaf any) = (_, refl)
   field_begins (leaf (formal k)) = (_, refl)
@@ -63,14 +63,14 @@ mutual
       ] in
       cases (item_has is_open f) refl
 
-pub field_short : (f : Item Slot) → length (field_front f) ≤ item_length slot_length f
+pub field_short : (f : TreeItem Slot) → length (field_front f) ≤ item_length slot_length f
 field_short f =
     let r = field_begins f in
     omega (arith, ap length r.1, length-append (field_front f) r.0, item_spelling_length IsSlot slot_length slot_spelling slot_at slot_leaves f)
 
 -- An open field's spelling is longer than its front.
 mutual
-  open_field : (f : Item Slot) → item_has is_open f ≡ true → length (field_front f) < item_length slot_length f
+  open_field : (f : TreeItem Slot) → item_has is_open f ≡ true → length (field_front f) < item_length slot_length f
   open_field (leaf (actual x)) e = absurd (let g : ⊥ = cc in g)
   open_field (leaf any) e = omega arith
   open_field (leaf (formal k)) e = omega arith
@@ -86,7 +86,7 @@ mutual
       cases (item_has is_open f) refl
 
 -- With one more field an open template keeps its front, and another has that of the field too.
-front_last_open : (p : TemplateTree) (f : Item Slot) → has_leaf is_open p ≡ true → front_of (with_last p f) ≡ front_of p
+front_last_open : (p : TemplateTree) (f : TreeItem Slot) → has_leaf is_open p ≡ true → front_of (with_last p f) ≡ front_of p
 front_last_open none f e = absurd (let g : ⊥ = cc in g)
 front_last_open (item g p) f e =
     let cases : (b : Bool) → item_has is_open g ≡ b → joined b (field_front g) (front_of (with_last p f)) ≡ joined b (field_front g) (front_of p) = elim [
@@ -95,7 +95,7 @@ front_last_open (item g p) f e =
     ] in
     cases (item_has is_open g) refl
 
-front_last_shut : (p : TemplateTree) (f : Item Slot) → has_leaf is_open p ≡ false → front_of (with_last p f) ≡ front_of p ++ field_front f
+front_last_shut : (p : TemplateTree) (f : TreeItem Slot) → has_leaf is_open p ≡ false → front_of (with_last p f) ≡ front_of p ++ field_front f
 front_last_shut none f e =
     let cases : (b : Bool) → joined b (field_front f) [] ≡ field_front f = elim [ true ↦ refl | false ↦ append-nil (field_front f) ] in
     cases (item_has is_open f)
@@ -112,7 +112,7 @@ pub no_whole_front : (p : TemplateTree) → has_leaf is_open p ≡ true → 1 + 
 no_whole_front p e = omega (arith, open_fields p e)
 
 -- the length of the front with one more field, by the numbers that the program has
-pub front_grown : (p : TemplateTree) (f : Item Slot) (fixed len more longer : ℕ) → fixed ≡ length (front_of p) → len ≡ whole_length slot_length p → more ≡ length (field_front f)
+pub front_grown : (p : TemplateTree) (f : TreeItem Slot) (fixed len more longer : ℕ) → fixed ≡ length (front_of p) → len ≡ whole_length slot_length p → more ≡ length (field_front f)
     → longer ≡ cond (eqb len (1 + fixed)) (fixed + more) fixed → longer ≡ length (front_of (with_last p f))
 front_grown p f fixed len more longer a b m e =
     let cases : (o : Bool) → has_leaf is_open p ≡ o → longer ≡ length (front_of (with_last p f)) = elim [

@@ -1,6 +1,6 @@
 -- Items are read out of the bytes that spell them, and what the bytes are with one more item.
 use Rattle.std.proofs.Common.{◌≡◌, ℕ, ◌+◌, Bool, false, ◌||◌, List, [], ◌∷◌, ◌++◌, ap, sym, subst, refl, ◌∙◌, arith, append-nil}
-use Rattle.tuple_tree.specs.Items.{Item, inner, Items, none, with_last, how_many, item_levels, item_length, item_has, has_leaf}
+use Rattle.tuple_tree.specs.Items.{TreeItem, inner, Items, none, with_last, how_many, item_levels, item_length, item_has, has_leaf}
 use Rattle.tuple_tree.specs.Limits.{IsItem, IsWithin}
 use Rattle.tuple_tree.specs.Extents.{IsLonger}
 use Rattle.tuple_tree.specs.declared.limits.Extent.{Extent}
@@ -28,7 +28,7 @@ module _ {L : Type 0} {IsLeaf : L → Type 0} {length_of : L → ℕ} {spelling 
     closed h = subst (IsFlat IsLeaf length_of is_wide spelling count bs extent) (sym (items_are h)) h
 
   -- the bytes with one more item
-  pub grown : {is_wide : L → Bool} (count : ℕ) (bs new : List ℕ) (extent longer : Extent) (t : Items L) (x : Item L) (l b : ℕ) (w : Bool) → IsFlat IsLeaf length_of is_wide spelling count bs extent t
+  pub grown : {is_wide : L → Bool} (count : ℕ) (bs new : List ℕ) (extent longer : Extent) (t : Items L) (x : TreeItem L) (l b : ℕ) (w : Bool) → IsFlat IsLeaf length_of is_wide spelling count bs extent t
       → IsItem IsLeaf x → new ≡ bs ++ item_spelling spelling x → l ≡ item_levels x → b ≡ item_length length_of x → w ≡ item_has is_wide x → IsLonger extent count l b w longer
       → IsFlat IsLeaf length_of is_wide spelling (count + 1) new longer (with_last t x)
   grown {is_wide = is_wide} count bs new extent longer t x l b w h valid e levels len wide k =

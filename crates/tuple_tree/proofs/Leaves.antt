@@ -6,7 +6,7 @@ use Rattle.std.specs.Str.{IsUtf8}
 use borrow.Author.Gap.{read_sfits}
 use mir.ValLaws.{of_z_fits}
 use Rattle.byteorder.specs.Numbers.{length-bytes_high_first}
-use Rattle.tuple_tree.specs.Items.{Item, leaf}
+use Rattle.tuple_tree.specs.Items.{TreeItem, leaf}
 use Rattle.tuple_tree.specs.Values.{Datum, number, text, bytes, truth, wide, Slot, actual, any, formal, datum_length, slot_length, IsDatum, IsSlot, AreBytes}
 use Rattle.tuple_tree.specs.declared.atoms.Kind.TheVariants as kinds
 use Rattle.tuple_tree.specs.Reading.{Reader, read_as, unknown, number_of, string_at, text_at, flag_at, datum_rows, datum_at, formal_rows, slot_at, item_with}
@@ -17,7 +17,7 @@ use Rattle.tuple_tree.proofs.Numbers.{number_found, number_again, string_found, 
 -- The laws of a reader of leaves, each of which has a tag in front.
 pub record ReadsLeaves {L : Type 0} (IsLeaf : L → Type 0) (length_of : L → ℕ) (spelling : L → List ℕ) (leaf_at : ℕ → Reader L) : Type 0 where
   pub found : (tag : ℕ) → FoundBehind tag IsLeaf spelling (leaf_at tag)
-  pub again : (x : L) (rest : List ℕ) → IsLeaf x → length_of x ≤ 1024 → (inner_at : Reader (Item L)) → item_with leaf_at inner_at (spelling x ++ rest) ≡ Some (leaf x, rest)
+  pub again : (x : L) (rest : List ℕ) → IsLeaf x → length_of x ≤ 1024 → (inner_at : Reader (TreeItem L)) → item_with leaf_at inner_at (spelling x ++ rest) ≡ Some (leaf x, rest)
   pub lengths : (x : L) → length (spelling x) ≡ length_of x
 
 length_string : (s : List ℕ) → length (string s) ≡ 2 + length s
@@ -102,7 +102,7 @@ wide_behind n rest d =
     as_again (λ n. wide (cast_signed w128 n)) (number_of 16) _ rest (cast_unsigned w128 n) (number_again 16 (cast_unsigned w128 n) rest (omega (arith, of_z_fits w128 n d)))
     ∙ ap (λ m. Some (wide m, rest)) (to_z-of_z w128 n d)
 
-datum_again : (x : Datum) (rest : List ℕ) → IsDatum x → datum_length x ≤ 1024 → (inner_at : Reader (Item Datum)) → item_with datum_at inner_at (datum_spelling x ++ rest) ≡ Some (leaf x, rest)
+datum_again : (x : Datum) (rest : List ℕ) → IsDatum x → datum_length x ≤ 1024 → (inner_at : Reader (TreeItem Datum)) → item_with datum_at inner_at (datum_spelling x ++ rest) ≡ Some (leaf x, rest)
 unfolding item_with
 datum_again (number n) rest d p inner_at = as_again leaf (datum_at 1) _ rest (number n) (number_behind n rest d)
 datum_again (text s) rest d p inner_at = as_again leaf (datum_at 2) _ rest (text s) (text_behind s rest d (omega arith))
@@ -113,7 +113,7 @@ datum_again (wide n) rest d p inner_at = as_again leaf (datum_at 6) _ rest (wide
 actual_again : (x : Datum) (tag : ℕ) (bs rest : List ℕ) → datum_at tag bs ≡ Some (x, rest) → read_as leaf (read_as actual (datum_at tag)) bs ≡ Some (leaf (actual x), rest)
 actual_again x tag bs rest e = as_again leaf (read_as actual (datum_at tag)) bs rest (actual x) (as_again actual (datum_at tag) bs rest x e)
 
-slot_again : (x : Slot) (rest : List ℕ) → IsSlot x → slot_length x ≤ 1024 → (inner_at : Reader (Item Slot)) → item_with slot_at inner_at (slot_spelling x ++ rest) ≡ Some (leaf x, rest)
+slot_again : (x : Slot) (rest : List ℕ) → IsSlot x → slot_length x ≤ 1024 → (inner_at : Reader (TreeItem Slot)) → item_with slot_at inner_at (slot_spelling x ++ rest) ≡ Some (leaf x, rest)
 unfolding item_with slot_at
 slot_again (actual (number n)) rest d p inner_at = actual_again (number n) 1 _ rest (number_behind n rest d)
 slot_again (actual (text s)) rest d p inner_at = actual_again (text s) 2 _ rest (text_behind s rest d (omega arith))

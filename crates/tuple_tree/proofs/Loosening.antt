@@ -2,7 +2,7 @@
 use Rattle.std.proofs.Common.{◌≡◌, ℕ, ◌≤◌, List, [], ◌∷◌, ◌++◌, Option, Some, None, ap, refl, ◌∙◌, arith}
 use Rattle.std.specs.Int.{w64, w128}
 use Rattle.std.specs.Int.RustNames.{FitsSigned}
-use Rattle.tuple_tree.specs.Items.{Item, leaf, inner, Items, none, item}
+use Rattle.tuple_tree.specs.Items.{TreeItem, leaf, inner, Items, none, item}
 use Rattle.tuple_tree.specs.Limits.{IsItem, AreItems}
 use Rattle.tuple_tree.specs.Values.{Datum, number, text, bytes, truth, wide, Slot, actual, any, formal, AreBytes, IsDatum, IsSlot, datum_length, slot_length}
 use Rattle.tuple_tree.specs.declared.atoms.Kind.TheVariants as kinds
@@ -16,7 +16,7 @@ use Rattle.tuple_tree.proofs.Leaves.{ReadsLeaves, datum_leaves, slot_leaves}
 -- Items whose leaves pass a test pass each looser one.
 module _ {L : Type 0} {Is IsLoose : L → Type 0} (loosen : (x : L) → Is x → IsLoose x) where
   mutual
-    pub loosen_item : (v : Item L) → IsItem Is v → IsItem IsLoose v
+    pub loosen_item : (v : TreeItem L) → IsItem Is v → IsItem IsLoose v
     loosen_item (leaf x) d = loosen x d
     loosen_item (inner t) d = (d.0, loosen_items t d.1)
 
@@ -59,7 +59,7 @@ loose_found =
     ⨾ tt)
     (unknown_found IsLoose datum_spelling)
 
-loose_again : (x : Datum) (rest : List ℕ) → IsLoose x → datum_length x ≤ 1024 → (inner_at : Reader (Item Datum)) → item_with loose_at inner_at (datum_spelling x ++ rest) ≡ Some (leaf x, rest)
+loose_again : (x : Datum) (rest : List ℕ) → IsLoose x → datum_length x ≤ 1024 → (inner_at : Reader (TreeItem Datum)) → item_with loose_at inner_at (datum_spelling x ++ rest) ≡ Some (leaf x, rest)
 unfolding item_with loose_at datum_at
 loose_again (number n) rest d p inner_at = datum_leaves.again (number n) rest d p inner_at
 loose_again (text s) rest d p inner_at = as_again leaf (loose_at 2) _ rest (text s) (as_again text string_at _ rest s (string_again s rest (omega arith)))
@@ -103,7 +103,7 @@ slot_found =
     ⨾ tt)
     actual_found
 
-abbrev as_leaf : {L : Type 0} → L × List ℕ → Option (Item L × List ℕ)
+abbrev as_leaf : {L : Type 0} → L × List ℕ → Option (TreeItem L × List ℕ)
 as_leaf x = Some (leaf x.0, x.1)
 
 abbrev as_actual : Datum × List ℕ → Option (Slot × List ℕ)
@@ -117,7 +117,7 @@ actual_read (Some y) x rest e =
     let q : y.0 ≡ x = let f : leaf y.0 ≡ leaf x = p.0 in cc in
     ap (λ z. Some (leaf (actual z), y.1)) q ∙ ap (λ r. Some (leaf (actual x), r)) p.1
 
-slot_again : (s : Slot) (rest : List ℕ) → IsLooseSlot s → slot_length s ≤ 1024 → (inner_at : Reader (Item Slot)) → item_with loose_slot_at inner_at (slot_spelling s ++ rest) ≡ Some (leaf s, rest)
+slot_again : (s : Slot) (rest : List ℕ) → IsLooseSlot s → slot_length s ≤ 1024 → (inner_at : Reader (TreeItem Slot)) → item_with loose_slot_at inner_at (slot_spelling s ++ rest) ≡ Some (leaf s, rest)
 unfolding item_with loose_slot_at
 slot_again (actual (number n)) rest d p inner_at = actual_read (loose_at 1 _) (number n) rest (loose_again (number n) rest d p nothing)
 slot_again (actual (text s)) rest d p inner_at = actual_read (loose_at 2 _) (text s) rest (loose_again (text s) rest d p nothing)

@@ -5,7 +5,7 @@ use Rattle.std.proofs.Math.Seq.{take-append-add, drop-append-add}
 use Rattle.std.proofs.lemmas.Bool.{eqb-true}
 use lib.Dec.{eqb}
 use Rattle.tuple_tree.specs.Values.{AreBytes}
-use Rattle.tuple_tree.specs.Reading.{◌>>=◌, Reader, read_as, more, byte_at, Row, by_tag, unknown, framed}
+use Rattle.tuple_tree.specs.Reading.{◌>>=◌, Reader, read_as, more, byte_at, TaggedReader, by_tag, unknown, framed}
 
 -- The front of the bytes is the text, and bytes are left.
 pub record Takes (bs text rest : List ℕ) : Type 0 where
@@ -108,7 +108,7 @@ pub at_tag : {V : Type 0} (IsValue : V → Type 0) (spelling : V → List ℕ) (
 at_tag IsValue spelling tag k bs rest v p t = subst (λ n. Takes (n ∷ bs) (spelling v) rest × IsValue v) (sym p) t
 
 -- Each row of a table gives values whose spelling is the row's tag and the bytes that it read.
-abbrev pub RowsFound : {V : Type 0} → (V → Type 0) → (V → List ℕ) → List (Row V) → Type 0
+abbrev pub RowsFound : {V : Type 0} → (V → Type 0) → (V → List ℕ) → List (TaggedReader V) → Type 0
 RowsFound IsValue spelling [] = Unit {0}
 RowsFound IsValue spelling (row ∷ rows) = FoundBehind row.0 IsValue spelling row.1 × RowsFound IsValue spelling rows
 
@@ -118,7 +118,7 @@ pub ◌⨾◌ : {A B : Type 0} → A → B → A × B
 row ⨾ rows = (row, rows)
 
 -- The law of tables: if each row, and the reader for other tags, gives spelled values, the table does.
-pub found_by_table : {V : Type 0} (IsValue : V → Type 0) (spelling : V → List ℕ) (rows : List (Row V)) (other : ℕ → Reader V) → RowsFound IsValue spelling rows
+pub found_by_table : {V : Type 0} (IsValue : V → Type 0) (spelling : V → List ℕ) (rows : List (TaggedReader V)) (other : ℕ → Reader V) → RowsFound IsValue spelling rows
     → ((tag : ℕ) → FoundBehind tag IsValue spelling (other tag)) → (tag : ℕ) → FoundBehind tag IsValue spelling (by_tag rows other tag)
 found_by_table IsValue spelling [] other found otherwise tag bs rest v h e = otherwise tag bs rest v h e
 found_by_table IsValue spelling (row ∷ rows) other found otherwise tag bs rest v h e =

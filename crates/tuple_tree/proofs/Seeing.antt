@@ -1,7 +1,7 @@
 -- The items at the front of bytes, one after another.
 use Rattle.std.proofs.Common.{◌≡◌, ℕ, zero, suc, ◌-◌, ◌<◌, Bool, true, false, cond, List, [], Option, Some, None, is_some, IsTrue, ap, sym, subst, refl, ◌∙◌, arith, append-nil}
 use lib.Dec.{ltb}
-use Rattle.tuple_tree.specs.Items.{Item, Items, none, item, with_last, how_many}
+use Rattle.tuple_tree.specs.Items.{TreeItem, Items, none, item, with_last, how_many}
 use Rattle.tuple_tree.specs.Reading.{◌>>=◌, Reader, rest_of, more, byte_at, item_at, items_at, items_with}
 use Rattle.tuple_tree.specs.Spelling.{items_spelling}
 use Rattle.tuple_tree.specs.Flat.{read_or_none, items_in, HasItems, IsFlat}
@@ -20,22 +20,22 @@ module _ {L : Type 0} where
   join_none none = refl
   join_none (item x t) = ap (item x) (join_none t)
 
-  join_last : (t u : Items L) (x : Item L) → join (with_last t x) u ≡ join t (item x u)
+  join_last : (t u : Items L) (x : TreeItem L) → join (with_last t x) u ≡ join t (item x u)
   join_last none u x = refl
   join_last (item y t) u x = ap (item y) (join_last t u x)
 
   abbrev pub joined : Items L → Option (Items L × List ℕ) → Option (Items L × List ℕ)
   joined before o = o >>= λ y. Some (join before y.0, y.1)
 
-  joined_last : (before : Items L) (x : Item L) (o : Option (Items L × List ℕ)) → joined (with_last before x) o ≡ joined before (joined (item x none) o)
+  joined_last : (before : Items L) (x : TreeItem L) (o : Option (Items L × List ℕ)) → joined (with_last before x) o ≡ joined before (joined (item x none) o)
   joined_last before x None = refl
   joined_last before x (Some y) = ap (λ t. Some (t, y.1)) (join_last before y.0 x)
 
   -- Items that are read behind others are those that are read alone.
-  pub more_from : (at : Reader (Item L)) (n : ℕ) (before : Items L) (bs : List ℕ) → more at with_last n before bs ≡ joined before (more at with_last n none bs)
+  pub more_from : (at : Reader (TreeItem L)) (n : ℕ) (before : Items L) (bs : List ℕ) → more at with_last n before bs ≡ joined before (more at with_last n none bs)
   more_from at zero before bs = ap (λ t. Some (t, bs)) (sym (join_none before))
   more_from at (suc n) before bs =
-      let cases : (o : Option (Item L × List ℕ)) → (o >>= λ x. more at with_last n (with_last before x.0) x.1) ≡ joined before (o >>= λ x. more at with_last n (with_last none x.0) x.1) = elim [
+      let cases : (o : Option (TreeItem L × List ℕ)) → (o >>= λ x. more at with_last n (with_last before x.0) x.1) ≡ joined before (o >>= λ x. more at with_last n (with_last none x.0) x.1) = elim [
         | None ↦ refl
         | Some x ↦
             more_from at n (with_last before x.0) x.1 ∙ joined_last before x.0 (more at with_last n none x.1)
@@ -44,18 +44,18 @@ module _ {L : Type 0} where
       cases (at bs)
 
   -- one item, and those behind it
-  step : (o : Option (Items L × List ℕ)) (x : Item L) → IsTrue (is_some (joined (item x none) o)) → IsTrue (is_some o) × (read_or_none (joined (item x none) o) ≡ item x (read_or_none o))
+  step : (o : Option (Items L × List ℕ)) (x : TreeItem L) → IsTrue (is_some (joined (item x none) o)) → IsTrue (is_some o) × (read_or_none (joined (item x none) o) ≡ item x (read_or_none o))
   step None x h = absurd (let g : ⊥ = cc in g)
   step (Some y) x h = (refl, refl)
 
 module _ {L : Type 0} (leaf_at : ℕ → Reader L) where
-  pub next_item : (levels count : ℕ) (bs after : List ℕ) (x : Item L) → 0 < count → HasItems leaf_at levels count bs → item_at leaf_at levels bs ≡ Some (x, after)
+  pub next_item : (levels count : ℕ) (bs after : List ℕ) (x : TreeItem L) → 0 < count → HasItems leaf_at levels count bs → item_at leaf_at levels bs ≡ Some (x, after)
       → HasItems leaf_at levels (count - 1) after × (items_in leaf_at levels count bs ≡ item x (items_in leaf_at levels (count - 1) after))
   unfolding HasItems items_in
   next_item levels zero bs after x p h e = absurd (omega arith)
   next_item levels (suc n) bs after x p h e =
       let m : suc n - 1 ≡ n = omega arith in
-      let at : Reader (Item L) = item_at leaf_at levels in
+      let at : Reader (TreeItem L) = item_at leaf_at levels in
       let f : more at with_last (suc n) none bs ≡ joined (item x none) (more at with_last n none after) = ap (λ o. o >>= λ x. more at with_last n (with_last none x.0) x.1) e ∙ more_from at n (item x none) after in
       let s = step (more at with_last n none after) x (subst (λ o. IsTrue (is_some o)) f h) in
       rw m (s.0, ap read_or_none f ∙ s.1)

@@ -4,7 +4,7 @@ use Rattle.std.proofs.lemmas.Bool.{le-ltb, eqb-true}
 use Rattle.std.proofs.lemmas.Str.{is_utf8-from_IsUtf8, IsUtf8-from_is_utf8}
 use Rattle.std.specs.Str.{IsUtf8, is_utf8}
 use lib.Dec.{ltb, eqb}
-use Rattle.tuple_tree.specs.Items.{Item, leaf, inner, Items, none, with_last}
+use Rattle.tuple_tree.specs.Items.{TreeItem, leaf, inner, Items, none, with_last}
 use Rattle.tuple_tree.specs.Reading.{◌>>=◌, Reader, read_as, more, byte_at, string_at, text_at, item_with, items_with, nothing, inner_at, item_at, items_at}
 
 pub text_there : (bs s rest : List ℕ) → string_at bs ≡ Some (s, rest) → IsUtf8 s → text_at bs ≡ Some (s, rest)
@@ -36,7 +36,7 @@ module _ {X S : Type 0} (at : Reader X) (grow : S → X → S) where
   goes_on n i s u x bs after p e f = sym (step n i s bs p ∙ rw (e, f) refl)
 
 -- the whole list, from the turn that the loop has reached
-pub whole : {L : Type 0} (at : Reader (Item L)) (bs front rest : List ℕ) (n i : ℕ) (t : Items L) → byte_at bs ≡ Some (n, front) → n ≤ 32 → more at with_last (n - i) t rest ≡ more at with_last n none front
+pub whole : {L : Type 0} (at : Reader (TreeItem L)) (bs front rest : List ℕ) (n i : ℕ) (t : Items L) → byte_at bs ≡ Some (n, front) → n ≤ 32 → more at with_last (n - i) t rest ≡ more at with_last n none front
     → more at with_last (n - i) t rest ≡ items_with at bs
 unfolding items_with
 whole at bs front rest n i t e p h = let l : ltb 32 n ≡ false = le-ltb 32 n p in h ∙ sym (rw (e, l) refl)

@@ -3,7 +3,7 @@ use Rattle.std.proofs.Common.{◌≡◌, ℕ, suc, ◌+◌, ◌-◌, ◌<◌, �
 use Rattle.std.proofs.lemmas.Bool.{le-ltb, lt-ltb}
 use Rattle.std.proofs.lemmas.List.{take_at}
 use lib.Dec.{ltb}
-use Rattle.tuple_tree.specs.Items.{Item, leaf, inner, Items, none, item, with_last, how_many, levels_in, has_leaf}
+use Rattle.tuple_tree.specs.Items.{TreeItem, leaf, inner, Items, none, item, with_last, how_many, levels_in, has_leaf}
 use Rattle.tuple_tree.specs.Values.{AreBytes}
 use Rattle.tuple_tree.specs.Reading.{◌>>=◌, Reader, more, byte_at, item_with, items_with, inner_at, item_at, items_at}
 use Rattle.tuple_tree.specs.Spelling.{items_spelling}
@@ -42,7 +42,7 @@ byte_whole [] front n e = absurd (let g : ⊥ = cc in g)
 byte_whole (b ∷ bs) front n e = let p = parts e in ap (λ m. m ∷ bs) p.0 ∙ ap (λ xs. n ∷ xs) p.1
 
 module _ {L : Type 0} (is_wide : L → Bool) where
-  judged_behind : (v : Item L) (o : Option (Items L × List ℕ)) → judged is_wide (joined (item v none) o) ≡ (judged_one is_wide (Some (v, [])) >>= λ x. combine x.0 x.1 (judged is_wide o))
+  judged_behind : (v : TreeItem L) (o : Option (Items L × List ℕ)) → judged is_wide (joined (item v none) o) ≡ (judged_one is_wide (Some (v, [])) >>= λ x. combine x.0 x.1 (judged is_wide o))
   judged_behind v None = refl
   judged_behind v (Some y) = refl
 
@@ -69,8 +69,8 @@ module _ {L : Type 0} (is_wide : L → Bool) where
     judged_suc : (levels n : ℕ) (bs : List ℕ) → items_judged is_wide leaf_at levels (suc n) bs ≡ (judged_one is_wide (item_at leaf_at levels bs) >>= λ x. combine x.0 x.1 (items_judged is_wide leaf_at levels n x.2))
     unfolding items_judged
     judged_suc levels n bs =
-        let at : Reader (Item L) = item_at leaf_at levels in
-        let cases : (o : Option (Item L × List ℕ)) → judged is_wide (o >>= λ x. more at with_last n (with_last none x.0) x.1) ≡ (judged_one is_wide o >>= λ x. combine x.0 x.1 (judged is_wide (more at with_last n none x.2))) = elim [
+        let at : Reader (TreeItem L) = item_at leaf_at levels in
+        let cases : (o : Option (TreeItem L × List ℕ)) → judged is_wide (o >>= λ x. more at with_last n (with_last none x.0) x.1) ≡ (judged_one is_wide o >>= λ x. combine x.0 x.1 (judged is_wide (more at with_last n none x.2))) = elim [
           | None ↦ refl
           | Some v ↦ ap (judged is_wide) (more_from at n (item v.0 none) v.1) ∙ judged_behind v.0 (more at with_last n none v.1)
         ] in

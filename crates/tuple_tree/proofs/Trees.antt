@@ -2,7 +2,7 @@
 use Rattle.std.proofs.Common.{◌≡◌, inl, inr, ℕ, zero, suc, ◌+◌, ◌-◌, ◌<◌, ◌≤◌, false, cond, List, ◌∷◌, ◌++◌, length, Some, None, ap, sym, refl, ◌∙◌, arith, append_assoc, append-nil, length-append}
 use Rattle.std.proofs.lemmas.Bool.{ltb-false, le-ltb}
 use lib.Dec.{eqb, ltb}
-use Rattle.tuple_tree.specs.Items.{Item, leaf, inner, Items, none, item, how_many, with_last, item_levels, levels_in, item_length, length_in, whole_length}
+use Rattle.tuple_tree.specs.Items.{TreeItem, leaf, inner, Items, none, item, how_many, with_last, item_levels, levels_in, item_length, length_in, whole_length}
 use Rattle.tuple_tree.specs.Limits.{IsItem, AreItems, IsWithin}
 use Rattle.tuple_tree.proofs.Growing.{how_many-with_last, levels_in-with_last, AreItems-with_last}
 use Rattle.tuple_tree.specs.Reading.{◌>>=◌, Reader, read_as, more, byte_at, item_with, items_with, nothing, inner_at, item_at, items_at, framed}
@@ -12,7 +12,7 @@ use Rattle.tuple_tree.proofs.Leaves.{ReadsLeaves}
 
 module _ {L : Type 0} (IsLeaf : L → Type 0) (length_of : L → ℕ) (spelling : L → List ℕ) (leaf_at : ℕ → Reader L) (reads : ReadsLeaves IsLeaf length_of spelling leaf_at) where
   mutual
-    pub item_spelling_length : (x : Item L) → length (item_spelling spelling x) ≡ item_length length_of x
+    pub item_spelling_length : (x : TreeItem L) → length (item_spelling spelling x) ≡ item_length length_of x
     item_spelling_length (leaf x) = reads.lengths x
     item_spelling_length (inner t) = omega (arith, items_spelling_length t)
 
@@ -23,13 +23,13 @@ module _ {L : Type 0} (IsLeaf : L → Type 0) (length_of : L → ℕ) (spelling 
   pub whole_spelling_length : (t : Items L) → length (whole_spelling spelling t) ≡ whole_length length_of t
   whole_spelling_length t = omega (arith, items_spelling_length t)
 
-  pub items_spelling_last : (t : Items L) (x : Item L) → items_spelling spelling (with_last t x) ≡ items_spelling spelling t ++ item_spelling spelling x
+  pub items_spelling_last : (t : Items L) (x : TreeItem L) → items_spelling spelling (with_last t x) ≡ items_spelling spelling t ++ item_spelling spelling x
   items_spelling_last none x = append-nil (item_spelling spelling x)
   items_spelling_last (item y t) x =
       ap (λ xs. item_spelling spelling y ++ xs) (items_spelling_last t x) ∙ sym (append_assoc (item_spelling spelling y) (items_spelling spelling t) (item_spelling spelling x))
 
   -- an item with at most so many levels in it
-  abbrev pub IsItemOf : ℕ → Item L → Type 0
+  abbrev pub IsItemOf : ℕ → TreeItem L → Type 0
   IsItemOf levels x = IsItem IsLeaf x × (item_levels x ≤ levels)
 
   abbrev pub AreItemsOf : ℕ → Items L → Type 0
@@ -45,7 +45,7 @@ module _ {L : Type 0} (IsLeaf : L → Type 0) (length_of : L → ℕ) (spelling 
     valid = λ s x h p. (AreItems-with_last IsLeaf s x h.0 p.0, omega (arith, h.1, p.1, levels_in-with_last s x));
   }
 
-  pub items_with_found : (levels : ℕ) (at : Reader (Item L)) → Found (IsItemOf levels) (item_spelling spelling) at → Found (IsListOf levels) (whole_spelling spelling) (items_with at)
+  pub items_with_found : (levels : ℕ) (at : Reader (TreeItem L)) → Found (IsItemOf levels) (item_spelling spelling) at → Found (IsListOf levels) (whole_spelling spelling) (items_with at)
   unfolding items_with
   items_with_found levels at item_found bs rest t h e =
       let k = bind_some (byte_at bs) (λ n. cond (ltb 32 n.0) None (more at with_last n.0 none n.1)) (t, rest) e in
@@ -59,7 +59,7 @@ module _ {L : Type 0} (IsLeaf : L → Type 0) (length_of : L → ℕ) (spelling 
       )
 
   -- the reader of the bytes after a tag 5 gives spelled values
-  abbrev pub FoundInner : ℕ → Reader (Item L) → Type 0
+  abbrev pub FoundInner : ℕ → Reader (TreeItem L) → Type 0
   FoundInner levels at = FoundBehind 5 (IsItemOf levels) (item_spelling spelling) at
 
   leaf_found : (levels tag : ℕ) → FoundBehind tag (IsItemOf levels) (item_spelling spelling) (read_as leaf (leaf_at tag))
@@ -69,7 +69,7 @@ module _ {L : Type 0} (IsLeaf : L → Type 0) (length_of : L → ℕ) (spelling 
       let p = parts k.2 in
       moved (IsItemOf levels) (item_spelling spelling) (tag ∷ bs) (a.0, (a.1, omega arith)) p.0 p.1
 
-  pub item_with_found : (levels : ℕ) (at : Reader (Item L)) → FoundInner levels at → Found (IsItemOf levels) (item_spelling spelling) (item_with leaf_at at)
+  pub item_with_found : (levels : ℕ) (at : Reader (TreeItem L)) → FoundInner levels at → Found (IsItemOf levels) (item_spelling spelling) (item_with leaf_at at)
   unfolding item_with
   item_with_found levels at inner_found =
       behind_found (IsItemOf levels) (item_spelling spelling) (λ tag bs. cond (eqb tag 5) (at bs) (read_as leaf (leaf_at tag) bs))
@@ -100,15 +100,15 @@ module _ {L : Type 0} (IsLeaf : L → Type 0) (length_of : L → ℕ) (spelling 
   join_none none = refl
   join_none (item x t) = ap (item x) (join_none t)
 
-  join_last : (t u : Items L) (x : Item L) → join (with_last t x) u ≡ join t (item x u)
+  join_last : (t u : Items L) (x : TreeItem L) → join (with_last t x) u ≡ join t (item x u)
   join_last none u x = refl
   join_last (item y t) u x = ap (item y) (join_last t u x)
 
-  five_again : (at : Reader (Item L)) (bs : List ℕ) → item_with leaf_at at (5 ∷ bs) ≡ at bs
+  five_again : (at : Reader (TreeItem L)) (bs : List ℕ) → item_with leaf_at at (5 ∷ bs) ≡ at bs
   unfolding item_with
   five_again at bs = refl
 
-  items_front : (at : Reader (Item L)) (n : ℕ) (bs : List ℕ) → n ≤ 32 → items_with at (n ∷ bs) ≡ more at with_last n none bs
+  items_front : (at : Reader (TreeItem L)) (n : ℕ) (bs : List ℕ) → n ≤ 32 → items_with at (n ∷ bs) ≡ more at with_last n none bs
   unfolding items_with
   items_front at n bs p = let l : ltb 32 n ≡ false = le-ltb 32 n p in rw l refl
 
@@ -120,7 +120,7 @@ module _ {L : Type 0} (IsLeaf : L → Type 0) (length_of : L → ℕ) (spelling 
       ap (λ o. o >>= λ x. Some (inner x.0, x.1)) (rw n at e)
 
   mutual
-    pub item_again : (x : Item L) (levels : ℕ) (rest : List ℕ) → IsItem IsLeaf x → item_levels x ≤ levels → item_length length_of x ≤ 1024 → item_at leaf_at levels (item_spelling spelling x ++ rest) ≡ Some (x, rest)
+    pub item_again : (x : TreeItem L) (levels : ℕ) (rest : List ℕ) → IsItem IsLeaf x → item_levels x ≤ levels → item_length length_of x ≤ 1024 → item_at leaf_at levels (item_spelling spelling x ++ rest) ≡ Some (x, rest)
     item_again (leaf x) levels rest d p q = reads.again x rest d q (inner_at leaf_at levels)
     item_again (inner t) levels rest d p q =
         let h = onto_again t none (levels - 1) rest d.1 (omega arith) (omega arith) in

@@ -24,8 +24,8 @@ RefusesItem old len item_depth item_len refusal =
     RefusesSize refusal (len + 1) (max old.depth (1 + item_depth)) (old.encoded_len + item_len)
 
 -- The result is the extent of the list with one more item, or why it is refused.
-abbrev pub Lengthens : Extent → ℕ → ℕ → ℕ → Bool → Result Extent Refusal → Type 0
-Lengthens old len item_depth item_len item_wide result =
+abbrev pub LengthensList : Extent → ℕ → ℕ → ℕ → Bool → Result Extent Refusal → Type 0
+LengthensList old len item_depth item_len item_wide result =
     MatchResult result (IsLonger old len item_depth item_len item_wide) (RefusesItem old len item_depth item_len)
 
 -- the same, if memory is not asked for

@@ -1,6 +1,6 @@
 -- The bytes with which each tuple begins that a template matches: those of its spelling before its first open field.
 use Rattle.std.specs.Prelude.{ℕ, Bool, true, false, if◌then◌else◌, List, [], ◌∷◌, ◌++◌}
-use Rattle.tuple_tree.specs.Items.{Item, leaf, inner, none, item, how_many, item_has}
+use Rattle.tuple_tree.specs.Items.{TreeItem, leaf, inner, none, item, how_many, item_has}
 use Rattle.tuple_tree.specs.Spelling.{datum_spelling}
 use Rattle.tuple_tree.specs.Values.{Slot, actual, any, formal, TemplateTree}
 
@@ -17,7 +17,7 @@ slot_front (formal k) = []
 
 -- Of a nested template with an open field, tag and count are such bytes too.
 abbrev mutual
-  pub field_front : Item Slot → List ℕ
+  pub field_front : TreeItem Slot → List ℕ
   field_front (leaf s) = slot_front s
   field_front (inner p) = 5 ∷ how_many p ∷ front_of p
 

@@ -3,13 +3,13 @@
 use Rattle.std.specs.Prelude.{ℕ, ◌+◌, max, Bool, false, ◌||◌, List, [], ◌∷◌}
 
 mutual
-  pub data Item (L : Type 0) : Type 0 where
-    leaf : L → Item L
-    inner : Items L → Item L
+  pub data TreeItem (L : Type 0) : Type 0 where
+    leaf : L → TreeItem L
+    inner : Items L → TreeItem L
 
   pub data Items (L : Type 0) : Type 0 where
     none : Items L
-    item : Item L → Items L → Items L
+    item : TreeItem L → Items L → Items L
 
 module _ {L : Type 0} where
   -- how many items
@@ -18,18 +18,18 @@ module _ {L : Type 0} where
   how_many (item x xs) = 1 + how_many xs
 
   -- the items with one more at their end
-  abbrev pub with_last : Items L → Item L → Items L
+  abbrev pub with_last : Items L → TreeItem L → Items L
   with_last none y = item y none
   with_last (item x xs) y = item x (with_last xs y)
 
   -- the items as a plain list
-  abbrev pub as_list : Items L → List (Item L)
+  abbrev pub as_list : Items L → List (TreeItem L)
   as_list none = []
   as_list (item x xs) = x ∷ as_list xs
 
   -- the levels of lists within lists below this one
   abbrev mutual
-    pub item_levels : Item L → ℕ
+    pub item_levels : TreeItem L → ℕ
     item_levels (leaf x) = 0
     item_levels (inner xs) = 1 + levels_in xs
 
@@ -44,7 +44,7 @@ module _ {L : Type 0} where
 -- The length of the encoding, from that of each leaf: a nested list has a tag and a count before its items.
 module _ {L : Type 0} (length_of : L → ℕ) where
   abbrev mutual
-    pub item_length : Item L → ℕ
+    pub item_length : TreeItem L → ℕ
     item_length (leaf x) = length_of x
     item_length (inner xs) = 2 + length_in xs
 
@@ -59,7 +59,7 @@ module _ {L : Type 0} (length_of : L → ℕ) where
 -- Whether some leaf passes the test, at any level.
 module _ {L : Type 0} (test : L → Bool) where
   abbrev mutual
-    pub item_has : Item L → Bool
+    pub item_has : TreeItem L → Bool
     item_has (leaf x) = test x
     item_has (inner xs) = has_leaf xs
 

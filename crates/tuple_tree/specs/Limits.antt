@@ -1,13 +1,13 @@
 -- The limits of tuples and templates: 32 items in each list, 8 levels, and 1,024 bytes of encoding.
 use Rattle.std.specs.Prelude.{ℕ, ◌<◌, ◌≤◌}
-use Rattle.tuple_tree.specs.Items.{Item, leaf, inner, Items, none, item, how_many, levels_of, whole_length}
+use Rattle.tuple_tree.specs.Items.{TreeItem, leaf, inner, Items, none, item, how_many, levels_of, whole_length}
 use Rattle.tuple_tree.specs.declared.limits.Refusal.{Refusal}
 use Rattle.tuple_tree.specs.declared.limits.Refusal.TheVariants.{TooManyFields, TooDeep, TooLong, NoMemory}
 
 -- Each leaf is a right one, and each nested list has at most 32 items.
 module _ {L : Type 0} (IsLeaf : L → Type 0) where
   abbrev mutual
-    pub IsItem : Item L → Type 0
+    pub IsItem : TreeItem L → Type 0
     IsItem (leaf x) = IsLeaf x
     IsItem (inner xs) = (how_many xs ≤ 32) × AreItems xs
 
@@ -30,5 +30,5 @@ RefusesSize TooDeep items levels bytes = (items ≤ 32) × (8 < levels)
 RefusesSize TooLong items levels bytes = (items ≤ 32) × (levels ≤ 8) × (1024 < bytes)
 RefusesSize NoMemory items levels bytes = (items ≤ 32) × (levels ≤ 8) × (bytes ≤ 1024)
 
-abbrev pub Refuses : {L : Type 0} → (L → ℕ) → Refusal → Items L → Type 0
-Refuses length_of refusal t = RefusesSize refusal (how_many t) (levels_of t) (whole_length length_of t)
+abbrev pub RefusesItems : {L : Type 0} → (L → ℕ) → Refusal → Items L → Type 0
+RefusesItems length_of refusal t = RefusesSize refusal (how_many t) (levels_of t) (whole_length length_of t)

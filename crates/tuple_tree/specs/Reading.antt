@@ -4,7 +4,7 @@ use Rattle.std.specs.Prelude.{ℕ, zero, suc, Bool, true, false, ◌==◌, nat_l
 use Rattle.std.specs.Int.{w64, w128, cast_signed}
 use Rattle.std.specs.Str.{is_utf8}
 use Rattle.byteorder.specs.Endian.{big_number}
-use Rattle.tuple_tree.specs.Items.{Item, leaf, inner, Items, none, with_last}
+use Rattle.tuple_tree.specs.Items.{TreeItem, leaf, inner, Items, none, with_last}
 use Rattle.tuple_tree.specs.Values.{Datum, number, text, bytes, truth, wide, Slot, actual, any, formal, TupleTree, TemplateTree}
 use Rattle.tuple_tree.specs.declared.atoms.Kind.TheVariants as kinds
 
@@ -25,11 +25,11 @@ abbrev pub alone : {A : Type 0} → A → Reader A
 alone x bs = Some (x, bs)
 
 -- A tag, and the reader of the bytes after it.
-abbrev pub Row : Type 0 → Type 0
-Row A = ℕ × Reader A
+abbrev pub TaggedReader : Type 0 → Type 0
+TaggedReader A = ℕ × Reader A
 
 -- the reader of the first row that has the tag, or the other reader
-abbrev pub by_tag : {A : Type 0} → List (Row A) → (ℕ → Reader A) → ℕ → Reader A
+abbrev pub by_tag : {A : Type 0} → List (TaggedReader A) → (ℕ → Reader A) → ℕ → Reader A
 by_tag [] other tag bs = other tag bs
 by_tag (row ∷ rows) other tag bs = if tag == row.0 then row.1 bs else by_tag rows other tag bs
 
@@ -78,7 +78,7 @@ signed_at = read_as (λ n. number (cast_signed w64 n)) (number_of 8)
 abbrev pub wide_at : Reader Datum
 wide_at = read_as (λ n. wide (cast_signed w128 n)) (number_of 16)
 
-abbrev pub datum_rows : List (Row Datum)
+abbrev pub datum_rows : List (TaggedReader Datum)
 datum_rows =
     (1, signed_at)
     ∷ (2, read_as text text_at)
@@ -91,7 +91,7 @@ datum_rows =
 unfoldable pub datum_at : ℕ → Reader Datum
 datum_at tag bs = by_tag datum_rows unknown tag bs
 
-abbrev pub formal_rows : List (Row Slot)
+abbrev pub formal_rows : List (TaggedReader Slot)
 formal_rows =
     (0x10, alone any)
     ∷ (0x11, alone (formal kinds.Number))
@@ -107,29 +107,29 @@ unfoldable pub slot_at : ℕ → Reader Slot
 slot_at tag bs = by_tag formal_rows (λ tag. read_as actual (datum_at tag)) tag bs
 
 -- the actual field after a tag
-abbrev pub actual_at : ℕ → Reader (Item Slot)
+abbrev pub actual_at : ℕ → Reader (TreeItem Slot)
 actual_at tag = read_as leaf (read_as actual (datum_at tag))
 
 module _ {L : Type 0} (leaf_at : ℕ → Reader L) where
   -- an item, in which inner_at reads the bytes after a tag 5
-  unfoldable pub item_with : Reader (Item L) → Reader (Item L)
+  unfoldable pub item_with : Reader (TreeItem L) → Reader (TreeItem L)
   item_with inner_at bs = byte_at bs >>= λ x. if x.0 == 5 then inner_at x.1 else read_as leaf (leaf_at x.0) x.1
 
 -- a count and so many items
-unfoldable pub items_with : {L : Type 0} → Reader (Item L) → Reader (Items L)
+unfoldable pub items_with : {L : Type 0} → Reader (TreeItem L) → Reader (Items L)
 items_with item_at bs = byte_at bs >>= λ n. if nat_lt 32 n.0 then None else more item_at with_last n.0 none n.1
 
-unfoldable pub nothing : {L : Type 0} → Reader (Item L)
+unfoldable pub nothing : {L : Type 0} → Reader (TreeItem L)
 nothing bs = None
 
 module _ {L : Type 0} (leaf_at : ℕ → Reader L) where
   -- the bytes after a tag 5, with at most so many levels
-  unfoldable pub inner_at : ℕ → Reader (Item L)
+  unfoldable pub inner_at : ℕ → Reader (TreeItem L)
   inner_at zero = nothing
   inner_at (suc levels) = read_as inner (items_with (item_with leaf_at (inner_at levels)))
 
   -- an item with at most so many levels in it
-  abbrev pub item_at : ℕ → Reader (Item L)
+  abbrev pub item_at : ℕ → Reader (TreeItem L)
   item_at levels = item_with leaf_at (inner_at levels)
 
   -- items with at most so many levels in them

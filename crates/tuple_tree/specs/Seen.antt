@@ -1,5 +1,5 @@
 -- The plain values and fields that the Rust ones stand for where they lie.
-use Rattle.tuple_tree.specs.Items.{Item, leaf, inner}
+use Rattle.tuple_tree.specs.Items.{TreeItem, leaf, inner}
 use Rattle.tuple_tree.specs.Values.{Datum, number, text, bytes, truth, wide, Slot, actual, any, formal}
 use Rattle.tuple_tree.specs.declared.values.AtomRef.{AtomRef}
 use Rattle.tuple_tree.specs.declared.values.AtomRef.TheVariants as atoms
@@ -17,7 +17,7 @@ seen_datum (atoms.Bytes s) = bytes s.now
 seen_datum (atoms.Truth b) = truth b
 seen_datum (atoms.Wide n) = wide n
 
-abbrev pub seen_value : ValueRef → Item Datum
+abbrev pub seen_value : ValueRef → TreeItem Datum
 seen_value (values.Atom x) = leaf (seen_datum x)
 seen_value (values.Nested t) = inner t
 
@@ -26,7 +26,7 @@ seen_slot (slots.Actual x) = actual (seen_datum x)
 seen_slot slots.Any = any
 seen_slot (slots.Formal k) = formal k
 
-abbrev pub seen_field : FieldRef → Item Slot
+abbrev pub seen_field : FieldRef → TreeItem Slot
 seen_field (fields.Actual x) = leaf (actual (seen_datum x))
 seen_field fields.Any = leaf any
 seen_field (fields.Formal k) = leaf (formal k)

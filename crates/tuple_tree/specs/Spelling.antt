@@ -2,7 +2,7 @@
 -- each after its tag. Numbers are big-endian.
 use Rattle.std.specs.Prelude.{ℕ, ℤ, Bool, true, false, List, [], ◌∷◌, ◌++◌, length}
 use Rattle.std.specs.Int.{w16, w64, w128, to_be_bytes, cast_unsigned}
-use Rattle.tuple_tree.specs.Items.{Item, leaf, inner, Items, none, item, how_many}
+use Rattle.tuple_tree.specs.Items.{TreeItem, leaf, inner, Items, none, item, how_many}
 use Rattle.tuple_tree.specs.Values.{Datum, number, text, bytes, truth, wide, Slot, actual, any, formal, TupleTree, TemplateTree}
 use Rattle.tuple_tree.specs.declared.atoms.Kind.{Kind}
 use Rattle.tuple_tree.specs.declared.atoms.Kind.TheVariants as kinds
@@ -44,7 +44,7 @@ slot_spelling (formal k) = formal_tag k ∷ []
 -- A nested list has tag 05.
 module _ {L : Type 0} (leaf_spelling : L → List ℕ) where
   abbrev mutual
-    pub item_spelling : Item L → List ℕ
+    pub item_spelling : TreeItem L → List ℕ
     item_spelling (leaf x) = leaf_spelling x
     item_spelling (inner xs) = 5 ∷ how_many xs ∷ items_spelling xs
 
@@ -56,10 +56,10 @@ module _ {L : Type 0} (leaf_spelling : L → List ℕ) where
   whole_spelling xs = how_many xs ∷ items_spelling xs
 
 -- a value of a tuple, and a field of a template
-abbrev pub value_spelling : Item Datum → List ℕ
+abbrev pub value_spelling : TreeItem Datum → List ℕ
 value_spelling v = item_spelling datum_spelling v
 
-abbrev pub field_spelling : Item Slot → List ℕ
+abbrev pub field_spelling : TreeItem Slot → List ℕ
 field_spelling f = item_spelling slot_spelling f
 
 abbrev pub tuple_spelling : TupleTree → List ℕ

@@ -4,7 +4,7 @@ use Rattle.std.specs.Prelude.{ℕ, ◌+◌, ℤ, ◌<◌, Bool, true, false, Lis
 use Rattle.std.specs.Int.{w64, w128}
 use Rattle.std.specs.Int.RustNames.{FitsSigned}
 use Rattle.std.specs.Str.{IsUtf8}
-use Rattle.tuple_tree.specs.Items.{Item, leaf, inner, Items}
+use Rattle.tuple_tree.specs.Items.{TreeItem, leaf, inner, Items}
 use Rattle.tuple_tree.specs.Limits.{IsWithin}
 use Rattle.tuple_tree.specs.declared.atoms.Kind.{Kind}
 use Rattle.tuple_tree.specs.declared.atoms.Kind.TheVariants as kinds
@@ -39,7 +39,7 @@ datum_kind (truth b) = kinds.Truth
 datum_kind (wide n) = kinds.Wide
 
 -- the kind of a value
-abbrev pub kind_of : Item Datum → Kind
+abbrev pub kind_of : TreeItem Datum → Kind
 kind_of (leaf x) = datum_kind x
 kind_of (inner t) = kinds.Tuple
 

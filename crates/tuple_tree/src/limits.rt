@@ -1,7 +1,7 @@
 //! The limits of tuples and templates, and why an item is refused.
 
 ghost use Rattle.std.specs.Prelude.{◌≡◌, ◌≤◌, OnOk};
-ghost use Rattle.tuple_tree.specs.Extents.{Extends, Lengthens};
+ghost use Rattle.tuple_tree.specs.Extents.{Extends, LengthensList};
 ghost use Rattle.tuple_tree.specs.Puts.{HasRoom};
 
 use std::alloc::Allocator;
@@ -98,7 +98,7 @@ impl Extent {
     ) -> Result<Extent, Refusal>
         requires depth { item_depth ≤ 8 }
         requires bytes { self.encoded_len ≤ 1024 }
-        ensures within { Lengthens self len item_depth item_len item_wide result }
+        ensures within { LengthensList self len item_depth item_len item_wide result }
         ensures room { OnOk result (HasRoom out.new item_len) }
         ensures kept { out.new.items ≡ out.old.items }
     {

@@ -3,7 +3,7 @@
 ghost use Rattle.std.specs.Prelude.{◌≡◌, ◌+◌, ◌≤◌, ◌∷◌, [], length};
 ghost use Rattle.tuple_tree.specs.Values.{datum_length, slot_length};
 ghost use Rattle.tuple_tree.specs.Seen.{seen_datum, seen_slot};
-ghost use Rattle.tuple_tree.specs.Puts.{Puts, HasRoom, Fills};
+ghost use Rattle.tuple_tree.specs.Puts.{PutsText, HasRoom, FillsRoom};
 ghost use Rattle.tuple_tree.specs.Spelling.{datum_spelling, slot_spelling, formal_tag};
 ghost use Rattle.tuple_tree.specs.Spelling as Spelling;
 
@@ -19,7 +19,7 @@ use terms::NoMemory;
 pub fn put_atom<A: Allocator>(atom: &AtomRef<'_>, out: &mut Vec<u8, A>)
     requires room { HasRoom out.old (datum_length (seen_datum atom.now)) }
     requires short { datum_length (seen_datum atom.now) ≤ 1024 }
-    ensures { Fills (datum_spelling (seen_datum atom.now)) out.old out.new }
+    ensures { FillsRoom (datum_spelling (seen_datum atom.now)) out.old out.new }
 {
     match atom {
         AtomRef::Number(number) => put_tagged(1, &number.to_be_bytes(), out),
@@ -35,7 +35,7 @@ pub fn put_atom<A: Allocator>(atom: &AtomRef<'_>, out: &mut Vec<u8, A>)
 pub fn put_slot<A: Allocator>(slot: &SlotRef<'_>, out: &mut Vec<u8, A>)
     requires room { HasRoom out.old (slot_length (seen_slot slot.now)) }
     requires short { slot_length (seen_slot slot.now) ≤ 1024 }
-    ensures { Fills (slot_spelling (seen_slot slot.now)) out.old out.new }
+    ensures { FillsRoom (slot_spelling (seen_slot slot.now)) out.old out.new }
 {
     match slot {
         SlotRef::Actual(atom) => put_atom(atom, out),
@@ -55,7 +55,7 @@ fn wide_bytes(number: i128) -> [u8; 16]
 fn put_string<A: Allocator>(tag: u8, string: &[u8], out: &mut Vec<u8, A>)
     requires room { HasRoom out.old (3 + length string.now) }
     requires short { length string.now ≤ 1021 }
-    ensures { Fills (tag ∷ Spelling.string string.now) out.old out.new }
+    ensures { FillsRoom (tag ∷ Spelling.string string.now) out.old out.new }
 {
     put_tagged(tag, &(string.len() as u16).to_be_bytes(), out);
     put_reserved(string, out);
@@ -65,7 +65,7 @@ fn put_string<A: Allocator>(tag: u8, string: &[u8], out: &mut Vec<u8, A>)
 #[inline]
 pub fn put_nested<A: Allocator>(count: u8, items: &[u8], out: &mut Vec<u8, A>)
     requires { HasRoom out.old (2 + length items.now) }
-    ensures { Fills (5 ∷ count ∷ items.now) out.old out.new }
+    ensures { FillsRoom (5 ∷ count ∷ items.now) out.old out.new }
 {
     put_tagged(5, &[count], out);
     put_reserved(items, out);
@@ -75,7 +75,7 @@ pub fn put_nested<A: Allocator>(count: u8, items: &[u8], out: &mut Vec<u8, A>)
 #[inline]
 pub fn put_tagged<A: Allocator>(tag: u8, bytes: &[u8], out: &mut Vec<u8, A>)
     requires { HasRoom out.old (1 + length bytes.now) }
-    ensures { Fills (tag ∷ bytes.now) out.old out.new }
+    ensures { FillsRoom (tag ∷ bytes.now) out.old out.new }
 {
     out.push_reserved(tag);
     put_reserved(bytes, out);
@@ -85,7 +85,7 @@ pub fn put_tagged<A: Allocator>(tag: u8, bytes: &[u8], out: &mut Vec<u8, A>)
 #[inline]
 pub fn put_reserved<A: Allocator>(bytes: &[u8], out: &mut Vec<u8, A>)
     requires { HasRoom out.old (length bytes.now) }
-    ensures { Fills bytes.now out.old out.new }
+    ensures { FillsRoom bytes.now out.old out.new }
 {
     match out.extend_from_slice(bytes) {
         Ok(()) => {}
@@ -94,20 +94,20 @@ pub fn put_reserved<A: Allocator>(bytes: &[u8], out: &mut Vec<u8, A>)
 }
 
 pub fn put_behind<B: Allocator>(tag: u8, bytes: &[u8], out: &mut Vec<u8, B>) -> Result<(), NoMemory>
-    ensures { Puts (tag ∷ bytes.now) out.old.items out.new.items result }
+    ensures { PutsText (tag ∷ bytes.now) out.old.items out.new.items result }
 {
     put_byte(tag, out)?;
     put_bytes(bytes, out)
 }
 
 pub fn put_byte<B: Allocator>(byte: u8, out: &mut Vec<u8, B>) -> Result<(), NoMemory>
-    ensures { Puts (byte ∷ []) out.old.items out.new.items result }
+    ensures { PutsText (byte ∷ []) out.old.items out.new.items result }
 {
     Ok(out.push(byte)?)
 }
 
 pub fn put_bytes<B: Allocator>(bytes: &[u8], out: &mut Vec<u8, B>) -> Result<(), NoMemory>
-    ensures { Puts bytes.now out.old.items out.new.items result }
+    ensures { PutsText bytes.now out.old.items out.new.items result }
 {
     Ok(out.extend_from_slice(bytes)?)
 }

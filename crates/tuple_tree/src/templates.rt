@@ -4,7 +4,7 @@ ghost use Rattle.std.specs.Prelude.{◌≡◌, ◌+◌, ◌≤◌, ◌++◌, OnO
 ghost use Rattle.tuple_tree.specs.Items.{none, leaf, inner, how_many, with_last, item_levels, levels_of, item_length, whole_length, item_has, has_leaf};
 ghost use Rattle.tuple_tree.specs.Limits.{IsItem};
 ghost use Rattle.tuple_tree.specs.Pushes.{JudgesTemplate, AddsField};
-ghost use Rattle.tuple_tree.specs.Puts.{Puts};
+ghost use Rattle.tuple_tree.specs.Puts.{PutsText};
 ghost use Rattle.tuple_tree.specs.Fronts.{is_open, front_of};
 ghost use Rattle.tuple_tree.specs.Gives.{Yields};
 ghost use Rattle.tuple_tree.specs.Reading.{slot_at, items_at};
@@ -347,7 +347,7 @@ pub fn put_template<A: Allocator, B: Allocator>(
     template: &Template<A>,
     out: &mut Vec<u8, B>,
 ) -> Result<(), NoMemory>
-    ensures { Puts (template_spelling template.now) out.old.items out.new.items result }
+    ensures { PutsText (template_spelling template.now) out.old.items out.new.items result }
 {
     put_byte(template.count, out)?;
     put_bytes(template.fields.as_slice(), out)

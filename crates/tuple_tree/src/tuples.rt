@@ -4,7 +4,7 @@ ghost use Rattle.std.specs.Prelude.{◌≡◌, ◌+◌, ◌≤◌, ◌++◌, OnO
 ghost use Rattle.tuple_tree.specs.Items.{none, leaf, inner, how_many, with_last, item_levels, levels_of, item_length, whole_length, item_has, has_leaf};
 ghost use Rattle.tuple_tree.specs.Limits.{IsItem};
 ghost use Rattle.tuple_tree.specs.Pushes.{JudgesTuple, AddsValue};
-ghost use Rattle.tuple_tree.specs.Puts.{Puts};
+ghost use Rattle.tuple_tree.specs.Puts.{PutsText};
 ghost use Rattle.tuple_tree.specs.Gives.{Yields};
 ghost use Rattle.tuple_tree.specs.Reading.{datum_at, items_at};
 ghost use Rattle.tuple_tree.specs.Seen.{seen_datum};
@@ -293,7 +293,7 @@ pub fn put_tuple<A: Allocator, B: Allocator>(
     tuple: &Tuple<A>,
     out: &mut Vec<u8, B>,
 ) -> Result<(), NoMemory>
-    ensures { Puts (tuple_spelling tuple.now) out.old.items out.new.items result }
+    ensures { PutsText (tuple_spelling tuple.now) out.old.items out.new.items result }
 {
     put_byte(tuple.count, out)?;
     put_bytes(tuple.values.as_slice(), out)

@@ -11,7 +11,7 @@ use Rattle.protocol.specs.Replica.Selection.{may_stand_at, may_be_null, null_bat
 use Rattle.protocol.proofs.Words.Elements.{each_where}
 use Rattle.wire_format.specs.Messages.{ViewChangeData}
 use Rattle.view_change.specs.Sets.{texts_of}
-use Rattle.view_change.specs.Selecting.{are_for, stands_by_entry, goes_before, how_many_from, IsFrom, AreFrom, IsFirst, AreFirst, NothingFrom}
+use Rattle.view_change.specs.Selecting.{are_for, stands_by_entry, goes_before, how_many_from, IsAvailable, AreFrom, IsFirstChoice, AreFirstChoices, NothingFrom}
 use Rattle.view_change.specs.Filling.{StandsAt, NoneStandsAt}
 use Rattle.view_change.proofs.Claiming.{entries_decide}
 use Rattle.view_change.proofs.Gaps.{gaps_forbid}
@@ -33,8 +33,8 @@ no_entry c view number set text fit h null =
 
 -- the best of all batches outside the rest
 pub record IsBest (c : Configuration) (set : List (ℕ × ViewChangeData)) (texts : List (List ℕ)) (number : ℕ) (rest : List (List ℕ)) (best : List ℕ) : Type 0 where
-  pub there : IsFrom texts best
-  pub first : (other : List ℕ) → IsFrom texts other → Has (λ t. t ≡ other) rest ⊎ (goes_before c set number (sha256 other) (sha256 best) ≡ false)
+  pub there : IsAvailable texts best
+  pub first : (other : List ℕ) → IsAvailable texts other → Has (λ t. t ≡ other) rest ⊎ (goes_before c set number (sha256 other) (sha256 best) ≡ false)
   pub null : stands_by_entry c set number (sha256 best) set ≡ false → best ≡ null_batch
 
 not_before_self : (c : Configuration) (set : List (ℕ × ViewChangeData)) (number : ℕ) (x y : List ℕ) → x ≡ y → goes_before c set number (sha256 y) (sha256 x) ≡ false
@@ -43,11 +43,11 @@ not_before_self c set number x y e = subst (λ z. goes_before c set number (sha2
 pub best_begins : (c : Configuration) (set : List (ℕ × ViewChangeData)) (texts : List (List ℕ)) (number : ℕ) (null : List ℕ) → null ≡ null_batch → IsBest c set texts number texts null
 best_begins c set texts number null is = record { there = inl (sym is); first = first; null = λ h. is }
   where
-    first : (other : List ℕ) → IsFrom texts other → Has (λ t. t ≡ other) texts ⊎ (goes_before c set number (sha256 other) (sha256 null) ≡ false)
+    first : (other : List ℕ) → IsAvailable texts other → Has (λ t. t ≡ other) texts ⊎ (goes_before c set number (sha256 other) (sha256 null) ≡ false)
     first other (inl same) = inr (not_before_self c set number null other (is ∙ same))
     first other (inr has) = inl has
 
-won : (c : Configuration) (set : List (ℕ × ViewChangeData)) (texts : List (List ℕ)) (number : ℕ) (x best : List ℕ) (rest : List (List ℕ)) → IsFrom texts x
+won : (c : Configuration) (set : List (ℕ × ViewChangeData)) (texts : List (List ℕ)) (number : ℕ) (x best : List ℕ) (rest : List (List ℕ)) → IsAvailable texts x
     → goes_before c set number (sha256 x) (sha256 best) ≡ true → IsBest c set texts number (x ∷ rest) best → IsBest c set texts number rest x
 won c set texts number x best rest from before old = record {
   there = from;
@@ -91,7 +91,7 @@ best_more c set number held i z best b l is old =
       λ h. lost c set (texts_of held) number (arc_value (get_or held i z)) best (texts_of (drop (i + 1) held)) (sym is ∙ h) now,
     )
 
-not_before : (c : Configuration) (set : List (ℕ × ViewChangeData)) (texts : List (List ℕ)) (number : ℕ) (best other : List ℕ) → IsBest c set texts number [] best → IsFrom texts other
+not_before : (c : Configuration) (set : List (ℕ × ViewChangeData)) (texts : List (List ℕ)) (number : ℕ) (best other : List ℕ) → IsBest c set texts number [] best → IsAvailable texts other
     → goes_before c set number (sha256 other) (sha256 best) ≡ false
 not_before c set texts number best other b from = go (b.first other from)
   where
@@ -127,19 +127,19 @@ pub record FillsTo (c : Configuration) (view : ℕ) (set : List (ℕ × ViewChan
   pub long : start + length batches ≡ number
   pub stand : may_all_stand c view set (suc start) batches ≡ true
   pub from : AreFrom texts batches
-  pub first : AreFirst c set texts (suc start) batches
+  pub first : AreFirstChoices c set texts (suc start) batches
 
 length_more : (xs : List (List ℕ)) (y : List ℕ) → length (xs ++ y ∷ []) ≡ suc (length xs)
 length_more [] y = refl
 length_more (x ∷ xs) y = ap suc (length_more xs y)
 
-from_more : (texts xs : List (List ℕ)) (y : List ℕ) → AreFrom texts xs → IsFrom texts y → AreFrom texts (xs ++ y ∷ [])
+from_more : (texts xs : List (List ℕ)) (y : List ℕ) → AreFrom texts xs → IsAvailable texts y → AreFrom texts (xs ++ y ∷ [])
 from_more texts [] y h k = (k, tt)
 from_more texts (x ∷ xs) y h k = (h.0, from_more texts xs y h.1 k)
 
-first_more : (c : Configuration) (set : List (ℕ × ViewChangeData)) (texts : List (List ℕ)) (i j : ℕ) (xs : List (List ℕ)) (y : List ℕ) → j ≡ i + length xs → AreFirst c set texts i xs → IsFirst c set texts j y
-    → AreFirst c set texts i (xs ++ y ∷ [])
-first_more c set texts i j [] y is h k = (let e : j ≡ i = omega arith in subst (λ n. IsFirst c set texts n y) e k, tt)
+first_more : (c : Configuration) (set : List (ℕ × ViewChangeData)) (texts : List (List ℕ)) (i j : ℕ) (xs : List (List ℕ)) (y : List ℕ) → j ≡ i + length xs → AreFirstChoices c set texts i xs → IsFirstChoice c set texts j y
+    → AreFirstChoices c set texts i (xs ++ y ∷ [])
+first_more c set texts i j [] y is h k = (let e : j ≡ i = omega arith in subst (λ n. IsFirstChoice c set texts n y) e k, tt)
 first_more c set texts i j (x ∷ xs) y is h k = (h.0, first_more c set texts (suc i) j xs y (omega arith) h.1 k)
 
 pub fills_more : (c : Configuration) (view : ℕ) (set : List (ℕ × ViewChangeData)) (texts : List (List ℕ)) (start number : ℕ) (batches : List (List ℕ)) (batch : List ℕ)

@@ -12,24 +12,24 @@ use Rattle.wire_format.specs.Messages.{NewViewData, ViewChangeData}
 use Rattle.view_change.specs.declared.changes.Change.{Change}
 use Rattle.view_change.specs.declared.fault.NewViewFault.TheVariants.{BadSignature, TooFew, NotSelected}
 use Rattle.view_change.specs.Checking.{refusal_by_rules}
-use Rattle.view_change.specs.Refusing.{passes, refusal_over}
+use Rattle.view_change.specs.Refusing.{satisfies_rules, refusal_over}
 use Rattle.view_change.specs.Selecting.{are_for, is_set_for, meets}
-use Rattle.view_change.specs.Sets.{given, pairs, signed_changes}
+use Rattle.view_change.specs.Sets.{all_present, changes_by_sender, signed_changes}
 use Rattle.view_change.proofs.Claiming.{same_truth}
 use Rattle.view_change.proofs.Larger.{selects_by_set}
 
-pub list_of_given : (xs : List (ℕ × ViewChangeData)) → list_of (given xs) ≡ xs
+pub list_of_given : (xs : List (ℕ × ViewChangeData)) → list_of (all_present xs) ≡ xs
 list_of_given [] = refl
 list_of_given (x ∷ xs) = ap (λ ys. x ∷ ys) (list_of_given xs)
 
 -- all are signed: these are the view changes
-pub changes_are : (c : Configuration) (new : NewViewData) (set : List (ℕ × ViewChangeData)) → given set ≡ map (signed_change c) new.changes → changes_of c new ≡ set
+pub changes_are : (c : Configuration) (new : NewViewData) (set : List (ℕ × ViewChangeData)) → all_present set ≡ map (signed_change c) new.changes → changes_of c new ≡ set
 changes_are c new set h = ap list_of (sym h) ∙ list_of_given set
 
-signed_all : (c : Configuration) (new : NewViewData) (set : List (ℕ × ViewChangeData)) → given set ≡ map (signed_change c) new.changes → all_signed c new ≡ true
+signed_all : (c : Configuration) (new : NewViewData) (set : List (ℕ × ViewChangeData)) → all_present set ≡ map (signed_change c) new.changes → all_signed c new ≡ true
 signed_all c new set h =
-    let long : length (given set) ≡ length new.changes = ap length h ∙ length-map new.changes (signed_change c) in
-    let whole : length (given set) ≡ length set = length-map set Some in
+    let long : length (all_present set) ≡ length new.changes = ap length h ∙ length-map new.changes (signed_change c) in
+    let whole : length (all_present set) ≡ length set = length-map set Some in
     let is : length (changes_of c new) ≡ length set = ap length (changes_are c new set h) in
     eq-eqb (length (changes_of c new)) (length new.changes) (omega (arith, long, whole, is))
 
@@ -47,12 +47,12 @@ not_signed c new h =
     ne_eqb (length (changes_of c new)) (length new.changes) (λ i. absurd (omega (arith, l, e, i)))
 
 -- if all are signed and enough, the tests of the set decide
-may_is : (c : Configuration) (new : NewViewData) (set : List (ℕ × ViewChangeData)) → given set ≡ map (signed_change c) new.changes
-    → is_quorum c (count_in c (λ vc. true) set) ≡ true → may_select c new ≡ passes c set new
+may_is : (c : Configuration) (new : NewViewData) (set : List (ℕ × ViewChangeData)) → all_present set ≡ map (signed_change c) new.changes
+    → is_quorum c (count_in c (λ vc. true) set) ≡ true → may_select c new ≡ satisfies_rules c set new
 may_is c new set h many =
-    same_truth (may_select c new) (passes c set new) (λ t. forth ((selects_by_set c new).0 t)) (λ t. (selects_by_set c new).1 (back t))
+    same_truth (may_select c new) (satisfies_rules c set new) (λ t. forth ((selects_by_set c new).0 t)) (λ t. (selects_by_set c new).1 (back t))
   where
-    forth : (all_signed c new ≡ true) × (is_set_for c new.view (changes_of c new) ≡ true) × (meets c new.view (changes_of c new) new.start new.root new.batches ≡ true) → passes c set new ≡ true
+    forth : (all_signed c new ≡ true) × (is_set_for c new.view (changes_of c new) ≡ true) × (meets c new.view (changes_of c new) new.start new.root new.batches ≡ true) → satisfies_rules c set new ≡ true
     forth r =
         let s = subst (λ xs. is_set_for c new.view xs ≡ true) (changes_are c new set h) r.1 in
         let p = and_parts (is_quorum c (count_in c (λ vc. true) set) && ascending set) (are_for new.view set c) s in
@@ -61,7 +61,7 @@ may_is c new set h many =
         and_from (ascending set) (are_for new.view set c && meets c new.view set new.start new.root new.batches) q.1
         (and_from (are_for new.view set c) (meets c new.view set new.start new.root new.batches) p.1 met)
 
-    back : passes c set new ≡ true → (all_signed c new ≡ true) × (is_set_for c new.view (changes_of c new) ≡ true) × (meets c new.view (changes_of c new) new.start new.root new.batches ≡ true)
+    back : satisfies_rules c set new ≡ true → (all_signed c new ≡ true) × (is_set_for c new.view (changes_of c new) ≡ true) × (meets c new.view (changes_of c new) new.start new.root new.batches ≡ true)
     back t =
         let p = and_parts (ascending set) (are_for new.view set c && meets c new.view set new.start new.root new.batches) t in
         let q = and_parts (are_for new.view set c) (meets c new.view set new.start new.root new.batches) p.1 in (
@@ -71,14 +71,14 @@ may_is c new set h many =
           subst (λ xs. meets c new.view xs new.start new.root new.batches ≡ true) (sym (changes_are c new set h)) q.1,
         )
 
-by_set : (c : Configuration) (new : NewViewData) (set : List (ℕ × ViewChangeData)) → given set ≡ map (signed_change c) new.changes → refusal_over c set new ≡ refusal_by_rules c new
+by_set : (c : Configuration) (new : NewViewData) (set : List (ℕ × ViewChangeData)) → all_present set ≡ map (signed_change c) new.changes → refusal_over c set new ≡ refusal_by_rules c new
 by_set c new set h =
     let signed = signed_all c new set h in
     let enough : are_enough c new ≡ is_quorum c (count_in c (λ vc. true) set) = ap (λ xs. is_quorum c (count_in c (λ vc. true) xs)) (changes_are c new set h) in
     rw signed (rw enough (go (is_quorum c (count_in c (λ vc. true) set)) refl))
   where
     go : (b : Bool) → is_quorum c (count_in c (λ vc. true) set) ≡ b
-        → (if not b then Some TooFew else if not (passes c set new) then Some NotSelected else None) ≡ (if not b then Some TooFew else if not (may_select c new) then Some NotSelected else None)
+        → (if not b then Some TooFew else if not (satisfies_rules c set new) then Some NotSelected else None) ≡ (if not b then Some TooFew else if not (may_select c new) then Some NotSelected else None)
     go false e = refl
     go true e = ap (λ m. if not m then Some NotSelected else None) (sym (may_is c new set h e))
 
@@ -86,10 +86,10 @@ by_set c new set h =
 
 -- the view changes were opened into an empty set
 pub refused_by_set : (c : Configuration) (new : NewViewData) (xs ys old : List Change) (frames items : List (Vec ℕ Global)) (b : Bool) → b ≡ true → ys ≡ xs → old ≡ [] → frames ≡ items
-    → map (λ frame. frame.items) items ≡ new.changes → (b ≡ true → given (pairs xs) ≡ given (pairs old) ++ signed_changes c frames) → refusal_over c (pairs ys) new ≡ refusal_by_rules c new
+    → map (λ frame. frame.items) items ≡ new.changes → (b ≡ true → all_present (changes_by_sender xs) ≡ all_present (changes_by_sender old) ++ signed_changes c frames) → refusal_over c (changes_by_sender ys) new ≡ refusal_by_rules c new
 refused_by_set c new xs ys old frames items b holds same empty are named h =
-    by_set c new (pairs ys)
-    (ap (λ zs. given (pairs zs)) same ∙ (h holds ∙ (ap (λ zs. given (pairs zs) ++ signed_changes c frames) empty ∙ (ap (signed_changes c) are ∙ ap (map (signed_change c)) named))))
+    by_set c new (changes_by_sender ys)
+    (ap (λ zs. all_present (changes_by_sender zs)) same ∙ (h holds ∙ (ap (λ zs. all_present (changes_by_sender zs) ++ signed_changes c frames) empty ∙ (ap (signed_changes c) are ∙ ap (map (signed_change c)) named))))
 
 pub refused_unsigned : (c : Configuration) (new : NewViewData) (frames items : List (Vec ℕ Global)) → frames ≡ items → map (λ frame. frame.items) items ≡ new.changes
     → Has (λ o. o ≡ None) (signed_changes c frames) → Some BadSignature ≡ refusal_by_rules c new

@@ -10,14 +10,14 @@ use Rattle.protocol.specs.System.Trace.{Has}
 use Rattle.protocol.specs.Replica.Selection.{is_quorum, is_weak_quorum, passes_by, count_in, is_start}
 use Rattle.protocol.proofs.Words.Lists.{get_there, stands_at, some_below, passes_change, change_there}
 use Rattle.protocol.proofs.Words.Elements.{has_of_any}
-use Rattle.view_change.specs.Selecting.{meets, IsFrom, AreFrom}
+use Rattle.view_change.specs.Selecting.{meets, IsAvailable, AreFrom}
 use Rattle.view_change.specs.Laws.{GapsForbid, StartsAreListed}
 use Rattle.view_change.proofs.Larger.{Meets, meets_parts}
 
 -- the batch at a place is one of the available ones
-from_at : (texts batches : List (List ℕ)) (k : ℕ) (batch : List ℕ) → AreFrom texts batches → slice_get batches k ≡ Some batch → IsFrom texts batch
+from_at : (texts batches : List (List ℕ)) (k : ℕ) (batch : List ℕ) → AreFrom texts batches → slice_get batches k ≡ Some batch → IsAvailable texts batch
 from_at texts [] k batch h get = absurd cc
-from_at texts (x ∷ xs) zero batch h get = let e : x ≡ batch = cc in subst (IsFrom texts) e h.0
+from_at texts (x ∷ xs) zero batch h get = let e : x ≡ batch = cc in subst (IsAvailable texts) e h.0
 from_at texts (x ∷ xs) (suc k) batch h get = from_at texts xs k batch h.1 get
 
 pub gaps_forbid : GapsForbid

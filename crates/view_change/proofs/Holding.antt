@@ -14,9 +14,9 @@ use Rattle.protocol.specs.System.Trace.{Has}
 use Rattle.protocol.specs.System.Configuration.{Configuration}
 use Rattle.protocol.specs.Replica.Selection.{ascending, is_within, signed_change}
 use Rattle.view_change.specs.declared.change_fault.ChangeFault.TheVariants.{WrongView, OutOfBounds, Duplicate}
-use Rattle.view_change.specs.ReceivedData.{HeldData, held_for, held_of, pairs_for, frames_for, refusal_of, with_held, IsHeldAt, AreHeldFrom, IsHeldSet, IsJoined}
-use Rattle.view_change.specs.Finding.{frame_in, lesser, least_of}
-use Rattle.view_change.specs.ReceivedView.{AreReceived, ReceivedState, configuration_of, held_by, IsHeldIn}
+use Rattle.view_change.specs.ReceivedData.{HeldData, held_for, held_of, pairs_for, frames_for, view_change_refusal, with_held, IsHeldAt, AreHeldFrom, IsHeldSet, IsJoined}
+use Rattle.view_change.specs.Finding.{held_with_frame, lesser, least_of}
+use Rattle.view_change.specs.ReceivedView.{AreReceived, ReceivedState, judging_configuration, held_by, IsHeldIn}
 use Rattle.view_change.specs.Selecting.{are_for}
 use Rattle.view_change.specs.Sets.{sized}
 use Rattle.view_change.proofs.CarriedFrames.{carried_of, sender_is}
@@ -35,7 +35,7 @@ no_held (suc n) = ap (λ (held : List (Option HeldData)). None ∷ held) (no_hel
 pub none_received : (r : ReceivedState) (n : ℕ) → n ≡ 3 * r.sizes.faults + 1 → r.held ≡ replicate n None → AreReceived r
 none_received r n is none = record {
   places = ap length none ∙ length-replicate {A = Option HeldData} n None ∙ is;
-  each = subst (λ (held : List (Option HeldData)). AreHeldFrom (configuration_of r) 0 held) (sym none) (none_held (configuration_of r) 0 n);
+  each = subst (λ (held : List (Option HeldData)). AreHeldFrom (judging_configuration r) 0 held) (sym none) (none_held (judging_configuration r) 0 n);
 }
 
 -- ---- one more in its place
@@ -47,19 +47,19 @@ held_set c first zero (o ∷ held) h are is = (subst (λ (s : ℕ). IsHeldAt c s
 held_set c first (suc at) (o ∷ held) h are is =
     (are.0, held_set c (suc first) at held h are.1 (subst (λ (s : ℕ). IsHeldAt c s (Some h)) (let e : first + suc at ≡ suc first + at = omega arith in e) is))
 
-pub received_set : (r : ReceivedState) (h : HeldData) → AreReceived r → is_within (configuration_of r) h.change ≡ true → signed_change (configuration_of r) h.frame ≡ Some (h.sender, h.change)
+pub received_set : (r : ReceivedState) (h : HeldData) → AreReceived r → is_within (judging_configuration r) h.change ≡ true → signed_change (judging_configuration r) h.frame ≡ Some (h.sender, h.change)
     → AreReceived (record r { held = with_held h r.held })
 received_set r h are within signed = record {
   places = length-set r.held h.sender (Some h) ∙ are.places;
-  each = held_set (configuration_of r) 0 h.sender r.held h are.each ((let e : h.sender ≡ 0 + h.sender = omega arith in e), within, signed);
+  each = held_set (judging_configuration r) 0 h.sender r.held h are.each ((let e : h.sender ≡ 0 + h.sender = omega arith in e), within, signed);
 }
 
 -- the sender of a signed view change has a place
-pub has_place : (r : ReceivedState) (bytes : List ℕ) (x : ℕ × ViewChangeData) → AreReceived r → signed_change (configuration_of r) bytes ≡ Some x → x.0 < length r.held
-has_place r bytes x are signed = let l = (signed_is (configuration_of r) bytes x signed).known in let n = are.places in omega arith
+pub has_place : (r : ReceivedState) (bytes : List ℕ) (x : ℕ × ViewChangeData) → AreReceived r → signed_change (judging_configuration r) bytes ≡ Some x → x.0 < length r.held
+has_place r bytes x are signed = let l = (signed_is (judging_configuration r) bytes x signed).known in let n = are.places in omega arith
 
 -- a view change without a fault is within its bounds
-pub taken_within : (c : Configuration) (view : ℕ) (held : List (Option HeldData)) (x : ℕ × ViewChangeData) → refusal_of c view held x ≡ None → is_within c x.1 ≡ true
+pub taken_within : (c : Configuration) (view : ℕ) (held : List (Option HeldData)) (x : ℕ × ViewChangeData) → view_change_refusal c view held x ≡ None → is_within c x.1 ≡ true
 taken_within c view held x = go (nat_lt view x.1.view) (is_within c x.1) (option_map_or (λ h. nat_lt h.change.view x.1.view) (held_of held x.0) true)
   where
     go : (a b d : Bool) → cond (not a) (Some WrongView) (cond (not b) (Some OutOfBounds) (cond (not d) (Some Duplicate) None)) ≡ None → b ≡ true
@@ -188,15 +188,15 @@ held_few view (Some h ∷ held) = go (h.change.view == view) (held_few view held
     go true rest = omega arith
     go false rest = omega arith
 
-pub held_set_for : (r : ReceivedState) (view : ℕ) → AreReceived r → IsHeldSet (configuration_of r) view r.held
+pub held_set_for : (r : ReceivedState) (view : ℕ) → AreReceived r → IsHeldSet (judging_configuration r) view r.held
 held_set_for r view are =
-    let ordered = held_ordered (configuration_of r) view 0 r.held are.each in
+    let ordered = held_ordered (judging_configuration r) view 0 r.held are.each in
     record {
       order = ordered.order;
       fit = ordered.fit;
-      signed = held_signed (configuration_of r) view 0 r.held are.each;
-      carried = held_carried (configuration_of r) view 0 r.held are.each;
-      frames_order = (held_named (configuration_of r) view 0 r.held are.each).1;
+      signed = held_signed (judging_configuration r) view 0 r.held are.each;
+      carried = held_carried (judging_configuration r) view 0 r.held are.each;
+      frames_order = (held_named (judging_configuration r) view 0 r.held are.each).1;
       few = (let l = held_few view r.held in let n = are.places in omega arith);
     }
 
@@ -212,19 +212,19 @@ found_behind c sender o held bytes h f = (suc f.0, (let e = f.1 in omega arith),
 found_here : (c : Configuration) (sender : ℕ) (held : List (Option HeldData)) (bytes : List ℕ) (h : HeldData) → IsHeldAt c sender (Some h) → h.frame ≡ bytes → FoundFrom c sender (Some h ∷ held) bytes h
 found_here c sender held bytes h are same = (0, (let s = are.0 in omega arith), refl, same, subst (λ (bs : List ℕ). signed_change c bs ≡ Some (h.sender, h.change)) same are.2)
 
-pub found_in : (c : Configuration) (sender : ℕ) (held : List (Option HeldData)) (bytes : List ℕ) (h : HeldData) → AreHeldFrom c sender held → frame_in bytes held ≡ Some h → FoundFrom c sender held bytes h
+pub found_in : (c : Configuration) (sender : ℕ) (held : List (Option HeldData)) (bytes : List ℕ) (h : HeldData) → AreHeldFrom c sender held → held_with_frame bytes held ≡ Some h → FoundFrom c sender held bytes h
 found_in c sender [] bytes h are is = absurd cc
 found_in c sender (None ∷ held) bytes h are is = found_behind c sender None held bytes h (found_in c (suc sender) held bytes h are.1 is)
 found_in c sender (Some g ∷ held) bytes h are is = go (bytes_eq g.frame bytes) refl is (found_in c (suc sender) held bytes h are.1)
   where
-    go : (b : Bool) → bytes_eq g.frame bytes ≡ b → cond b (Some g) (frame_in bytes held) ≡ Some h → (frame_in bytes held ≡ Some h → FoundFrom c (suc sender) held bytes h) → FoundFrom c sender (Some g ∷ held) bytes h
+    go : (b : Bool) → bytes_eq g.frame bytes ≡ b → cond b (Some g) (held_with_frame bytes held) ≡ Some h → (held_with_frame bytes held ≡ Some h → FoundFrom c (suc sender) held bytes h) → FoundFrom c sender (Some g ∷ held) bytes h
     go true e f behind =
         subst (λ (x : HeldData). FoundFrom c sender (Some g ∷ held) bytes x) (same_Some g h f) (found_here c sender held bytes g are.0 ((bytes_eq-Decides g.frame bytes).0 e))
     go false e f behind = found_behind c sender (Some g) held bytes h (behind f)
 
-pub held_in_frame : (r : ReceivedState) (bytes : List ℕ) (h : HeldData) → AreReceived r → frame_in bytes r.held ≡ Some h → IsHeldIn r bytes h
+pub held_in_frame : (r : ReceivedState) (bytes : List ℕ) (h : HeldData) → AreReceived r → held_with_frame bytes r.held ≡ Some h → IsHeldIn r bytes h
 held_in_frame r bytes h are is =
-    let f = found_in (configuration_of r) 0 r.held bytes h are.each is in
+    let f = found_in (judging_configuration r) 0 r.held bytes h are.each is in
     record {
       frame = f.3;
       held = subst (λ (i : ℕ). held_of r.held i ≡ Some h) (let e : f.0 ≡ h.sender = (let s = f.1 in omega arith) in e) f.2;
@@ -232,14 +232,14 @@ held_in_frame r bytes h are is =
     }
 
 -- no other is stored with the frame
-pub none_in : (held : List (Option HeldData)) (bytes : List ℕ) → frame_in bytes held ≡ None → (h : HeldData) → Has (λ o. o ≡ Some h) held → h.frame ≡ bytes → ⊥
+pub none_in : (held : List (Option HeldData)) (bytes : List ℕ) → held_with_frame bytes held ≡ None → (h : HeldData) → Has (λ o. o ≡ Some h) held → h.frame ≡ bytes → ⊥
 none_in [] bytes is h has same = absurd has
 none_in (None ∷ held) bytes is h (inl e) same = absurd cc
 none_in (None ∷ held) bytes is h (inr has) same = none_in held bytes is h has same
 none_in (Some g ∷ held) bytes is h has same = go (bytes_eq g.frame bytes) refl is has (λ f more. none_in held bytes f h more same)
   where
-    go : (b : Bool) → bytes_eq g.frame bytes ≡ b → cond b (Some g) (frame_in bytes held) ≡ None → (Some g ≡ Some h) ⊎ Has (λ o. o ≡ Some h) held
-        → (frame_in bytes held ≡ None → Has (λ o. o ≡ Some h) held → ⊥) → ⊥
+    go : (b : Bool) → bytes_eq g.frame bytes ≡ b → cond b (Some g) (held_with_frame bytes held) ≡ None → (Some g ≡ Some h) ⊎ Has (λ o. o ≡ Some h) held
+        → (held_with_frame bytes held ≡ None → Has (λ o. o ≡ Some h) held → ⊥) → ⊥
     go true e f has behind = absurd cc
     go false e f (inl i) behind = absurd (let t = (bytes_eq-Decides g.frame bytes).1 (ap (λ (x : HeldData). x.frame) (same_Some g h i) ∙ same) in cc)
     go false e f (inr more) behind = behind f more
@@ -320,37 +320,37 @@ joined_of view (Some v) faults views enough is = joined faults views enough (vie
 
 -- a found view change, as its pair
 abbrev pub pair_in : List ℕ → List (Option HeldData) → Option (ℕ × ViewChangeData)
-pair_in bytes held = option_map (λ (h : HeldData). (h.sender, h.change)) (frame_in bytes held)
+pair_in bytes held = option_map (λ (h : HeldData). (h.sender, h.change)) (held_with_frame bytes held)
 
-pub opened : (r : ReceivedState) (bytes : List ℕ) (x : ℕ × ViewChangeData) → AreReceived r → Some x ≡ pair_in bytes r.held → Some x ≡ signed_change (configuration_of r) bytes
-opened r bytes x are is = go (frame_in bytes r.held) refl is
+pub opened : (r : ReceivedState) (bytes : List ℕ) (x : ℕ × ViewChangeData) → AreReceived r → Some x ≡ pair_in bytes r.held → Some x ≡ signed_change (judging_configuration r) bytes
+opened r bytes x are is = go (held_with_frame bytes r.held) refl is
   where
-    go : (o : Option HeldData) → frame_in bytes r.held ≡ o → Some x ≡ option_map (λ (h : HeldData). (h.sender, h.change)) o → Some x ≡ signed_change (configuration_of r) bytes
+    go : (o : Option HeldData) → held_with_frame bytes r.held ≡ o → Some x ≡ option_map (λ (h : HeldData). (h.sender, h.change)) o → Some x ≡ signed_change (judging_configuration r) bytes
     go None e f = absurd cc
     go (Some h) e f = f ∙ sym (held_in_frame r bytes h are e).signed
 
 pub found_held : {A : Type 0} (pair : A → ℕ × ViewChangeData) (o : Option A) (r : ReceivedState) (bytes : List ℕ) → AreReceived r → option_map pair o ≡ pair_in bytes r.held → is_some o ≡ true
     → (h : HeldData) × IsHeldIn r bytes h
 found_held pair None r bytes are is some = absurd cc
-found_held pair (Some x) r bytes are is some = go (frame_in bytes r.held) refl is
+found_held pair (Some x) r bytes are is some = go (held_with_frame bytes r.held) refl is
   where
-    go : (p : Option HeldData) → frame_in bytes r.held ≡ p → Some (pair x) ≡ option_map (λ (h : HeldData). (h.sender, h.change)) p → (h : HeldData) × IsHeldIn r bytes h
+    go : (p : Option HeldData) → held_with_frame bytes r.held ≡ p → Some (pair x) ≡ option_map (λ (h : HeldData). (h.sender, h.change)) p → (h : HeldData) × IsHeldIn r bytes h
     go None e f = absurd cc
     go (Some h) e f = (h, held_in_frame r bytes h are e)
 
 pub none_held_in : {A : Type 0} (pair : A → ℕ × ViewChangeData) (o : Option A) (held : List (Option HeldData)) (bytes : List ℕ) → option_map pair o ≡ pair_in bytes held → is_some o ≡ false
     → (h : HeldData) → Has (λ p. p ≡ Some h) held → h.frame ≡ bytes → ⊥
 none_held_in pair (Some x) held bytes is none h has same = absurd cc
-none_held_in pair None held bytes is none h has same = go (frame_in bytes held) refl is
+none_held_in pair None held bytes is none h has same = go (held_with_frame bytes held) refl is
   where
-    go : (p : Option HeldData) → frame_in bytes held ≡ p → ◌≡◌ {A = Option (ℕ × ViewChangeData)} None (option_map (λ (g : HeldData). (g.sender, g.change)) p) → ⊥
+    go : (p : Option HeldData) → held_with_frame bytes held ≡ p → ◌≡◌ {A = Option (ℕ × ViewChangeData)} None (option_map (λ (g : HeldData). (g.sender, g.change)) p) → ⊥
     go None e f = none_in held bytes e h has same
     go (Some g) e f = absurd cc
 
 -- ---- the view changes for a view, as a list
 
 pub ordered_for : (r : ReceivedState) (view : ℕ) (xs : List (ℕ × ViewChangeData)) → AreReceived r → xs ≡ pairs_for view r.held → ascending xs ≡ true
-ordered_for r view xs are is = subst (λ (ys : List (ℕ × ViewChangeData)). ascending ys ≡ true) (sym is) (held_ordered (configuration_of r) view 0 r.held are.each).order
+ordered_for r view xs are is = subst (λ (ys : List (ℕ × ViewChangeData)). ascending ys ≡ true) (sym is) (held_ordered (judging_configuration r) view 0 r.held are.each).order
 
 pub fit_for : (r : ReceivedState) (view : ℕ) (xs : List (ℕ × ViewChangeData)) → AreReceived r → xs ≡ pairs_for view r.held → are_for view xs (sized r.sizes) ≡ true
-fit_for r view xs are is = subst (λ (ys : List (ℕ × ViewChangeData)). are_for view ys (sized r.sizes) ≡ true) (sym is) (held_ordered (configuration_of r) view 0 r.held are.each).fit
+fit_for r view xs are is = subst (λ (ys : List (ℕ × ViewChangeData)). are_for view ys (sized r.sizes) ≡ true) (sym is) (held_ordered (judging_configuration r) view 0 r.held are.each).fit

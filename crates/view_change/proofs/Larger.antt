@@ -14,13 +14,13 @@ use Rattle.protocol.proofs.Words.Lists.{passes_change, largest_of-ge, change_the
 use Rattle.protocol.proofs.Words.Elements.{each_has}
 use Rattle.protocol.proofs.Agreement.Marks.{largest_of-le}
 use Rattle.protocol.proofs.Words.Elements.{all_where}
-use Rattle.view_change.specs.Selecting.{is_set_for, meets, how_many_from, IsPart, AreFrom}
+use Rattle.view_change.specs.Selecting.{is_set_for, meets, how_many_from, IsPartOfSet, AreFrom}
 use Rattle.view_change.specs.Laws.{SelectsBySet, LargerSetsAllow}
 
 -- ---- members of a set in ascending order
 
 -- an entry that a replica has in the part, it has in the whole
-pub same_change : (small large : List (ℕ × ViewChangeData)) (s : ℕ) (vc : ViewChangeData) → IsPart small large → ascending large ≡ true → change_by small s ≡ Some vc → change_by large s ≡ Some vc
+pub same_change : (small large : List (ℕ × ViewChangeData)) (s : ℕ) (vc : ViewChangeData) → IsPartOfSet small large → ascending large ≡ true → change_by small s ≡ Some vc → change_by large s ≡ Some vc
 same_change small large s vc part order is =
     change_of large s vc order (each_has (λ x. Has (λ y. y ≡ x) large) small (s, vc) part (change_there small s vc is))
 
@@ -36,7 +36,7 @@ count_weaker c test other set f =
     count_mono (passes_by test set) (passes_by other set) (replicas c)
     (λ s within h. let r = passes_change test set s h in passes_of other set s r.0 r.1 (f s r.0 r.1 r.2))
 
-count_more : (c : Configuration) (test : ViewChangeData → Bool) (small large : List (ℕ × ViewChangeData)) → IsPart small large → ascending large ≡ true → count_in c test small ≤ count_in c test large
+count_more : (c : Configuration) (test : ViewChangeData → Bool) (small large : List (ℕ × ViewChangeData)) → IsPartOfSet small large → ascending large ≡ true → count_in c test small ≤ count_in c test large
 count_more c test small large part order =
     count_mono (passes_by test small) (passes_by test large) (replicas c)
     (λ s within h. let r = passes_change test small s h in passes_of test large s r.0 (same_change small large s r.0 part order r.1) r.2)
@@ -44,17 +44,17 @@ count_more c test small large part order =
 pub more_than : (k a b : ℕ) → nat_le k a ≡ true → a ≤ b → nat_le k b ≡ true
 more_than k a b h l = let m = leb-true k a h in le-leb k b (omega arith)
 
-quorum_more : (c : Configuration) (test : ViewChangeData → Bool) (small large : List (ℕ × ViewChangeData)) → IsPart small large → ascending large ≡ true
+quorum_more : (c : Configuration) (test : ViewChangeData → Bool) (small large : List (ℕ × ViewChangeData)) → IsPartOfSet small large → ascending large ≡ true
     → is_quorum c (count_in c test small) ≡ true → is_quorum c (count_in c test large) ≡ true
 quorum_more c test small large part order h = more_than (2 * c.faults + 1) (count_in c test small) (count_in c test large) h (count_more c test small large part order)
 
-weak_more : (c : Configuration) (test : ViewChangeData → Bool) (small large : List (ℕ × ViewChangeData)) → IsPart small large → ascending large ≡ true
+weak_more : (c : Configuration) (test : ViewChangeData → Bool) (small large : List (ℕ × ViewChangeData)) → IsPartOfSet small large → ascending large ≡ true
     → is_weak_quorum c (count_in c test small) ≡ true → is_weak_quorum c (count_in c test large) ≡ true
 weak_more c test small large part order h = more_than (c.faults + 1) (count_in c test small) (count_in c test large) h (count_more c test small large part order)
 
 -- ---- the rules
 
-start_more : (c : Configuration) (start : ℕ) (root : List ℕ) (small large : List (ℕ × ViewChangeData)) → IsPart small large → ascending large ≡ true
+start_more : (c : Configuration) (start : ℕ) (root : List ℕ) (small large : List (ℕ × ViewChangeData)) → IsPartOfSet small large → ascending large ≡ true
     → is_start c small start root ≡ true → is_start c large start root ≡ true
 start_more c start root small large part order h =
     let lows : ViewChangeData → Bool = λ vc. nat_le vc.low start in
@@ -63,7 +63,7 @@ start_more c start root small large part order h =
     and_from (is_quorum c (count_in c lows large)) (is_weak_quorum c (count_in c lists large))
     (quorum_more c lows small large part order p.0) (weak_more c lists small large part order p.1)
 
-stand_at_more : (c : Configuration) (i : ℕ) (d : List ℕ) (v : ℕ) (small large : List (ℕ × ViewChangeData)) → IsPart small large → ascending large ≡ true
+stand_at_more : (c : Configuration) (i : ℕ) (d : List ℕ) (v : ℕ) (small large : List (ℕ × ViewChangeData)) → IsPartOfSet small large → ascending large ≡ true
     → may_stand_at c small i d v ≡ true → may_stand_at c large i d v ≡ true
 stand_at_more c i d v small large part order h =
     let against : ViewChangeData → Bool = λ vc. nat_lt vc.low i && agrees i v d vc in
@@ -71,12 +71,12 @@ stand_at_more c i d v small large part order h =
     and_from (is_quorum c (count_in c against large)) (is_weak_quorum c (count_in c (vouches i v d) large))
     (quorum_more c against small large part order p.0) (weak_more c (vouches i v d) small large part order p.1)
 
-null_more : (c : Configuration) (i : ℕ) (small large : List (ℕ × ViewChangeData)) → IsPart small large → ascending large ≡ true
+null_more : (c : Configuration) (i : ℕ) (small large : List (ℕ × ViewChangeData)) → IsPartOfSet small large → ascending large ≡ true
     → may_be_null c small i ≡ true → may_be_null c large i ≡ true
 null_more c i small large part order h =
     quorum_more c (λ vc. nat_lt vc.low i && list_all (λ (entry : BatchEntry). not (entry.number == i)) vc.prepared) small large part order h
 
-stand_more : (c : Configuration) (view i : ℕ) (batch : List ℕ) (small large : List (ℕ × ViewChangeData)) → IsPart small large → ascending large ≡ true
+stand_more : (c : Configuration) (view i : ℕ) (batch : List ℕ) (small large : List (ℕ × ViewChangeData)) → IsPartOfSet small large → ascending large ≡ true
     → may_stand c view small i batch ≡ true → may_stand c view large i batch ≡ true
 stand_more c view i batch small large part order h = go (or_cases (is_some_below (may_stand_at c small i (sha256 batch)) view) (is_null batch && may_be_null c small i) h)
   where
@@ -91,7 +91,7 @@ stand_more c view i batch small large part order h = go (or_cases (is_some_below
         or_right (is_some_below (may_stand_at c large i (sha256 batch)) view) (is_null batch && may_be_null c large i)
         (and_from (is_null batch) (may_be_null c large i) p.0 (null_more c i small large part order p.1))
 
-all_stand_more : (c : Configuration) (view i : ℕ) (batches : List (List ℕ)) (small large : List (ℕ × ViewChangeData)) → IsPart small large → ascending large ≡ true
+all_stand_more : (c : Configuration) (view i : ℕ) (batches : List (List ℕ)) (small large : List (ℕ × ViewChangeData)) → IsPartOfSet small large → ascending large ≡ true
     → may_all_stand c view small i batches ≡ true → may_all_stand c view large i batches ≡ true
 all_stand_more c view i [] small large part order h = refl
 all_stand_more c view i (batch ∷ batches) small large part order h =
@@ -101,7 +101,7 @@ all_stand_more c view i (batch ∷ batches) small large part order h =
 
 -- ---- how many batches
 
-largest_more : (limit : ℕ) (small large : List (ℕ × ViewChangeData)) → IsPart small large → largest_of limit small ≤ largest_of limit large
+largest_more : (limit : ℕ) (small large : List (ℕ × ViewChangeData)) → IsPartOfSet small large → largest_of limit small ≤ largest_of limit large
 largest_more limit [] large part = omega arith
 largest_more limit (x ∷ xs) large part =
     let first = within limit x large part.0 in

@@ -11,9 +11,9 @@ use Rattle.protocol.specs.Replica.Certificates.{is_later}
 use Rattle.protocol.specs.Replica.Selection.{change_in, changes_of, count_in, is_quorum, is_within, list_of, may_select, signed_change}
 use Rattle.view_change.specs.declared.fault.NewViewFault.{NewViewFault}
 use Rattle.view_change.specs.declared.fault.NewViewFault.TheVariants.{UnknownSender, WrongView, BadSignature, TooFew, NotSelected}
-use Rattle.view_change.specs.Checking.{refusal}
-use Rattle.view_change.specs.Laws.{AreAlike, SizesDecide}
-use Rattle.view_change.specs.ReceivedData.{HeldData, refusal_of}
+use Rattle.view_change.specs.Checking.{new_view_refusal}
+use Rattle.view_change.specs.Laws.{AreAlikeConfigurations, SizesDecide}
+use Rattle.view_change.specs.ReceivedData.{HeldData, view_change_refusal}
 use Rattle.view_change.specs.Selecting.{are_for, is_set_for, meets}
 use Rattle.view_change.proofs.Claiming.{same_truth}
 use Rattle.view_change.proofs.Larger.{selects_by_set}
@@ -54,36 +54,36 @@ pub of_sizes : ℕ → ℕ → Configuration
 of_sizes faults period = record { faults = faults; clients = 1; seed = []; period = period; faulty_replicas = []; faulty_clients = [] }
 
 -- words that depend on the two sizes alone
-by_sizes : {A : Type 0} (f : Configuration → A) → ((c : Configuration) → f c ≡ f (of_sizes c.faults c.period)) → (c d : Configuration) → AreAlike c d → f c ≡ f d
+by_sizes : {A : Type 0} (f : Configuration → A) → ((c : Configuration) → f c ≡ f (of_sizes c.faults c.period)) → (c d : Configuration) → AreAlikeConfigurations c d → f c ≡ f d
 by_sizes f sized c d alike = sized c ∙ ap₂ (λ n p. f (of_sizes n p)) alike.faults alike.period ∙ sym (sized d)
 
-within_same : (c d : Configuration) → AreAlike c d → (vc : ViewChangeData) → is_within c vc ≡ is_within d vc
+within_same : (c d : Configuration) → AreAlikeConfigurations c d → (vc : ViewChangeData) → is_within c vc ≡ is_within d vc
 unfolding of_sizes
 within_same c d alike vc = by_sizes (λ x. is_within x vc) (λ x. refl) c d alike
 
-sets_same : (c d : Configuration) → AreAlike c d → (view : ℕ) (set : List (ℕ × ViewChangeData)) → are_for view set c ≡ are_for view set d
+sets_same : (c d : Configuration) → AreAlikeConfigurations c d → (view : ℕ) (set : List (ℕ × ViewChangeData)) → are_for view set c ≡ are_for view set d
 unfolding of_sizes
 sets_same c d alike view set = by_sizes (are_for view set) (λ x. refl) c d alike
 
-meets_same : (c d : Configuration) → AreAlike c d → (view : ℕ) (set : List (ℕ × ViewChangeData)) (start : ℕ) (root : List ℕ) (batches : List (List ℕ))
+meets_same : (c d : Configuration) → AreAlikeConfigurations c d → (view : ℕ) (set : List (ℕ × ViewChangeData)) (start : ℕ) (root : List ℕ) (batches : List (List ℕ))
     → meets c view set start root batches ≡ meets d view set start root batches
 unfolding of_sizes
 meets_same c d alike view set start root batches = by_sizes (λ x. meets x view set start root batches) (λ x. refl) c d alike
 
-set_same : (c d : Configuration) → AreAlike c d → (view : ℕ) (set : List (ℕ × ViewChangeData)) → is_set_for c view set ≡ is_set_for d view set
+set_same : (c d : Configuration) → AreAlikeConfigurations c d → (view : ℕ) (set : List (ℕ × ViewChangeData)) → is_set_for c view set ≡ is_set_for d view set
 unfolding of_sizes
 set_same c d alike view set = by_sizes (λ x. is_set_for x view set) (λ x. refl) c d alike
 
-untaken_same : (c d : Configuration) → AreAlike c d → (view : ℕ) (held : List (Option HeldData)) (x : ℕ × ViewChangeData) → refusal_of c view held x ≡ refusal_of d view held x
+untaken_same : (c d : Configuration) → AreAlikeConfigurations c d → (view : ℕ) (held : List (Option HeldData)) (x : ℕ × ViewChangeData) → view_change_refusal c view held x ≡ view_change_refusal d view held x
 unfolding of_sizes
-untaken_same c d alike view held x = by_sizes (λ y. refusal_of y view held x) (λ y. refl) c d alike
+untaken_same c d alike view held x = by_sizes (λ y. view_change_refusal y view held x) (λ y. refl) c d alike
 
 -- ---- new views
 
-of_changes : (c d : Configuration) → AreAlike c d → (new : NewViewData) → changes_of c new ≡ changes_of d new
+of_changes : (c d : Configuration) → AreAlikeConfigurations c d → (new : NewViewData) → changes_of c new ≡ changes_of d new
 of_changes c d alike new = ap list_of (changes_same c d new.changes alike.seed alike.faults)
 
-selected_too : (c d : Configuration) → AreAlike c d → (new : NewViewData) → may_select c new ≡ true → may_select d new ≡ true
+selected_too : (c d : Configuration) → AreAlikeConfigurations c d → (new : NewViewData) → may_select c new ≡ true → may_select d new ≡ true
 selected_too c d alike new h =
     let r = (selects_by_set c new).0 h in
     let e = of_changes c d alike new in
@@ -93,10 +93,10 @@ selected_too c d alike new h =
       subst (λ (xs : List (ℕ × ViewChangeData)). meets d new.view xs new.start new.root new.batches ≡ true) e (sym (meets_same c d alike new.view (changes_of c new) new.start new.root new.batches) ∙ r.2),
     )
 
-turned : (c d : Configuration) → AreAlike c d → AreAlike d c
+turned : (c d : Configuration) → AreAlikeConfigurations c d → AreAlikeConfigurations d c
 turned c d alike = record { seed = sym alike.seed; faults = sym alike.faults; period = sym alike.period }
 
-selected_same : (c d : Configuration) → AreAlike c d → (new : NewViewData) → may_select c new ≡ may_select d new
+selected_same : (c d : Configuration) → AreAlikeConfigurations c d → (new : NewViewData) → may_select c new ≡ may_select d new
 selected_same c d alike new = same_truth (may_select c new) (may_select d new) (selected_too c d alike new) (selected_too d c (turned c d alike) new)
 
 -- the refusal, by its tests
@@ -108,15 +108,15 @@ by_tests sent later signed enough selected =
 enough_in : Configuration → List (ℕ × ViewChangeData) → Bool
 enough_in c set = is_quorum c (count_in c (λ vc. true) set)
 
-enough_same : (c d : Configuration) → AreAlike c d → (set : List (ℕ × ViewChangeData)) → enough_in c set ≡ enough_in d set
+enough_same : (c d : Configuration) → AreAlikeConfigurations c d → (set : List (ℕ × ViewChangeData)) → enough_in c set ≡ enough_in d set
 unfolding of_sizes enough_in
 enough_same c d alike set = by_sizes (λ x. enough_in x set) (λ x. refl) c d alike
 
-sent_same : (c d : Configuration) → AreAlike c d → (sender view : ℕ) → (sender == primary c view) ≡ (sender == primary d view)
+sent_same : (c d : Configuration) → AreAlikeConfigurations c d → (sender view : ℕ) → (sender == primary c view) ≡ (sender == primary d view)
 unfolding of_sizes
 sent_same c d alike sender view = by_sizes (λ x. sender == primary x view) (λ x. refl) c d alike
 
-refused_same : (c d : Configuration) → AreAlike c d → (view target sender : ℕ) (new : NewViewData) → refusal c view target sender new ≡ refusal d view target sender new
+refused_same : (c d : Configuration) → AreAlikeConfigurations c d → (view target sender : ℕ) (new : NewViewData) → new_view_refusal c view target sender new ≡ new_view_refusal d view target sender new
 unfolding by_tests enough_in
 refused_same c d alike view target sender new =
     let changes = of_changes c d alike new in

@@ -8,8 +8,8 @@ use Rattle.protocol.specs.System.Trace.{Has}
 use Rattle.protocol.specs.Replica.Selection.{ascending, is_start, is_within}
 use Rattle.protocol.proofs.Words.Bounds.{bounded}
 use Rattle.wire_format.specs.Messages.{ViewChangeData, CheckpointEntryData as CheckpointEntry}
-use Rattle.view_change.specs.Selecting.{are_for, meets, AreFrom, NothingFrom, Selects, NothingSelects}
-use Rattle.view_change.specs.Filling.{Fills, NothingFills, greater_start, start_in, start_of, SelectsBelow, NothingBelow}
+use Rattle.view_change.specs.Selecting.{are_for, meets, AreFrom, NothingFrom, SelectsNewView, NothingSelects}
+use Rattle.view_change.specs.Filling.{FillsAfterStart, NothingFills, greater_start, start_in, start_of, SelectsBelow, NothingBelow}
 use Rattle.view_change.proofs.Larger.{meets_parts, meets_from, larger_sets_allow}
 use Rattle.view_change.proofs.Gaps.{start_is_listed, starts_are_listed}
 
@@ -116,7 +116,7 @@ pub no_starts : (c : Configuration) (view : ℕ) (set : List (ℕ × ViewChangeD
 no_starts c view set texts limit is start root less = above_none c view set texts limit start root None is less (λ h. absurd h)
 
 pub selected_below : (c : Configuration) (view : ℕ) (set : List (ℕ × ViewChangeData)) (texts : List (List ℕ)) (limit : ℕ) (checkpoint : CheckpointEntry) (batches : List (List ℕ))
-    → Some checkpoint ≡ start_of c set limit set → Fills c view set texts checkpoint.number batches → SelectsBelow c view set texts limit checkpoint.number checkpoint.digest batches
+    → Some checkpoint ≡ start_of c set limit set → FillsAfterStart c view set texts checkpoint.number batches → SelectsBelow c view set texts limit checkpoint.number checkpoint.digest batches
 selected_below c view set texts limit checkpoint batches is f = record {
   meets = meets_from c view set checkpoint.number checkpoint.digest batches (record { begins = (found_start c set limit checkpoint is).begins; long = f.long; stand = f.stand });
   from = f.from;
@@ -181,7 +181,7 @@ start_is_number c view set start root batches fit large =
 -- ---- over the whole set, and its parts
 
 pub selected : (c : Configuration) (view : ℕ) (set : List (ℕ × ViewChangeData)) (texts : List (List ℕ)) (start : ℕ) (root : List ℕ) (batches : List (List ℕ)) → are_for view set c ≡ true
-    → SelectsBelow c view set texts (2 ^ 48) start root batches → Selects c view set texts start root batches
+    → SelectsBelow c view set texts (2 ^ 48) start root batches → SelectsNewView c view set texts start root batches
 selected c view set texts start root batches fit s = record { meets = s.meets; from = s.from; first = s.first; greatest = λ above other more. go above other more (nat_lt above (2 ^ 48)) refl }
   where
     go : (above : ℕ) (other : List ℕ) → start < above → (t : Bool) → nat_lt above (2 ^ 48) ≡ t → NothingFrom c view set texts above other

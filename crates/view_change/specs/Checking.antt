@@ -19,7 +19,7 @@ refusal_by_rules c new =
 -- The first refusal that applies to a new view of the sender. The replica's last new view is of `view`, and its last
 -- view change is for `target`. First the sender is not the primary of the new view; then its view is not above `view`,
 -- or below `target`; then the rules refuse it.
-abbrev pub refusal : Configuration → ℕ → ℕ → ℕ → NewViewData → Option NewViewFault
-refusal c view target sender new =
+abbrev pub new_view_refusal : Configuration → ℕ → ℕ → ℕ → NewViewData → Option NewViewFault
+new_view_refusal c view target sender new =
     if not (sender == primary c new.view) then Some UnknownSender else
     if not (is_later view target new) then Some WrongView else refusal_by_rules c new

@@ -3,7 +3,7 @@ use Rattle.std.specs.Prelude.{◌≡◌, ℕ, suc, ◌<◌, true, false, ◌&&�
 use Rattle.protocol.specs.System.Configuration.{Configuration}
 use Rattle.protocol.specs.Replica.Selection.{is_start, may_stand, may_all_stand}
 use Rattle.wire_format.specs.Messages.{ViewChangeData, CheckpointEntryData as CheckpointEntry}
-use Rattle.view_change.specs.Selecting.{how_many_from, meets, IsFrom, AreFrom, IsFirst, AreFirst, NothingFrom}
+use Rattle.view_change.specs.Selecting.{how_many_from, meets, IsAvailable, AreFrom, IsFirstChoice, AreFirstChoices, NothingFrom}
 
 -- ---- one number
 
@@ -11,23 +11,23 @@ use Rattle.view_change.specs.Selecting.{how_many_from, meets, IsFrom, AreFrom, I
 pub record StandsAt (c : Configuration) (view : ℕ) (set : List (ℕ × ViewChangeData)) (texts : List (List ℕ))
     (number : ℕ) (batch : List ℕ) : Type 0 where
   pub stands : may_stand c view set number batch ≡ true
-  pub from : IsFrom texts batch
-  pub first : IsFirst c set texts number batch
+  pub from : IsAvailable texts batch
+  pub first : IsFirstChoice c set texts number batch
 
 -- No batch may stand at the number.
 abbrev pub NoneStandsAt : Configuration → ℕ → List (ℕ × ViewChangeData) → List (List ℕ) → ℕ → Type 0
 NoneStandsAt c view set texts number =
-    (batch : List ℕ) → IsFrom texts batch → may_stand c view set number batch ≡ false
+    (batch : List ℕ) → IsAvailable texts batch → may_stand c view set number batch ≡ false
 
 -- ---- all numbers
 
 -- All batches after a start.
-pub record Fills (c : Configuration) (view : ℕ) (set : List (ℕ × ViewChangeData)) (texts : List (List ℕ)) (start : ℕ)
+pub record FillsAfterStart (c : Configuration) (view : ℕ) (set : List (ℕ × ViewChangeData)) (texts : List (List ℕ)) (start : ℕ)
     (batches : List (List ℕ)) : Type 0 where
   pub long : length batches ≡ how_many_from c set start
   pub stand : may_all_stand c view set (suc start) batches ≡ true
   pub from : AreFrom texts batches
-  pub first : AreFirst c set texts (suc start) batches
+  pub first : AreFirstChoices c set texts (suc start) batches
 
 -- No batches fill the numbers after the start, whatever its root.
 abbrev pub NothingFills : Configuration → ℕ → List (ℕ × ViewChangeData) → List (List ℕ) → ℕ → Type 0
@@ -58,7 +58,7 @@ pub record SelectsBelow (c : Configuration) (view : ℕ) (set : List (ℕ × Vie
     (limit start : ℕ) (root : List ℕ) (batches : List (List ℕ)) : Type 0 where
   pub meets : meets c view set start root batches ≡ true
   pub from : AreFrom texts batches
-  pub first : AreFirst c set texts (suc start) batches
+  pub first : AreFirstChoices c set texts (suc start) batches
   pub greatest : (above : ℕ) (other : List ℕ) → start < above → above < limit
       → NothingFrom c view set texts above other
 

@@ -4,10 +4,10 @@ use Rattle.std.specs.Option.{option_map_or}
 use Rattle.view_change.specs.ReceivedData.{HeldData}
 
 -- the first view change that is stored with this frame
-abbrev pub frame_in : List ℕ → List (Option HeldData) → Option HeldData
-frame_in bytes [] = None
-frame_in bytes (None ∷ held) = frame_in bytes held
-frame_in bytes (Some h ∷ held) = if bytes_eq h.frame bytes then Some h else frame_in bytes held
+abbrev pub held_with_frame : List ℕ → List (Option HeldData) → Option HeldData
+held_with_frame bytes [] = None
+held_with_frame bytes (None ∷ held) = held_with_frame bytes held
+held_with_frame bytes (Some h ∷ held) = if bytes_eq h.frame bytes then Some h else held_with_frame bytes held
 
 -- the lesser of a view and another one, if there is another; the least of all
 abbrev pub lesser : ℕ → Option ℕ → ℕ

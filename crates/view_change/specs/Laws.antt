@@ -5,9 +5,9 @@ use Rattle.protocol.specs.System.Trace.{Has}
 use Rattle.protocol.specs.Replica.Certificates.{is_later}
 use Rattle.protocol.specs.Replica.Selection.{ascending, changes_of, all_signed, is_within, may_stand_at, is_some_below, may_stand, may_select, signed_change}
 use Rattle.wire_format.specs.Messages.{ViewChangeData, NewViewData, CheckpointEntryData as CheckpointEntry}
-use Rattle.view_change.specs.Checking.{refusal}
-use Rattle.view_change.specs.ReceivedData.{HeldData, held_of, refusal_of}
-use Rattle.view_change.specs.Selecting.{is_set_for, are_for, meets, how_many_from, IsPart, IsFrom, AreFrom, stands_by_entry}
+use Rattle.view_change.specs.Checking.{new_view_refusal}
+use Rattle.view_change.specs.ReceivedData.{HeldData, held_of, view_change_refusal}
+use Rattle.view_change.specs.Selecting.{is_set_for, are_for, meets, how_many_from, IsPartOfSet, IsAvailable, AreFrom, stands_by_entry}
 
 -- A new view may be selected exactly if its view changes are signed and are a set for it, and its start and batches
 -- satisfy the rules over them.
@@ -22,7 +22,7 @@ abbrev pub LargerSetsAllow : Type 0
 LargerSetsAllow =
     (c : Configuration) (view start : ℕ) (root : List ℕ) (small large : List (ℕ × ViewChangeData))
     (texts batches : List (List ℕ))
-    → IsPart small large → ascending small ≡ true → ascending large ≡ true → AreFrom texts batches
+    → IsPartOfSet small large → ascending small ≡ true → ascending large ≡ true → AreFrom texts batches
     → meets c view small start root batches ≡ true
     → (more : List (List ℕ)) × AreFrom texts more × (meets c view large start root more ≡ true)
 
@@ -39,7 +39,7 @@ GapsForbid =
     (c : Configuration) (view start number : ℕ) (root : List ℕ) (set : List (ℕ × ViewChangeData))
     (texts batches : List (List ℕ))
     → start < number → number ≤ start + how_many_from c set start
-    → ((batch : List ℕ) → IsFrom texts batch → may_stand c view set number batch ≡ false)
+    → ((batch : List ℕ) → IsAvailable texts batch → may_stand c view set number batch ≡ false)
     → AreFrom texts batches → meets c view set start root batches ≡ false
 
 -- Some view change of the set lists the start.
@@ -51,7 +51,7 @@ StartsAreListed =
     x.1.checkpoints) set
 
 -- The configurations have the same seed, faults and period.
-pub record AreAlike (c d : Configuration) : Type 0 where
+pub record AreAlikeConfigurations (c d : Configuration) : Type 0 where
   pub seed : c.seed ≡ d.seed
   pub faults : c.faults ≡ d.faults
   pub period : c.period ≡ d.period
@@ -66,19 +66,19 @@ pub record HaveOneRule (c d : Configuration) : Type 0 where
       → meets c view set start root batches ≡ meets d view set start root batches
   pub selected : (new : NewViewData) → may_select c new ≡ may_select d new
   pub refused : (view target sender : ℕ) (new : NewViewData)
-      → refusal c view target sender new ≡ refusal d view target sender new
+      → new_view_refusal c view target sender new ≡ new_view_refusal d view target sender new
   pub untaken : (view : ℕ) (held : List (Option HeldData)) (x : ℕ × ViewChangeData)
-      → refusal_of c view held x ≡ refusal_of d view held x
+      → view_change_refusal c view held x ≡ view_change_refusal d view held x
 
 -- The rules use only the seed, the faults and the period of a configuration.
 abbrev pub SizesDecide : Type 0
-SizesDecide = (c d : Configuration) → AreAlike c d → HaveOneRule c d
+SizesDecide = (c d : Configuration) → AreAlikeConfigurations c d → HaveOneRule c d
 
 -- A replica takes a new view exactly if it is by its primary, satisfies the rules, and is of a later view.
 abbrev pub NewViewsAreJudged : Type 0
 NewViewsAreJudged =
     (c : Configuration) (view target sender : ℕ) (new : NewViewData)
-    → (refusal c view target sender new ≡ None)
+    → (new_view_refusal c view target sender new ≡ None)
     ↔ ((((sender == primary c new.view) && may_select c new) ≡ true) × (is_later view target new ≡ true))
 
 -- A replica takes a view change exactly if its view is later, it is within its bounds, and it is newer than its
@@ -86,6 +86,6 @@ NewViewsAreJudged =
 abbrev pub ChangesAreJudged : Type 0
 ChangesAreJudged =
     (c : Configuration) (view : ℕ) (held : List (Option HeldData)) (x : ℕ × ViewChangeData)
-    → (refusal_of c view held x ≡ None)
+    → (view_change_refusal c view held x ≡ None)
     ↔ ((view < x.1.view) × (is_within c x.1 ≡ true)
     × ((h : HeldData) → held_of held x.0 ≡ Some h → h.change.view < x.1.view))

@@ -27,8 +27,8 @@ held_of held sender = option_and_then (λ o. o) (slice_get held sender)
 
 -- The first refusal that applies to a view change of the sender, at a replica that is active in the view or was last:
 -- its view is not above that view; it is out of its bounds; or it is not newer than the sender's last.
-abbrev pub refusal_of : Configuration → ℕ → List (Option HeldData) → ℕ × ViewChangeData → Option ChangeFault
-refusal_of c view held x =
+abbrev pub view_change_refusal : Configuration → ℕ → List (Option HeldData) → ℕ × ViewChangeData → Option ChangeFault
+view_change_refusal c view held x =
     if not (nat_lt view x.1.view) then Some WrongView else
     if not (is_within c x.1) then Some OutOfBounds else
     if not (option_map_or (λ h. nat_lt h.change.view x.1.view) (held_of held x.0) true) then Some Duplicate else None
@@ -36,7 +36,7 @@ refusal_of c view held x =
 -- before that, the bytes are no view change with its sender's signature
 abbrev pub refusal_of_frame : Configuration → ℕ → List (Option HeldData) → List ℕ → Option ChangeFault
 refusal_of_frame c view held bytes =
-    elim (signed_change c bytes) [ None ↦ Some BadSignature | Some x ↦ refusal_of c view held x ]
+    elim (signed_change c bytes) [ None ↦ Some BadSignature | Some x ↦ view_change_refusal c view held x ]
 
 -- it replaces the sender's last
 abbrev pub with_held : HeldData → List (Option HeldData) → List (Option HeldData)

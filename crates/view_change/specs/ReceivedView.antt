@@ -7,7 +7,7 @@ use Rattle.view_change.specs.declared.changes.Change.{Change}
 use Rattle.view_change.specs.declared.changes.Sizes.{Sizes}
 use Rattle.view_change.specs.declared.changes.SignedChange.{SignedChange}
 use Rattle.view_change.specs.declared.received.Received.TheInside.{Inside}
-use Rattle.view_change.specs.ReceivedData.{HeldData, held_of, with_held, refusal_of, AreHeldFrom}
+use Rattle.view_change.specs.ReceivedData.{HeldData, held_of, with_held, view_change_refusal, AreHeldFrom}
 use Rattle.view_change.specs.Sets.{keyed}
 
 -- the seed of the keys, the sizes, and the stored view changes, one place for each replica
@@ -17,8 +17,8 @@ pub record ReceivedState : Type 0 where
   pub held : List (Option HeldData)
 
 -- the configuration that judges view changes
-abbrev pub configuration_of : ReceivedState → Configuration
-configuration_of r = keyed r.seed r.sizes
+abbrev pub judging_configuration : ReceivedState → Configuration
+judging_configuration r = keyed r.seed r.sizes
 
 -- a view change in its frame
 abbrev pub held_as : Change → List ℕ → HeldData
@@ -36,22 +36,22 @@ received_state r = record { seed = r.keys; sizes = r.sizes; held = held_by r.hel
 -- there is a place for each replica, and each place has its replica's view change
 pub record AreReceived (r : ReceivedState) : Type 0 where
   pub places : length r.held ≡ 3 * r.sizes.faults + 1
-  pub each : AreHeldFrom (configuration_of r) 0 r.held
+  pub each : AreHeldFrom (judging_configuration r) 0 r.held
 
 -- a view change without a fault is added
-pub record IsAdded (old : ReceivedState) (view : ℕ) (h : HeldData) (new : ReceivedState) : Type 0 where
-  pub right : refusal_of (configuration_of old) view old.held (h.sender, h.change) ≡ None
+pub record ViewChangeIsAdded (old : ReceivedState) (view : ℕ) (h : HeldData) (new : ReceivedState) : Type 0 where
+  pub right : view_change_refusal (judging_configuration old) view old.held (h.sender, h.change) ≡ None
   pub held : new ≡ record old { held = with_held h old.held }
 
 -- and the bytes spell it, signed by its sender
 pub record IsFrameAdded (old : ReceivedState) (view : ℕ) (bytes : List ℕ) (new : ReceivedState) : Type 0 where
   pub change : HeldData
   pub frame : change.frame ≡ bytes
-  pub signed : signed_change (configuration_of old) bytes ≡ Some (change.sender, change.change)
-  pub added : IsAdded old view change new
+  pub signed : signed_change (judging_configuration old) bytes ≡ Some (change.sender, change.change)
+  pub added : ViewChangeIsAdded old view change new
 
 -- it is stored with this frame, as its sender signed it
 pub record IsHeldIn (r : ReceivedState) (bytes : List ℕ) (h : HeldData) : Type 0 where
   pub frame : h.frame ≡ bytes
   pub held : held_of r.held h.sender ≡ Some h
-  pub signed : signed_change (configuration_of r) bytes ≡ Some (h.sender, h.change)
+  pub signed : signed_change (judging_configuration r) bytes ≡ Some (h.sender, h.change)

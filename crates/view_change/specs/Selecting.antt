@@ -88,15 +88,15 @@ goes_before c set number d e =
 -- ---- the selection
 
 -- each view change of the one set is in the other
-abbrev pub IsPart : List (ℕ × ViewChangeData) → List (ℕ × ViewChangeData) → Type 0
-IsPart small large = Each (λ x. Has (λ y. y ≡ x) large) small
+abbrev pub IsPartOfSet : List (ℕ × ViewChangeData) → List (ℕ × ViewChangeData) → Type 0
+IsPartOfSet small large = Each (λ x. Has (λ y. y ≡ x) large) small
 
 -- the batch is one of these, or the null batch, which is always available
-abbrev pub IsFrom : List (List ℕ) → List ℕ → Type 0
-IsFrom texts batch = Has (λ text. text ≡ batch) (null_batch ∷ texts)
+abbrev pub IsAvailable : List (List ℕ) → List ℕ → Type 0
+IsAvailable texts batch = Has (λ text. text ≡ batch) (null_batch ∷ texts)
 
 abbrev pub AreFrom : List (List ℕ) → List (List ℕ) → Type 0
-AreFrom texts batches = Each (IsFrom texts) batches
+AreFrom texts batches = Each (IsAvailable texts) batches
 
 -- No such batches satisfy the rules from this start.
 abbrev pub NothingFrom : Configuration → ℕ → List (ℕ × ViewChangeData) → List (List ℕ) → ℕ → List ℕ → Type 0
@@ -104,28 +104,28 @@ NothingFrom c view set texts start root =
     (batches : List (List ℕ)) → AreFrom texts batches → meets c view set start root batches ≡ false
 
 -- no other of the batches goes before this one at the number
-abbrev pub IsFirst : Configuration → List (ℕ × ViewChangeData) → List (List ℕ) → ℕ → List ℕ → Type 0
-IsFirst c set texts number batch =
+abbrev pub IsFirstChoice : Configuration → List (ℕ × ViewChangeData) → List (List ℕ) → ℕ → List ℕ → Type 0
+IsFirstChoice c set texts number batch =
     Each (λ other. goes_before c set number (sha256 other) (sha256 batch) ≡ false) (null_batch ∷ texts)
 
 -- each at its number, from the given one on
-abbrev pub AreFirst : Configuration → List (ℕ × ViewChangeData) → List (List ℕ) → ℕ → List (List ℕ) → Type 0
-AreFirst c set texts number [] = ⊤
-AreFirst c set texts number (batch ∷ batches) =
-    IsFirst c set texts number batch × AreFirst c set texts (suc number) batches
+abbrev pub AreFirstChoices : Configuration → List (ℕ × ViewChangeData) → List (List ℕ) → ℕ → List (List ℕ) → Type 0
+AreFirstChoices c set texts number [] = ⊤
+AreFirstChoices c set texts number (batch ∷ batches) =
+    IsFirstChoice c set texts number batch × AreFirstChoices c set texts (suc number) batches
 
 -- A start and batches, out of these, that satisfy the rules. It is the greatest start from which any do, and at each
 -- number the first batch in order.
-pub record Selects (c : Configuration) (view : ℕ) (set : List (ℕ × ViewChangeData)) (texts : List (List ℕ))
+pub record SelectsNewView (c : Configuration) (view : ℕ) (set : List (ℕ × ViewChangeData)) (texts : List (List ℕ))
     (start : ℕ) (root : List ℕ) (batches : List (List ℕ)) : Type 0 where
   pub meets : meets c view set start root batches ≡ true
   pub from : AreFrom texts batches
-  pub first : AreFirst c set texts (suc start) batches
+  pub first : AreFirstChoices c set texts (suc start) batches
   pub greatest : (above : ℕ) (other : List ℕ) → start < above → NothingFrom c view set texts above other
 
 -- No selection exists over the set, nor over any part of the set.
 abbrev pub NothingSelects : Configuration → ℕ → List (ℕ × ViewChangeData) → List (List ℕ) → Type 0
 NothingSelects c view set texts =
     (part : List (ℕ × ViewChangeData)) (start : ℕ) (root : List ℕ) (batches : List (List ℕ))
-    → IsPart part set → ascending part ≡ true → AreFrom texts batches
+    → IsPartOfSet part set → ascending part ≡ true → AreFrom texts batches
     → meets c view part start root batches ≡ false

@@ -33,8 +33,8 @@ sized s = keyed [] s
 abbrev pub change_pair : Change → ℕ × ViewChangeData
 change_pair x = (x.sender.0, view_change_data x.change)
 
-abbrev pub pairs : List Change → List (ℕ × ViewChangeData)
-pairs xs = map change_pair xs
+abbrev pub changes_by_sender : List Change → List (ℕ × ViewChangeData)
+changes_by_sender xs = map change_pair xs
 
 -- the test of a view change that a rule makes
 abbrev pub test_of : Rule → ViewChangeData → Bool
@@ -56,5 +56,5 @@ abbrev pub signed_changes : Configuration → List (Vec ℕ Global) → List (Op
 signed_changes c frames = map (signed_change c) (map (λ frame. frame.items) frames)
 
 -- each of these, as it is
-abbrev pub given : List (ℕ × ViewChangeData) → List (Option (ℕ × ViewChangeData))
-given xs = map Some xs
+abbrev pub all_present : List (ℕ × ViewChangeData) → List (Option (ℕ × ViewChangeData))
+all_present xs = map Some xs

@@ -3,7 +3,7 @@
 ghost use Rattle.std.specs.Prelude.{◌≡◌, map, true, IfOk};
 ghost use Rattle.protocol.specs.Replica.Selection.{may_select};
 ghost use Rattle.view_change.specs.ReceivedData.{frames_for, pairs_for};
-ghost use Rattle.view_change.specs.ReceivedView.{configuration_of};
+ghost use Rattle.view_change.specs.ReceivedView.{judging_configuration};
 ghost use Rattle.view_change.specs.Selecting.{meets};
 ghost use Rattle.view_change.specs.Sets.{sized, texts_of};
 ghost use Rattle.wire_format.specs.Lists.{Each};
@@ -40,7 +40,7 @@ pub fn assemble(
       root = selected.now.root;
       batches = texts_of selected.now.batches.items;
     }) }
-    ensures right { IfOk result (λ new. may_select (configuration_of received.now) (new_view_data new) ≡ true) }
+    ensures right { IfOk result (λ new. may_select (judging_configuration received.now) (new_view_data new) ≡ true) }
     ensures said { IfOk result (λ new. IsNewView (new_view_data new)) }
 {
     note_digest(&selected.root);

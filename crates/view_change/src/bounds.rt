@@ -7,7 +7,7 @@ ghost use Rattle.protocol.specs.Replica.Selection as selection;
 ghost use Rattle.wire_format.specs.Views.{batch_entry_data, checkpoint_entry_data, view_change_data};
 ghost use Rattle.view_change.specs.Bounds as bounds;
 ghost use Rattle.view_change.specs.Selecting.{are_for};
-ghost use Rattle.view_change.specs.Sets.{pairs, sized};
+ghost use Rattle.view_change.specs.Sets.{changes_by_sender, sized};
 
 use crate::changes::{Change, Sizes};
 use terms::View;
@@ -71,7 +71,7 @@ pub(crate) fn is_within(change: &ViewChange, sizes: Sizes) -> bool
 
 /// Whether each view change is for the view and within its bounds.
 pub(crate) fn are_for(set: &[Change], sizes: Sizes, view: View) -> bool
-    ensures { result ≡ are_for view.0 (pairs set.now) (sized sizes) }
+    ensures { result ≡ are_for view.0 (changes_by_sender set.now) (sized sizes) }
 {
     let [change, rest @ ..] = set else {
         return true;
@@ -85,7 +85,7 @@ pub(crate) fn are_for(set: &[Change], sizes: Sizes, view: View) -> bool
 
 /// Whether each sender is above the one before.
 pub(crate) fn is_ascending(set: &[Change]) -> bool
-    ensures { result ≡ selection.ascending (pairs set.now) }
+    ensures { result ≡ selection.ascending (changes_by_sender set.now) }
 {
     let [first, rest @ ..] = set else {
         return true;
@@ -103,7 +103,7 @@ pub(crate) fn is_ascending(set: &[Change]) -> bool
 /// Whether a selection for the view may be made over the view changes: each sender is above the one before, and each
 /// view change is for the view and within its bounds.
 pub fn is_set(set: &[Change], sizes: Sizes, view: View) -> bool
-    ensures { result ≡ (selection.ascending (pairs set.now) && are_for view.0 (pairs set.now) (sized sizes)) }
+    ensures { result ≡ (selection.ascending (changes_by_sender set.now) && are_for view.0 (changes_by_sender set.now) (sized sizes)) }
 {
     is_ascending(set) && are_for(set, sizes, view)
 }

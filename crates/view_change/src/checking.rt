@@ -5,11 +5,11 @@ ghost use Rattle.protocol.specs.System.Configuration as configuration;
 ghost use Rattle.protocol.specs.Replica.Selection as selection;
 ghost use Rattle.protocol.specs.System.Trace.{Has};
 ghost use Rattle.wire_format.specs.Views.{batch_text, new_view_data};
-ghost use Rattle.view_change.specs.Checking.{refusal, refusal_by_rules};
-ghost use Rattle.view_change.specs.ReceivedView.{configuration_of};
+ghost use Rattle.view_change.specs.Checking.{new_view_refusal, refusal_by_rules};
+ghost use Rattle.view_change.specs.ReceivedView.{judging_configuration};
 ghost use Rattle.view_change.specs.Refusing as spec;
 ghost use Rattle.view_change.specs.Selecting as selecting;
-ghost use Rattle.view_change.specs.Sets.{given, pairs, signed_changes, sized};
+ghost use Rattle.view_change.specs.Sets.{all_present, changes_by_sender, signed_changes, sized};
 
 use crate::bounds::{END, are_for, is_ascending};
 use crate::changes::{Change, Rule, Sizes};
@@ -31,8 +31,8 @@ fn is_null(text: &[u8]) -> bool
 
 // Whether the batch may stand at the number.
 fn may_stand(set: &[Change], sizes: Sizes, view: View, number: Number, batch: &Batch) -> bool
-    requires { selecting.are_for view.0 (pairs set.now) (sized sizes) ≡ true }
-    ensures { result ≡ selection.may_stand (sized sizes) view.0 (pairs set.now) number.0 batch.now.text.items }
+    requires { selecting.are_for view.0 (changes_by_sender set.now) (sized sizes) ≡ true }
+    ensures { result ≡ selection.may_stand (sized sizes) view.0 (changes_by_sender set.now) number.0 batch.now.text.items }
 {
     let digest = Sha256::digest(&batch.text);
     let claimed = stands(set, sizes, number, &digest, set);
@@ -42,9 +42,9 @@ fn may_stand(set: &[Change], sizes: Sizes, view: View, number: Number, batch: &B
 
 // Whether each batch may stand at its number, from the given one on.
 fn may_all_stand(set: &[Change], sizes: Sizes, view: View, number: u64, batches: &[Batch]) -> bool
-    requires set { selecting.are_for view.0 (pairs set.now) (sized sizes) ≡ true }
+    requires set { selecting.are_for view.0 (changes_by_sender set.now) (sized sizes) ≡ true }
     requires room { number + length batches.now < 2 ^ 63 }
-    ensures { result ≡ selection.may_all_stand (sized sizes) view.0 (pairs set.now) number
+    ensures { result ≡ selection.may_all_stand (sized sizes) view.0 (changes_by_sender set.now) number
         (map batch_text batches.now) }
 {
     let [batch, rest @ ..] = batches else {
@@ -59,8 +59,8 @@ fn may_all_stand(set: &[Change], sizes: Sizes, view: View, number: u64, batches:
 
 // Whether the start and the batches satisfy the rules.
 fn meets(set: &[Change], sizes: Sizes, new: &NewView) -> bool
-    requires { selecting.are_for new.now.view.0 (pairs set.now) (sized sizes) ≡ true }
-    ensures { result ≡ selecting.meets (sized sizes) new.now.view.0 (pairs set.now) new.now.start.0 new.now.root
+    requires { selecting.are_for new.now.view.0 (changes_by_sender set.now) (sized sizes) ≡ true }
+    ensures { result ≡ selecting.meets (sized sizes) new.now.view.0 (changes_by_sender set.now) new.now.start.0 new.now.root
         (map batch_text new.now.batches.items) }
 {
     if new.start.0 >= END {
@@ -80,13 +80,13 @@ fn meets(set: &[Change], sizes: Sizes, new: &NewView) -> bool
 
 // Whether the new view passes over the set of its view changes, except for their number.
 fn passes(set: &[Change], sizes: Sizes, new: &NewView) -> bool
-    ensures { result ≡ spec.passes (sized sizes) (pairs set.now) (new_view_data new.now) }
+    ensures { result ≡ spec.satisfies_rules (sized sizes) (changes_by_sender set.now) (new_view_data new.now) }
 {
     is_ascending(set) && are_for(set, sizes, new.view) && meets(set, sizes, new)
 }
 
 fn refusal_over(set: &[Change], sizes: Sizes, new: &NewView) -> Option<NewViewFault>
-    ensures { result ≡ spec.refusal_over (sized sizes) (pairs set.now) (new_view_data new.now) }
+    ensures { result ≡ spec.refusal_over (sized sizes) (changes_by_sender set.now) (new_view_data new.now) }
 {
     if !has_quorum(set, sizes, &Rule::Any) {
         return Some(NewViewFault::TooFew);
@@ -105,10 +105,10 @@ fn open_changes(
     frames: &[Vec<u8>],
     changes: &mut Vec<Change>,
 ) -> Result<bool, NoMemory>
-    ensures all { IfOk result (λ all. all ≡ true → given (pairs changes.new.items)
-        ≡ given (pairs changes.old.items) ++ signed_changes (configuration_of received.now) frames.now) }
+    ensures all { IfOk result (λ all. all ≡ true → all_present (changes_by_sender changes.new.items)
+        ≡ all_present (changes_by_sender changes.old.items) ++ signed_changes (judging_configuration received.now) frames.now) }
     ensures some { IfOk result (λ all. all ≡ false
-        → Has (λ o. o ≡ None) (signed_changes (configuration_of received.now) frames.now)) }
+        → Has (λ o. o ≡ None) (signed_changes (judging_configuration received.now) frames.now)) }
 {
     let [frame, rest @ ..] = frames else {
         return Ok(true);
@@ -128,7 +128,7 @@ fn refusal_by_rules(
     received: &Received,
     new: &NewView,
 ) -> Result<Option<NewViewFault>, NoMemory>
-    ensures { IfOk result (λ fault. fault ≡ refusal_by_rules (configuration_of received.now) (new_view_data new.now)) }
+    ensures { IfOk result (λ fault. fault ≡ refusal_by_rules (judging_configuration received.now) (new_view_data new.now)) }
 {
     let mut set = Vec::new(alloc);
     if !open_changes(alloc, received, &new.changes, &mut set)? {
@@ -166,10 +166,10 @@ pub fn check_new_view(
     sender: ReplicaId,
     new: &NewView,
 ) -> Result<(), NewViewFault>
-    ensures ok { OnOk result (refusal (configuration_of received.now) view.0 target.0 sender.0
+    ensures ok { OnOk result (new_view_refusal (judging_configuration received.now) view.0 target.0 sender.0
         (new_view_data new.now) ≡ None) }
     ensures refused { IfErr result (λ e. e ≢ NewViewFault.NoMemory
-        → refusal (configuration_of received.now) view.0 target.0 sender.0 (new_view_data new.now) ≡ Some e) }
+        → new_view_refusal (judging_configuration received.now) view.0 target.0 sender.0 (new_view_data new.now) ≡ Some e) }
 {
     if !is_from_primary(received.sizes(), sender, new.view) {
         return Err(NewViewFault::UnknownSender);

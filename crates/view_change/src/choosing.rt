@@ -9,7 +9,7 @@ ghost use Rattle.wire_format.specs.Spelling.{bytes_before};
 ghost use Rattle.wire_format.specs.Views.{batch_entry_data, view_change_data};
 ghost use Rattle.view_change.specs.Filling.{StandsAt, NoneStandsAt};
 ghost use Rattle.view_change.specs.Selecting as spec;
-ghost use Rattle.view_change.specs.Sets.{sized, pairs, texts_of};
+ghost use Rattle.view_change.specs.Sets.{sized, changes_by_sender, texts_of};
 
 use crate::changes::{Change, Sizes};
 use crate::rules::{may_be_null, may_stand_at};
@@ -33,7 +33,7 @@ fn is_entry_by(
     digest: &Digest,
     entry: &BatchEntry,
 ) -> bool
-    ensures { result ≡ spec.is_entry_by (sized sizes) (pairs set.now) number.0 digest.now
+    ensures { result ≡ spec.is_entry_by (sized sizes) (changes_by_sender set.now) number.0 digest.now
         (batch_entry_data entry.now) }
 {
     is_entry_for(entry, number, digest) && may_stand_at(set, sizes, number, digest, entry.view.0)
@@ -47,7 +47,7 @@ fn any_stands(
     digest: &Digest,
     entries: &[BatchEntry],
 ) -> bool
-    ensures { result ≡ list_any (λ e. spec.is_entry_by (sized sizes) (pairs set.now) number.0 digest.now
+    ensures { result ≡ list_any (λ e. spec.is_entry_by (sized sizes) (changes_by_sender set.now) number.0 digest.now
         (batch_entry_data e)) entries.now }
 {
     entries
@@ -63,7 +63,7 @@ fn stands_by(
     digest: &Digest,
     change: &ViewChange,
 ) -> bool
-    ensures { result ≡ list_any (spec.is_entry_by (sized sizes) (pairs set.now) number.0 digest.now)
+    ensures { result ≡ list_any (spec.is_entry_by (sized sizes) (changes_by_sender set.now) number.0 digest.now)
         (view_change_data change.now).pre_prepared }
 {
     any_stands(set, sizes, number, digest, &change.pre_prepared)
@@ -77,7 +77,7 @@ pub(crate) fn stands(
     digest: &Digest,
     some: &[Change],
 ) -> bool
-    ensures { result ≡ spec.stands_by_entry (sized sizes) (pairs set.now) number.0 digest.now (pairs some.now) }
+    ensures { result ≡ spec.stands_by_entry (sized sizes) (changes_by_sender set.now) number.0 digest.now (changes_by_sender some.now) }
 {
     let [change, rest @ ..] = some else {
         return false;
@@ -97,7 +97,7 @@ fn latest_in(
     digest: &Digest,
     entries: &[BatchEntry],
 ) -> u64
-    ensures { result ≡ spec.latest_in (sized sizes) (pairs set.now) number.0 digest.now
+    ensures { result ≡ spec.latest_in (sized sizes) (changes_by_sender set.now) number.0 digest.now
         (map batch_entry_data entries.now) }
 {
     let mut latest = 0;
@@ -111,7 +111,7 @@ fn latest_in(
 
 // The same over the entries of the view changes in `some`.
 fn latest_of(set: &[Change], sizes: Sizes, number: Number, digest: &Digest, some: &[Change]) -> u64
-    ensures { result ≡ spec.latest_of (sized sizes) (pairs set.now) number.0 digest.now (pairs some.now) }
+    ensures { result ≡ spec.latest_of (sized sizes) (changes_by_sender set.now) number.0 digest.now (changes_by_sender some.now) }
 {
     let [change, rest @ ..] = some else {
         return 0;
@@ -137,7 +137,7 @@ fn is_prepared_by(change: &ViewChange, number: Number, digest: &Digest) -> bool
 }
 
 fn is_prepared_in(set: &[Change], number: Number, digest: &Digest) -> bool
-    ensures { result ≡ spec.is_prepared_in (pairs set.now) number.0 digest.now }
+    ensures { result ≡ spec.is_prepared_in (changes_by_sender set.now) number.0 digest.now }
 {
     let [change, rest @ ..] = set else {
         return false;
@@ -151,7 +151,7 @@ fn is_prepared_in(set: &[Change], number: Number, digest: &Digest) -> bool
 
 // Of two digests a prepared one goes first, else the lesser one.
 fn precedes(set: &[Change], number: Number, digest: &Digest, other: &Digest) -> bool
-    ensures { result ≡ spec.precedes (pairs set.now) number.0 digest.now other.now }
+    ensures { result ≡ spec.precedes (changes_by_sender set.now) number.0 digest.now other.now }
 {
     if is_prepared_in(set, number, digest) {
         !is_prepared_in(set, number, other) || is_less(digest, other)
@@ -162,7 +162,7 @@ fn precedes(set: &[Change], number: Number, digest: &Digest, other: &Digest) -> 
 
 // Before that, the one of the latest view.
 fn outranks(set: &[Change], sizes: Sizes, number: Number, digest: &Digest, other: &Digest) -> bool
-    ensures { result ≡ spec.outranks (sized sizes) (pairs set.now) number.0 digest.now other.now }
+    ensures { result ≡ spec.outranks (sized sizes) (changes_by_sender set.now) number.0 digest.now other.now }
 {
     let latest = latest_of(set, sizes, number, digest, set);
     let other_latest = latest_of(set, sizes, number, other, set);
@@ -183,7 +183,7 @@ fn goes_before(
     digest: &Digest,
     other: &Digest,
 ) -> bool
-    ensures { result ≡ spec.goes_before (sized sizes) (pairs set.now) number.0 digest.now other.now }
+    ensures { result ≡ spec.goes_before (sized sizes) (changes_by_sender set.now) number.0 digest.now other.now }
 {
     stands(set, sizes, number, digest, set)
         && (!stands(set, sizes, number, other, set) || outranks(set, sizes, number, digest, other))
@@ -198,11 +198,11 @@ pub(crate) fn choose<'a>(
     held: &'a [Arc<HashedBatch>],
     null: &'a Arc<HashedBatch>,
 ) -> Option<&'a Arc<HashedBatch>>
-    requires set { spec.are_for view.0 (pairs set.now) (sized sizes) ≡ true }
+    requires set { spec.are_for view.0 (changes_by_sender set.now) (sized sizes) ≡ true }
     requires null { arc_value null.now ≡ null_batch }
-    ensures some { IfSome result (λ b. StandsAt (sized sizes) view.0 (pairs set.now) (texts_of held.now) number.0
+    ensures some { IfSome result (λ b. StandsAt (sized sizes) view.0 (changes_by_sender set.now) (texts_of held.now) number.0
         (arc_value b.now)) }
-    ensures none { IfNone result (NoneStandsAt (sized sizes) view.0 (pairs set.now) (texts_of held.now) number.0) }
+    ensures none { IfNone result (NoneStandsAt (sized sizes) view.0 (changes_by_sender set.now) (texts_of held.now) number.0) }
 {
     let mut best = null;
     for batch in held {

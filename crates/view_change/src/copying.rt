@@ -3,7 +3,7 @@
 ghost use Rattle.std.specs.Prelude.{◌≡◌, ◌++◌, ◌∷◌, [], option_map, IfOk, OnOk};
 ghost use Rattle.view_change.specs.ReceivedData.{frames_for, pairs_for};
 ghost use Rattle.view_change.specs.ReceivedView.{held_by, held_data};
-ghost use Rattle.view_change.specs.Sets.{change_pair, pairs};
+ghost use Rattle.view_change.specs.Sets.{change_pair, changes_by_sender};
 ghost use Rattle.wire_format.specs.Views.{texts_of, view_change_data};
 
 use crate::changes::{Change, SignedChange};
@@ -43,8 +43,8 @@ fn add_change(
     view: View,
     changes: &mut Vec<Change>,
 ) -> Result<(), NoMemory>
-    ensures { OnOk result (pairs changes.new.items
-        ≡ pairs changes.old.items ++ pairs_for view.0 (option_map held_data signed.now ∷ [])) }
+    ensures { OnOk result (changes_by_sender changes.new.items
+        ≡ changes_by_sender changes.old.items ++ pairs_for view.0 (option_map held_data signed.now ∷ [])) }
 {
     let Some(signed) = signed else {
         return Ok(());
@@ -62,7 +62,7 @@ pub(crate) fn copy_changes(
     held: &[Option<SignedChange>],
     view: View,
 ) -> Result<Vec<Change>, NoMemory>
-    ensures { IfOk result (λ changes. pairs changes.items ≡ pairs_for view.0 (held_by held.now)) }
+    ensures { IfOk result (λ changes. changes_by_sender changes.items ≡ pairs_for view.0 (held_by held.now)) }
 {
     let mut changes = Vec::new(alloc);
     for signed in held {

@@ -7,9 +7,9 @@ ghost use Rattle.protocol.specs.System.Trace.{Has};
 ghost use Rattle.view_change.specs.Finding as finding;
 ghost use Rattle.view_change.specs.ReceivedData as spec;
 ghost use Rattle.view_change.specs.ReceivedData.{HeldData, IsHeldSet, IsJoined, frames_for, held_of, later_views, pairs_for};
-ghost use Rattle.view_change.specs.ReceivedView.{AreReceived, configuration_of, held_as, held_by, held_data, IsAdded, IsFrameAdded, IsHeldIn};
+ghost use Rattle.view_change.specs.ReceivedView.{AreReceived, judging_configuration, held_as, held_by, held_data, ViewChangeIsAdded, IsFrameAdded, IsHeldIn};
 ghost use Rattle.view_change.specs.Selecting.{are_for};
-ghost use Rattle.view_change.specs.Sets.{change_pair, pairs, sized};
+ghost use Rattle.view_change.specs.Sets.{change_pair, changes_by_sender, sized};
 ghost use Rattle.wire_format.specs.Views.{texts_of, view_change_data};
 
 use crate::bounds::is_within;
@@ -68,7 +68,7 @@ impl Received {
     pub fn add(&mut self, alloc: Global, view: View, bytes: &[u8]) -> Result<(), ChangeFault>
         ensures ok { OnOk result (IsFrameAdded self.old view.0 bytes.now self.new) }
         ensures refused { IfErr result (λ e. e ≢ ChangeFault.NoMemory
-            → spec.refusal_of_frame (configuration_of self.old) view.0 self.old.held bytes.now ≡ Some e) }
+            → spec.refusal_of_frame (judging_configuration self.old) view.0 self.old.held bytes.now ≡ Some e) }
         ensures err { OnErr result (self.new ≡ self.old) }
     {
         let Some(change) = self.open(alloc, bytes)? else {
@@ -90,10 +90,10 @@ impl Received {
         change: Change,
         bytes: &[u8],
     ) -> Result<(), ChangeFault>
-        requires { selection.signed_change (configuration_of self.old) bytes.now ≡ Some (change_pair change) }
-        ensures ok { OnOk result (IsAdded self.old view.0 (held_as change bytes.now) self.new) }
+        requires { selection.signed_change (judging_configuration self.old) bytes.now ≡ Some (change_pair change) }
+        ensures ok { OnOk result (ViewChangeIsAdded self.old view.0 (held_as change bytes.now) self.new) }
         ensures refused { IfErr result (λ e. e ≢ ChangeFault.NoMemory
-            → spec.refusal_of (configuration_of self.old) view.0 self.old.held (change_pair change) ≡ Some e) }
+            → spec.view_change_refusal (judging_configuration self.old) view.0 self.old.held (change_pair change) ≡ Some e) }
         ensures err { OnErr result (self.new ≡ self.old) }
     {
         if let Some(fault) = self.refusal(view, &change) {
@@ -141,7 +141,7 @@ impl Received {
     /// again. NoMemory if memory runs out.
     pub(crate) fn open(&self, alloc: Global, bytes: &[u8]) -> Result<Option<Change>, NoMemory>
         ensures { IfOk result (λ o. option_map change_pair o
-            ≡ selection.signed_change (configuration_of self.now) bytes.now) }
+            ≡ selection.signed_change (judging_configuration self.now) bytes.now) }
     {
         match held_in(&self.held, bytes) {
             Some(change) => Ok(Some(copy_change(alloc, change)?)),
@@ -164,9 +164,9 @@ impl Received {
     /// The view changes for the view, ascending by their senders, for a selection over them. NoMemory if memory runs
     /// out.
     pub fn changes_for(&self, alloc: Global, view: View) -> Result<Vec<Change>, NoMemory>
-        ensures are { IfOk result (λ changes. pairs changes.items ≡ pairs_for view.0 self.now.held) }
-        ensures order { IfOk result (λ changes. selection.ascending (pairs changes.items) ≡ true) }
-        ensures for_it { IfOk result (λ changes. are_for view.0 (pairs changes.items) (sized self.now.sizes) ≡ true) }
+        ensures are { IfOk result (λ changes. changes_by_sender changes.items ≡ pairs_for view.0 self.now.held) }
+        ensures order { IfOk result (λ changes. selection.ascending (changes_by_sender changes.items) ≡ true) }
+        ensures for_it { IfOk result (λ changes. are_for view.0 (changes_by_sender changes.items) (sized self.now.sizes) ≡ true) }
     {
         copy_changes(alloc, &self.held, view)
     }
@@ -174,7 +174,7 @@ impl Received {
     /// The frames of the view changes for the view, in the same order. NoMemory if memory runs out.
     pub fn frames_for(&self, alloc: Global, view: View) -> Result<Vec<Vec<u8>>, NoMemory>
         ensures are { IfOk result (λ frames. texts_of frames.items ≡ frames_for view.0 self.now.held) }
-        ensures set { IsHeldSet (configuration_of self.now) view.0 self.now.held }
+        ensures set { IsHeldSet (judging_configuration self.now) view.0 self.now.held }
     {
         copy_frames(alloc, &self.held, view)
     }
@@ -182,7 +182,7 @@ impl Received {
     /// The reason for which a replica that was last active in the view refuses the view change, if there is one: the
     /// first that applies, in the order of [`ChangeFault`], never the signature.
     pub fn refusal(&self, view: View, change: &Change) -> Option<ChangeFault>
-        ensures { result ≡ spec.refusal_of (configuration_of self.now) view.0 self.now.held (change_pair change.now) }
+        ensures { result ≡ spec.view_change_refusal (judging_configuration self.now) view.0 self.now.held (change_pair change.now) }
     {
         if change.change.view.0 <= view.0 {
             return Some(ChangeFault::WrongView);
@@ -229,7 +229,7 @@ fn in_frame(alloc: Global, change: Change, bytes: &[u8]) -> Result<SignedChange,
 // The view change that is stored with this frame.
 fn held_in<'a>(held: &'a [Option<SignedChange>], bytes: &[u8]) -> Option<&'a Change>
     ensures { option_map (λ change. change_pair change.now) result
-        ≡ option_map (λ h. (h.sender, h.change)) (finding.frame_in bytes.now (held_by held.now)) }
+        ≡ option_map (λ h. (h.sender, h.change)) (finding.held_with_frame bytes.now (held_by held.now)) }
 {
     let [first, rest @ ..] = held else {
         return None;

@@ -4,7 +4,7 @@ ghost use Rattle.std.specs.Prelude.{◌≡◌, ◌+◌, ◌*◌, ◌≤◌, ◌&
 ghost use Rattle.std.specs.List.{list_all, list_any};
 ghost use Rattle.protocol.specs.Replica.Selection as selection;
 ghost use Rattle.wire_format.specs.Views.{view_change_data};
-ghost use Rattle.view_change.specs.Sets.{sized, pairs, test_of};
+ghost use Rattle.view_change.specs.Sets.{sized, changes_by_sender, test_of};
 
 use crate::changes::{Change, Rule, Sizes};
 use terms::{Digest, Number, ReplicaId};
@@ -63,7 +63,7 @@ fn has_none(entries: &[BatchEntry], number: Number) -> bool
 
 // Whether the replica has a view change in the set, and its first one passes.
 fn is_passed_by(set: &[Change], rule: &Rule, replica: ReplicaId) -> bool
-    ensures { result ≡ selection.passes_by (test_of rule.now) (pairs set.now) replica.0 }
+    ensures { result ≡ selection.passes_by (test_of rule.now) (changes_by_sender set.now) replica.0 }
 {
     let [change, rest @ ..] = set else {
         return false;
@@ -77,7 +77,7 @@ fn is_passed_by(set: &[Change], rule: &Rule, replica: ReplicaId) -> bool
 
 // How many different replicas have a view change in the set that passes.
 fn count(set: &[Change], sizes: Sizes, rule: &Rule) -> u8
-    ensures count { result ≡ selection.count_in (sized sizes) (test_of rule.now) (pairs set.now) }
+    ensures count { result ≡ selection.count_in (sized sizes) (test_of rule.now) (changes_by_sender set.now) }
     ensures few { result ≤ 10 }
 {
     let mut count = 0;
@@ -92,7 +92,7 @@ fn count(set: &[Change], sizes: Sizes, rule: &Rule) -> u8
 /// Whether a quorum passes.
 pub(crate) fn has_quorum(set: &[Change], sizes: Sizes, rule: &Rule) -> bool
     ensures { result ≡ selection.is_quorum (sized sizes)
-        (selection.count_in (sized sizes) (test_of rule.now) (pairs set.now)) }
+        (selection.count_in (sized sizes) (test_of rule.now) (changes_by_sender set.now)) }
 {
     2 * sizes.faults + 1 <= count(set, sizes, rule)
 }
@@ -100,14 +100,14 @@ pub(crate) fn has_quorum(set: &[Change], sizes: Sizes, rule: &Rule) -> bool
 // Whether f + 1 pass.
 fn has_weak_quorum(set: &[Change], sizes: Sizes, rule: &Rule) -> bool
     ensures { result ≡ selection.is_weak_quorum (sized sizes)
-        (selection.count_in (sized sizes) (test_of rule.now) (pairs set.now)) }
+        (selection.count_in (sized sizes) (test_of rule.now) (changes_by_sender set.now)) }
 {
     sizes.faults + 1 <= count(set, sizes, rule)
 }
 
 /// Whether a new view may start at this checkpoint.
 pub(crate) fn is_start(set: &[Change], sizes: Sizes, start: Number, root: &Digest) -> bool
-    ensures { result ≡ selection.is_start (sized sizes) (pairs set.now) start.0 root.now }
+    ensures { result ≡ selection.is_start (sized sizes) (changes_by_sender set.now) start.0 root.now }
 {
     has_quorum(set, sizes, &Rule::LowAtMost(start))
         && has_weak_quorum(set, sizes, &Rule::Lists(start, *root))
@@ -121,7 +121,7 @@ pub(crate) fn may_stand_at(
     digest: &Digest,
     view: u64,
 ) -> bool
-    ensures { result ≡ selection.may_stand_at (sized sizes) (pairs set.now) number.0 digest.now view }
+    ensures { result ≡ selection.may_stand_at (sized sizes) (changes_by_sender set.now) number.0 digest.now view }
 {
     has_quorum(set, sizes, &Rule::Agrees(number, view, *digest))
         && has_weak_quorum(set, sizes, &Rule::Vouches(number, view, *digest))
@@ -129,7 +129,7 @@ pub(crate) fn may_stand_at(
 
 /// Whether the null batch may stand at the number.
 pub(crate) fn may_be_null(set: &[Change], sizes: Sizes, number: Number) -> bool
-    ensures { result ≡ selection.may_be_null (sized sizes) (pairs set.now) number.0 }
+    ensures { result ≡ selection.may_be_null (sized sizes) (changes_by_sender set.now) number.0 }
 {
     has_quorum(set, sizes, &Rule::Nothing(number))
 }

@@ -5,9 +5,9 @@ ghost use Rattle.std.specs.Arc.{arc_value};
 ghost use Rattle.protocol.specs.Replica.Selection as selection;
 ghost use Rattle.wire_format.specs.Views.{batch_entry_data, checkpoint_entry_data};
 ghost use Rattle.view_change.specs.Filling as spec;
-ghost use Rattle.view_change.specs.Filling.{Fills, NothingFills, SelectsBelow, NothingBelow};
-ghost use Rattle.view_change.specs.Selecting.{are_for, Selects, NothingSelects};
-ghost use Rattle.view_change.specs.Sets.{sized, pairs, texts_of};
+ghost use Rattle.view_change.specs.Filling.{FillsAfterStart, NothingFills, SelectsBelow, NothingBelow};
+ghost use Rattle.view_change.specs.Selecting.{are_for, SelectsNewView, NothingSelects};
+ghost use Rattle.view_change.specs.Sets.{sized, changes_by_sender, texts_of};
 
 use crate::bounds::END;
 use crate::changes::{Change, Selection, Sizes};
@@ -38,7 +38,7 @@ fn largest(entries: &[BatchEntry], limit: u64) -> u64
 
 /// The largest number up to the limit that the set has prepared.
 pub(crate) fn largest_of(set: &[Change], limit: u64) -> u64
-    ensures { result ≡ selection.largest_of limit (pairs set.now) }
+    ensures { result ≡ selection.largest_of limit (changes_by_sender set.now) }
 {
     let [change, rest @ ..] = set else {
         return 0;
@@ -58,12 +58,12 @@ fn fill(
     held: &[Arc<HashedBatch>],
     null: &Arc<HashedBatch>,
 ) -> Result<Option<Vec<Arc<HashedBatch>>>, NoMemory>
-    requires set { are_for view.0 (pairs set.now) (sized sizes) ≡ true }
+    requires set { are_for view.0 (changes_by_sender set.now) (sized sizes) ≡ true }
     requires start { start.0 < 2 ^ 48 }
     requires null { arc_value null.now ≡ selection.null_batch }
     ensures { IfOk result (λ o. MatchOption o
-        (NothingFills (sized sizes) view.0 (pairs set.now) (texts_of held.now) start.0)
-        (λ batches. Fills (sized sizes) view.0 (pairs set.now) (texts_of held.now) start.0 (texts_of batches.items))) }
+        (NothingFills (sized sizes) view.0 (changes_by_sender set.now) (texts_of held.now) start.0)
+        (λ batches. FillsAfterStart (sized sizes) view.0 (changes_by_sender set.now) (texts_of held.now) start.0 (texts_of batches.items))) }
 {
     let largest = largest_of(set, start.0 + 2 * u64::from(sizes.period));
     let end = if largest < start.0 { start.0 } else { largest };
@@ -104,7 +104,7 @@ fn start_in(
     entries: &[CheckpointEntry],
 ) -> Option<CheckpointEntry>
     ensures { option_map checkpoint_entry_data result
-        ≡ spec.start_in (sized sizes) (pairs set.now) limit (map checkpoint_entry_data entries.now) }
+        ≡ spec.start_in (sized sizes) (changes_by_sender set.now) limit (map checkpoint_entry_data entries.now) }
 {
     let [entry, rest @ ..] = entries else {
         return None;
@@ -120,7 +120,7 @@ fn start_in(
 // The same over the checkpoints of the view changes in `some`.
 fn start_of(set: &[Change], sizes: Sizes, limit: u64, some: &[Change]) -> Option<CheckpointEntry>
     ensures { option_map checkpoint_entry_data result
-        ≡ spec.start_of (sized sizes) (pairs set.now) limit (pairs some.now) }
+        ≡ spec.start_of (sized sizes) (changes_by_sender set.now) limit (changes_by_sender some.now) }
 {
     let [change, rest @ ..] = some else {
         return None;
@@ -139,12 +139,12 @@ fn select_below(
     held: &[Arc<HashedBatch>],
     null: &Arc<HashedBatch>,
 ) -> Result<Option<Selection>, NoMemory>
-    requires set { are_for view.0 (pairs set.now) (sized sizes) ≡ true }
+    requires set { are_for view.0 (changes_by_sender set.now) (sized sizes) ≡ true }
     requires limit { limit < 2 ^ 48 + 1 }
     requires null { arc_value null.now ≡ selection.null_batch }
     ensures { IfOk result (λ o. MatchOption o
-        (NothingBelow (sized sizes) view.0 (pairs set.now) (texts_of held.now) limit)
-        (λ s. SelectsBelow (sized sizes) view.0 (pairs set.now) (texts_of held.now) limit s.start.0 s.root
+        (NothingBelow (sized sizes) view.0 (changes_by_sender set.now) (texts_of held.now) limit)
+        (λ s. SelectsBelow (sized sizes) view.0 (changes_by_sender set.now) (texts_of held.now) limit s.start.0 s.root
         (texts_of s.batches.items))) }
 {
     let Some(entry) = start_of(set, sizes, limit, set) else {
@@ -196,11 +196,11 @@ pub fn select(
     view: View,
     held: &[Arc<HashedBatch>],
 ) -> Result<Option<Selection>, NoMemory>
-    requires order { selection.ascending (pairs set.now) ≡ true }
-    requires set { are_for view.0 (pairs set.now) (sized sizes) ≡ true }
+    requires order { selection.ascending (changes_by_sender set.now) ≡ true }
+    requires set { are_for view.0 (changes_by_sender set.now) (sized sizes) ≡ true }
     ensures { IfOk result (λ o. MatchOption o
-        (NothingSelects (sized sizes) view.0 (pairs set.now) (texts_of held.now))
-        (λ s. Selects (sized sizes) view.0 (pairs set.now) (texts_of held.now) s.start.0 s.root
+        (NothingSelects (sized sizes) view.0 (changes_by_sender set.now) (texts_of held.now))
+        (λ s. SelectsNewView (sized sizes) view.0 (changes_by_sender set.now) (texts_of held.now) s.start.0 s.root
         (texts_of s.batches.items))) }
 {
     let null = null_batch(alloc)?;

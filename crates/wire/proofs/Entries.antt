@@ -9,7 +9,7 @@ use Rattle.wire_format.specs.Lists.{ascends}
 use Rattle.wire_format.specs.Messages.{MacData}
 use Rattle.wire_format.specs.Spelling.{mac_before}
 use Rattle.wire.specs.Macs.{mac_in, macs_in}
-use Rattle.wire_format.specs.Reading.{follows, more_at, digest_at, mac_at, macs_at}
+use Rattle.wire_format.specs.Reading.{comes_after, more_at, digest_at, mac_at, macs_at}
 use Rattle.wire_format.proofs.Forms.{ascends_grows}
 
 pub macs_count : (n : ℕ) (bs : List ℕ) → length (macs_in n bs) ≡ n
@@ -67,18 +67,18 @@ front_ascends (x ∷ y ∷ xs) ys e = both_fail (mac_before x y) (ascends mac_be
 abbrev found : List MacData → ℕ → List ℕ → Option (List MacData × List ℕ)
 found xs n bs = cond (ascends mac_before (xs ++ macs_in n bs)) (Some (xs ++ macs_in n bs, drop (34 * n) bs)) None
 
-more_there : (n : ℕ) (xs : List MacData) (bs : List ℕ) → 34 * n ≤ length bs → ascends mac_before xs ≡ true → more_at mac_at (follows mac_before) n xs bs ≡ found xs n bs
+more_there : (n : ℕ) (xs : List MacData) (bs : List ℕ) → 34 * n ≤ length bs → ascends mac_before xs ≡ true → more_at mac_at (comes_after mac_before) n xs bs ≡ found xs n bs
 more_there zero xs bs l a = rw (append-nil xs, a) refl
 more_there (suc n) xs bs l a =
-    rw (mac_there bs (omega arith)) (cases (follows mac_before xs (mac_in bs)) refl (more_there n (xs ++ mac_in bs ∷ []) (drop 34 bs) (omega (arith, length-drop 34 bs))))
+    rw (mac_there bs (omega arith)) (cases (comes_after mac_before xs (mac_in bs)) refl (more_there n (xs ++ mac_in bs ∷ []) (drop 34 bs) (omega (arith, length-drop 34 bs))))
   where
     seam : (xs ++ mac_in bs ∷ []) ++ macs_in n (drop 34 bs) ≡ xs ++ macs_in (suc n) bs
     seam = append_assoc xs (mac_in bs ∷ []) (macs_in n (drop 34 bs))
 
     more : Option (List MacData × List ℕ)
-    more = more_at mac_at (follows mac_before) n (xs ++ mac_in bs ∷ []) (drop 34 bs)
+    more = more_at mac_at (comes_after mac_before) n (xs ++ mac_in bs ∷ []) (drop 34 bs)
 
-    cases : (b : Bool) → follows mac_before xs (mac_in bs) ≡ b → (ascends mac_before (xs ++ mac_in bs ∷ []) ≡ true → more ≡ found (xs ++ mac_in bs ∷ []) n (drop 34 bs)) → cond b more None ≡ found xs (suc n) bs
+    cases : (b : Bool) → comes_after mac_before xs (mac_in bs) ≡ b → (ascends mac_before (xs ++ mac_in bs ∷ []) ≡ true → more ≡ found (xs ++ mac_in bs ∷ []) n (drop 34 bs)) → cond b more None ≡ found xs (suc n) bs
     cases true f h =
         h (ascends_grows mac_before xs (mac_in bs) ∙ rw (a, f) refl)
         ∙ ap (λ ys. cond (ascends mac_before ys) (Some (ys, drop (34 * n) (drop 34 bs))) None) seam
@@ -88,25 +88,25 @@ more_there (suc n) xs bs l a =
         let none : ascends mac_before (xs ++ macs_in (suc n) bs) ≡ false = ap (ascends mac_before) (sym seam) ∙ front_ascends (xs ++ mac_in bs ∷ []) (macs_in n (drop 34 bs)) bad in
         sym (ap (λ b. cond b (Some (xs ++ macs_in (suc n) bs, drop (34 * suc n) bs)) None) none)
 
-more_missing : (n : ℕ) (xs : List MacData) (bs : List ℕ) → length bs < 34 * n → more_at mac_at (follows mac_before) n xs bs ≡ None
+more_missing : (n : ℕ) (xs : List MacData) (bs : List ℕ) → length bs < 34 * n → more_at mac_at (comes_after mac_before) n xs bs ≡ None
 more_missing zero xs bs l = absurd (omega arith)
 more_missing (suc n) xs bs l = cases (ltb (length bs) 34) refl (λ k. more_missing n (xs ++ mac_in bs ∷ []) (drop 34 bs) (omega (arith, length-drop 34 bs)))
   where
     more : Option (List MacData × List ℕ)
-    more = more_at mac_at (follows mac_before) n (xs ++ mac_in bs ∷ []) (drop 34 bs)
+    more = more_at mac_at (comes_after mac_before) n (xs ++ mac_in bs ∷ []) (drop 34 bs)
 
     neither : (b : Bool) → more ≡ None → cond b more None ≡ None
     neither true h = h
     neither false h = refl
 
-    cases : (b : Bool) → ltb (length bs) 34 ≡ b → (34 ≤ length bs → more ≡ None) → more_at mac_at (follows mac_before) (suc n) xs bs ≡ None
+    cases : (b : Bool) → ltb (length bs) 34 ≡ b → (34 ≤ length bs → more ≡ None) → more_at mac_at (comes_after mac_before) (suc n) xs bs ≡ None
     cases true e h = rw (mac_missing bs (ltb-true (length bs) 34 e)) refl
-    cases false e h = let k : 34 ≤ length bs = ltb-false (length bs) 34 e in rw (mac_there bs k) (neither (follows mac_before xs (mac_in bs)) (h k))
+    cases false e h = let k : 34 ≤ length bs = ltb-false (length bs) 34 e in rw (mac_there bs k) (neither (comes_after mac_before xs (mac_in bs)) (h k))
 
 -- ---- the list from its count
 
 module _ (bs front : List ℕ) (n : ℕ) (e : byte_at bs ≡ Some (n, front)) (some : 1 ≤ n) (few : n ≤ 10) where
-  from_count : macs_at bs ≡ more_at mac_at (follows mac_before) n [] front
+  from_count : macs_at bs ≡ more_at mac_at (comes_after mac_before) n [] front
   unfolding macs_at
   from_count =
       let k : leb 1 n ≡ true = le-leb 1 n some in

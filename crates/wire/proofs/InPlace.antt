@@ -16,7 +16,7 @@ use Rattle.wire_format.specs.Spelling.{message_type, body_spelling, is_signed, s
 use Rattle.wire_format.specs.Faults.{limit_at}
 use Rattle.wire.specs.Headers.{HeaderData, header_of, asks}
 use Rattle.wire.specs.Judging.{ends}
-use Rattle.wire_format.specs.Reading.{passing, more_at, follows, anyhow, all_of, authenticator_of, message_by, body_of, frame_read, piece_at, is_change, is_over, of_some, over_in, mode_at, client_at, digest_at, digests_at, batches_at, request_at, reply_at, page_at}
+use Rattle.wire_format.specs.Reading.{passing, more_at, comes_after, anyhow, whole_value, authenticator_of, message_by, body_of, frame_read, piece_at, is_change, is_over, of_some, over_in, mode_at, client_at, digest_at, digest_list_at, batches_at, request_at, reply_at, page_at}
 use Rattle.wire_format.proofs.Parts.{number_8_reads, mode_reads, piece_reads}
 use Rattle.wire.proofs.Carrying.{is_none, whole_test}
 use Rattle.wire_format.proofs.Plain.{client_reads}
@@ -26,14 +26,14 @@ use Rattle.tuple_codec.specs.declared.bad.Bad.TheVariants as bad
 
 -- ---- readers that end at the end of the bytes
 
-at_end : {A : Type 0} (x : A) (rest : List ℕ) → eqb (length rest) 0 ≡ is_some (all_of (Some (x, rest)))
+at_end : {A : Type 0} (x : A) (rest : List ℕ) → eqb (length rest) 0 ≡ is_some (whole_value (Some (x, rest)))
 at_end x [] = refl
 at_end x (b ∷ bs) = ne_eqb (suc (length bs)) 0 (λ e. omega (arith, e))
 
-pub whole : {A : Type 0} (at : Reader A) (bs : List ℕ) → ends (rest_of (at bs)) ≡ is_some (all_of (at bs))
+pub whole : {A : Type 0} (at : Reader A) (bs : List ℕ) → ends (rest_of (at bs)) ≡ is_some (whole_value (at bs))
 whole at bs = cases (at bs)
   where
-    cases : {A : Type 0} (o : Option (A × List ℕ)) → ends (rest_of o) ≡ is_some (all_of o)
+    cases : {A : Type 0} (o : Option (A × List ℕ)) → ends (rest_of o) ≡ is_some (whole_value o)
     cases None = refl
     cases (Some x) = at_end x.0 x.1
 
@@ -49,49 +49,49 @@ requested o = o >>= λ p. Some (request p.0.0 p.0.1.0 p.0.1.1, p.1)
 abbrev replied : Option ((ℕ × (ℕ × (Mode × (ℕ × Outcome)))) × List ℕ) → Option (MessageData × List ℕ)
 replied o = o >>= λ p. Some (reply p.0.0 p.0.1.0 p.0.1.1.0 p.0.1.1.1.0 p.0.1.1.1.1, p.1)
 
-pub request_no_time : (fs : List ℕ) → number_of 8 fs ≡ None → false ≡ is_some (all_of (request_at fs))
+pub request_no_time : (fs : List ℕ) → number_of 8 fs ≡ None → false ≡ is_some (whole_value (request_at fs))
 unfolding request_at
 request_no_time fs e = sym (rw e refl)
 
-pub request_no_mode : (fs rest : List ℕ) (t : ℕ) → number_of 8 fs ≡ Some (t, rest) → mode_at rest ≡ None → false ≡ is_some (all_of (request_at fs))
+pub request_no_mode : (fs rest : List ℕ) (t : ℕ) → number_of 8 fs ≡ Some (t, rest) → mode_at rest ≡ None → false ≡ is_some (whole_value (request_at fs))
 unfolding request_at
 request_no_mode fs rest t e f = sym (rw (e, f) refl)
 
-pub request_whole : (fs rest op : List ℕ) (t : ℕ) (m : Mode) (b : Bool) → AreBytes fs → number_of 8 fs ≡ Some (t, rest) → mode_at rest ≡ Some (m, op) → (b ≡ true) ↔ ((o : Operation) × SpellsOperation op o) → b ≡ is_some (all_of (request_at fs))
+pub request_whole : (fs rest op : List ℕ) (t : ℕ) (m : Mode) (b : Bool) → AreBytes fs → number_of 8 fs ≡ Some (t, rest) → mode_at rest ≡ Some (m, op) → (b ≡ true) ↔ ((o : Operation) × SpellsOperation op o) → b ≡ is_some (whole_value (request_at fs))
 unfolding request_at
 request_whole fs rest op t m b h e f law =
     let r = number_8_reads.found fs rest t h e in
     let n = mode_reads.found rest op m r.0.bytes f in
     whole_test IsOperation operation_spelling operation_at operation_reads op b n.0.bytes law ∙ sym (rw (e, f) (cases (operation_at op)))
   where
-    ended : (o : Operation) (rest : List ℕ) → is_some (all_of (Some (request t m o, rest))) ≡ is_some (all_of (Some (o, rest)))
+    ended : (o : Operation) (rest : List ℕ) → is_some (whole_value (Some (request t m o, rest))) ≡ is_some (whole_value (Some (o, rest)))
     ended o [] = refl
     ended o (x ∷ xs) = refl
 
-    cases : (o : Option (Operation × List ℕ)) → is_some (all_of (requested (behind t (behind m o)))) ≡ is_some (all_of o)
+    cases : (o : Option (Operation × List ℕ)) → is_some (whole_value (requested (behind t (behind m o)))) ≡ is_some (whole_value o)
     cases None = refl
     cases (Some x) = ended x.0 x.1
 
-pub reply_no_client : (fs : List ℕ) → client_at fs ≡ None → false ≡ is_some (all_of (reply_at fs))
+pub reply_no_client : (fs : List ℕ) → client_at fs ≡ None → false ≡ is_some (whole_value (reply_at fs))
 unfolding reply_at
 reply_no_client fs e = sym (rw e refl)
 
 module _ (fs r : List ℕ) (client : ℕ) (d : client_at fs ≡ Some (client, r)) where
-  pub reply_no_time : number_of 8 r ≡ None → false ≡ is_some (all_of (reply_at fs))
+  pub reply_no_time : number_of 8 r ≡ None → false ≡ is_some (whole_value (reply_at fs))
   unfolding reply_at
   reply_no_time e = sym (rw (d, e) refl)
 
   module _ (s : List ℕ) (t : ℕ) (e : number_of 8 r ≡ Some (t, s)) where
-    pub reply_no_mode : mode_at s ≡ None → false ≡ is_some (all_of (reply_at fs))
+    pub reply_no_mode : mode_at s ≡ None → false ≡ is_some (whole_value (reply_at fs))
     unfolding reply_at
     reply_no_mode f = sym (rw (d, e, f) refl)
 
     module _ (u : List ℕ) (m : Mode) (f : mode_at s ≡ Some (m, u)) where
-      pub reply_no_number : number_of 8 u ≡ None → false ≡ is_some (all_of (reply_at fs))
+      pub reply_no_number : number_of 8 u ≡ None → false ≡ is_some (whole_value (reply_at fs))
       unfolding reply_at
       reply_no_number g = sym (rw (d, e, f, g) refl)
 
-      pub reply_whole : AreBytes fs → (answer : List ℕ) (n : ℕ) (b : Bool) → number_of 8 u ≡ Some (n, answer) → (b ≡ true) ↔ ((o : Outcome) × SpellsOutcome answer o) → b ≡ is_some (all_of (reply_at fs))
+      pub reply_whole : AreBytes fs → (answer : List ℕ) (n : ℕ) (b : Bool) → number_of 8 u ≡ Some (n, answer) → (b ≡ true) ↔ ((o : Outcome) × SpellsOutcome answer o) → b ≡ is_some (whole_value (reply_at fs))
       unfolding reply_at
       reply_whole h answer n b g law =
           let c = client_reads.found fs r client h d in
@@ -100,30 +100,30 @@ module _ (fs r : List ℕ) (client : ℕ) (d : client_at fs ≡ Some (client, r)
           let x = number_8_reads.found u answer n w.0.bytes g in
           whole_test IsOutcome outcome_spelling outcome_at outcome_reads answer b x.0.bytes law ∙ sym (rw (d, e, f, g) (cases (outcome_at answer)))
         where
-          ended : (o : Outcome) (rest : List ℕ) → is_some (all_of (Some (reply client t m n o, rest))) ≡ is_some (all_of (Some (o, rest)))
+          ended : (o : Outcome) (rest : List ℕ) → is_some (whole_value (Some (reply client t m n o, rest))) ≡ is_some (whole_value (Some (o, rest)))
           ended o [] = refl
           ended o (y ∷ ys) = refl
 
-          cases : (o : Option (Outcome × List ℕ)) → is_some (all_of (replied (behind client (behind t (behind m (behind n o)))))) ≡ is_some (all_of o)
+          cases : (o : Option (Outcome × List ℕ)) → is_some (whole_value (replied (behind client (behind t (behind m (behind n o)))))) ≡ is_some (whole_value o)
           cases None = refl
           cases (Some y) = ended y.0 y.1
 
-pub page_uncounted : (fs : List ℕ) → number_of 8 fs ≡ None → false ≡ is_some (all_of (page_at fs))
+pub page_uncounted : (fs : List ℕ) → number_of 8 fs ≡ None → false ≡ is_some (whole_value (page_at fs))
 unfolding page_at
 page_uncounted fs e = sym (rw e refl)
 
-pub page_unplaced : (fs rest : List ℕ) (n : ℕ) → number_of 8 fs ≡ Some (n, rest) → number_of 2 rest ≡ None → false ≡ is_some (all_of (page_at fs))
+pub page_unplaced : (fs rest : List ℕ) (n : ℕ) → number_of 8 fs ≡ Some (n, rest) → number_of 2 rest ≡ None → false ≡ is_some (whole_value (page_at fs))
 unfolding page_at
 page_unplaced fs rest n e f = sym (rw (e, f) refl)
 
-pub page_whole : (fs rest : List ℕ) (n i : ℕ) (text : List ℕ) → number_of 8 fs ≡ Some (n, rest) → number_of 2 rest ≡ Some (i, text) → leb i 1023 ≡ is_some (all_of (page_at fs))
+pub page_whole : (fs rest : List ℕ) (n i : ℕ) (text : List ℕ) → number_of 8 fs ≡ Some (n, rest) → number_of 2 rest ≡ Some (i, text) → leb i 1023 ≡ is_some (whole_value (page_at fs))
 unfolding page_at
 page_whole fs rest n i text e f = sym (rw (e, f) (cases (leb i 1023)))
   where
     placed : Option (ℕ × List ℕ) → Option ((ℕ × ℕ) × List ℕ)
     placed o = o >>= λ y. Some ((n, y.0), y.1)
 
-    cases : (b : Bool) → is_some (all_of (placed (then_some b (i, text)) >>= λ p. Some (page p.0.0 p.0.1 p.1, []))) ≡ b
+    cases : (b : Bool) → is_some (whole_value (placed (then_some b (i, text)) >>= λ p. Some (page p.0.0 p.0.1 p.1, []))) ≡ b
     cases true = refl
     cases false = refl
 
@@ -136,8 +136,8 @@ module _ {A : Type 0} (at : Reader A) where
   pub skip_ended : (n i : ℕ) (bs : List ℕ) → n ≤ i → rest_of (more_at at anyhow (n - i) [] bs) ≡ Some bs
   skip_ended n i bs p = let s : n - i ≡ 0 = omega arith in rw s refl
 
-pub digests_are : (n : ℕ) (bs : List ℕ) → digests_at n bs ≡ more_at digest_at anyhow n [] bs
-unfolding digests_at
+pub digests_are : (n : ℕ) (bs : List ℕ) → digest_list_at n bs ≡ more_at digest_at anyhow n [] bs
+unfolding digest_list_at
 digests_are n bs = refl
 
 pub batches_uncounted : (bs : List ℕ) → byte_at bs ≡ None → batches_at bs ≡ None
@@ -150,7 +150,7 @@ batches_many bs front n e p = let l : leb n 32 ≡ false = lt-leb n 32 p in rw (
 
 -- ---- view changes that are too long, if only the last one before is known
 
-follows_end : {A : Type 0} (before : A → A → Bool) (xs : List A) (x y : A) → follows before (xs ++ x ∷ []) y ≡ before x y
+follows_end : {A : Type 0} (before : A → A → Bool) (xs : List A) (x y : A) → comes_after before (xs ++ x ∷ []) y ≡ before x y
 follows_end before [] x y = refl
 follows_end before (w ∷ []) x y = refl
 follows_end before (w ∷ v ∷ ws) x y = follows_end before (v ∷ ws) x y
@@ -160,13 +160,13 @@ of_some_same f g h None = refl
 of_some_same f g h (Some y) = h y
 
 abbrev next_in : ℕ → List (List ℕ) → List ℕ × List ℕ → Bool
-next_in n xs y = follows sender_before xs y.0 && over_in n (xs ++ y.0 ∷ []) y.1
+next_in n xs y = comes_after sender_before xs y.0 && over_in n (xs ++ y.0 ∷ []) y.1
 
 next_same : (n : ℕ) (xs ys : List (List ℕ)) (x : List ℕ) → ((xs ys : List (List ℕ)) (x bs : List ℕ) → over_in n (xs ++ x ∷ []) bs ≡ over_in n (ys ++ x ∷ []) bs)
     → (y : List ℕ × List ℕ) → next_in n (xs ++ x ∷ []) y ≡ next_in n (ys ++ x ∷ []) y
 next_same n xs ys x h y =
     ap (λ b. b && over_in n ((xs ++ x ∷ []) ++ y.0 ∷ []) y.1) (follows_end sender_before xs x y.0 ∙ sym (follows_end sender_before ys x y.0))
-    ∙ ap (λ b. follows sender_before (ys ++ x ∷ []) y.0 && b) (h (xs ++ x ∷ []) (ys ++ x ∷ []) y.0 y.1)
+    ∙ ap (λ b. comes_after sender_before (ys ++ x ∷ []) y.0 && b) (h (xs ++ x ∷ []) (ys ++ x ∷ []) y.0 y.1)
 
 over_last : (n : ℕ) (xs ys : List (List ℕ)) (x bs : List ℕ) → over_in n (xs ++ x ∷ []) bs ≡ over_in n (ys ++ x ∷ []) bs
 over_last zero xs ys x bs = refl
@@ -174,7 +174,7 @@ over_last (suc n) xs ys x bs =
     ap (λ b. cond (is_over bs) true b) (of_some_same (next_in n (xs ++ x ∷ [])) (next_in n (ys ++ x ∷ [])) (next_same n xs ys x (over_last n)) (passing is_change piece_at bs))
 
 module _ (n i : ℕ) (xs : List (List ℕ)) (bs : List ℕ) (l : i < n) where
-  turn : over_in (n - i) xs bs ≡ cond (is_over bs) true (of_some (λ x. follows sender_before xs x.0 && over_in (n - (i + 1)) (xs ++ x.0 ∷ []) x.1) (passing is_change piece_at bs))
+  turn : over_in (n - i) xs bs ≡ cond (is_over bs) true (of_some (λ x. comes_after sender_before xs x.0 && over_in (n - (i + 1)) (xs ++ x.0 ∷ []) x.1) (passing is_change piece_at bs))
   turn = let s : n - i ≡ suc (n - (i + 1)) = omega arith in ap (λ k. over_in k xs bs) s
 
   pub over_here : is_over bs ≡ true → over_in (n - i) xs bs ≡ true
@@ -184,10 +184,10 @@ module _ (n i : ℕ) (xs : List (List ℕ)) (bs : List ℕ) (l : i < n) where
   no_change e f = turn ∙ rw (e, f) refl
 
   module _ (x after : List ℕ) (e : is_over bs ≡ false) (f : passing is_change piece_at bs ≡ Some (x, after)) where
-    pub disorder : follows sender_before xs x ≡ false → over_in (n - i) xs bs ≡ false
+    pub disorder : comes_after sender_before xs x ≡ false → over_in (n - i) xs bs ≡ false
     disorder g = turn ∙ rw (e, f, g) refl
 
-    pub over_goes_on : follows sender_before xs x ≡ true → over_in (n - (i + 1)) (x ∷ []) after ≡ over_in (n - i) xs bs
+    pub over_goes_on : comes_after sender_before xs x ≡ true → over_in (n - (i + 1)) (x ∷ []) after ≡ over_in (n - i) xs bs
     over_goes_on g = over_last (n - (i + 1)) [] xs x after ∙ sym (turn ∙ rw (e, f, g) refl)
 
 pub over_done : (n i : ℕ) (xs : List (List ℕ)) (bs : List ℕ) → n ≤ i → over_in (n - i) xs bs ≡ false

@@ -3,7 +3,7 @@ use Rattle.std.specs.Prelude.{ℕ, List, Option, Result}
 use Rattle.std.specs.Borrow.{Bor}
 use Rattle.tuple_codec.specs.declared.bad.Bad.{Bad}
 use Rattle.tuple_tree.specs.Gives.{Yields}
-use Rattle.tuple_codec.specs.Gives.{Gives}
+use Rattle.tuple_codec.specs.Gives.{DecodingGives}
 use Rattle.tuple_tree.specs.Reading.{rest_of}
 
 -- the value at the front, and the bytes after it
@@ -14,7 +14,7 @@ YieldsFront view result read = Yields (λ x. (view x.0, x.1.now)) result read
 -- the same, unless memory ran out
 abbrev pub GivesFront : {X Y : Type 0} → (X → Y) → Result (X × Bor (List ℕ)) Bad
     → Option (Y × List ℕ) → Type 0
-GivesFront view result read = Gives (λ x. (view x.0, x.1.now)) result read
+GivesFront view result read = DecodingGives (λ x. (view x.0, x.1.now)) result read
 
 -- only the bytes after the value
 abbrev pub YieldsRest : {Y : Type 0} → Option (Bor (List ℕ)) → Option (Y × List ℕ) → Type 0

@@ -17,6 +17,6 @@ FailsJudged faults.TooLarge read over = over ≡ true
 
 -- The header is that of the frame that was read. The fault is TooLarge if the bytes or a view change in them are too
 -- long.
-abbrev pub Judges : Result Header NoFrame → Option FrameData → Bool → Type 0
-Judges (Ok header) read over = option_map header_of read ≡ Some (header_data header)
-Judges (Err fault) read over = FailsJudged fault read over
+abbrev pub JudgesFrame : Result Header NoFrame → Option FrameData → Bool → Type 0
+JudgesFrame (Ok header) read over = option_map header_of read ≡ Some (header_data header)
+JudgesFrame (Err fault) read over = FailsJudged fault read over

@@ -7,8 +7,8 @@ ghost use Rattle.wire_format.specs.Spelling as Spelling;
 ghost use Rattle.wire_format.specs.Spelling.{SpellsFrame};
 ghost use Rattle.wire_format.specs.Faults.{IsTooLarge, limit_at};
 ghost use Rattle.wire.specs.Headers.{HasHeader, header_data, header_of, authenticator_bytes_data};
-ghost use Rattle.wire.specs.Judging.{Judges, ends};
-ghost use Rattle.wire_format.specs.Reading.{all_of, message_at, message_by, request_at, reply_at, pre_prepare_at, vote_at, checkpoint_at, fetch_at, meta_at, page_at, digests_at, new_view_at, authenticator_of, frame_read, too_large};
+ghost use Rattle.wire.specs.Judging.{JudgesFrame, ends};
+ghost use Rattle.wire_format.specs.Reading.{whole_value, message_at, message_by, request_at, reply_at, pre_prepare_at, vote_at, checkpoint_at, fetch_at, meta_at, page_at, digest_list_at, new_view_at, authenticator_of, frame_read, too_large};
 ghost use Rattle.wire.specs.Giving.{YieldsRest};
 
 use crate::authenticators::{read_mac_authenticator, read_signature_authenticator};
@@ -38,7 +38,7 @@ pub fn judge(bytes: &[u8]) -> Result<Header<'_>, NoFrame>
 }
 
 fn judge_whole(bytes: &[u8]) -> Result<Header<'_>, NoFrame>
-    ensures { Judges result (frame_read bytes.now) (too_large bytes.now) }
+    ensures { JudgesFrame result (frame_read bytes.now) (too_large bytes.now) }
 {
     if bytes.len() > limit(bytes) {
         return Err(NoFrame::TooLarge);
@@ -132,7 +132,7 @@ fn is_all(rest: Option<&[u8]>) -> bool
 }
 
 fn is_request(fields: &[u8]) -> bool
-    ensures { result ≡ is_some (all_of (request_at fields.now)) }
+    ensures { result ≡ is_some (whole_value (request_at fields.now)) }
 {
     let Some((_timestamp, rest)) = read_u64(fields) else {
         return false;
@@ -144,7 +144,7 @@ fn is_request(fields: &[u8]) -> bool
 }
 
 fn is_reply(fields: &[u8]) -> bool
-    ensures { result ≡ is_some (all_of (reply_at fields.now)) }
+    ensures { result ≡ is_some (whole_value (reply_at fields.now)) }
 {
     let Some((_client, rest)) = read_client(fields) else {
         return false;
@@ -162,7 +162,7 @@ fn is_reply(fields: &[u8]) -> bool
 }
 
 fn is_page(fields: &[u8]) -> bool
-    ensures { result ≡ is_some (all_of (page_at fields.now)) }
+    ensures { result ≡ is_some (whole_value (page_at fields.now)) }
 {
     let Some((_number, rest)) = read_u64(fields) else {
         return false;
@@ -231,7 +231,7 @@ fn skip_meta(bytes: &[u8]) -> Option<&[u8]>
 }
 
 fn skip_digests(bytes: &[u8], count: u8) -> Option<&[u8]>
-    ensures { YieldsRest result (digests_at count bytes.now) }
+    ensures { YieldsRest result (digest_list_at count bytes.now) }
 {
     let mut rest = bytes;
     for _i in 0..count {

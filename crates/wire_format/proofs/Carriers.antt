@@ -9,7 +9,7 @@ use Rattle.tuple_tree.proofs.Readers.{Takes, Found, guard_holds, choice}
 use Rattle.tuple_codec.proofs.Grammar.{Reads}
 use Rattle.wire_format.specs.Messages.{MessageData, request, pre_prepare, prepare, commit, checkpoint, view_change, new_view, reply, fetch, meta, page, NewViewData, BodyData, FrameData}
 use Rattle.wire_format.specs.Spelling.{message_type, fields_spelling, piece, pieces_spelling, IsPlain, IsMessage, IsFrameOf, IsCarried, IsBatch, IsNewView, is_ordered_request, is_view_change, sender_before, SpellsBody, SpellsFrame}
-use Rattle.wire_format.specs.Reading.{passing, all_of, frame_by, request_by, change_by, is_request, is_change, piece_at, requests_at, batch_at, batches_at, changes_at, new_view_at, pre_prepare_at, request_at, vote_at, checkpoint_at, view_change_at, reply_at, fetch_at, meta_at, page_at, message_at, message_by, body_of, frame_read}
+use Rattle.wire_format.specs.Reading.{passing, whole_value, frame_by, request_by, view_change_by, is_request, is_change, piece_at, requests_at, batch_text_at, batches_at, changes_at, new_view_at, pre_prepare_at, request_at, vote_at, checkpoint_at, view_change_at, reply_at, fetch_at, meta_at, page_at, message_at, message_by, body_of, frame_read}
 use Rattle.wire_format.proofs.Forms.{Format, both_of, several_of, ascending_of, passing_found, as_found, as_again}
 use Rattle.wire_format.proofs.Parts.{long, digest, count_from, count_to, IsPiece, piece_reads, piece_there}
 use Rattle.wire_format.proofs.Framing.{FoundBy, AgainBy, all_found, body_found, body_again, frame_found, frame_again, limit_bound}
@@ -51,11 +51,11 @@ request_has bs c = carried_again request_by is_ordered_request request_by_again 
 
 pub change_is : (bs : List ℕ) → AreBytes bs → is_change bs ≡ true → IsCarried is_view_change bs
 unfolding is_change
-change_is bs h e = carried_found change_by is_view_change change_by_found bs h e
+change_is bs h e = carried_found view_change_by is_view_change change_by_found bs h e
 
 pub change_has : (bs : List ℕ) → IsCarried is_view_change bs → is_change bs ≡ true
 unfolding is_change
-change_has bs c = carried_again change_by is_view_change change_by_again bs c
+change_has bs c = carried_again view_change_by is_view_change change_by_again bs c
 
 module _ (sort : MessageData → Bool) (test : List ℕ → Bool) (is : (bs : List ℕ) → AreBytes bs → test bs ≡ true → IsCarried sort bs) (has : (bs : List ℕ) → IsCarried sort bs → test bs ≡ true) where
   pub carried_reads : Reads (IsCarried sort) piece (passing test piece_at)
@@ -81,8 +81,8 @@ pub requests_reads : (least : ℕ) → Reads (requests_parts least).IsValue (req
 unfolding requests_at
 requests_reads least = (requests_parts least).reads
 
-pub batch_found : (least : ℕ) → Found (IsBatch least) (λ b. b) (batch_at least)
-unfolding batch_at
+pub batch_found : (least : ℕ) → Found (IsBatch least) (λ b. b) (batch_text_at least)
+unfolding batch_text_at
 batch_found least =
     as_found (requests_parts least).IsValue (IsBatch least) (requests_parts least).spelling (λ b. b) pieces_spelling (requests_at least)
     (λ rs h. let c = and_parts (leb least (length rs)) (leb (length rs) 16) h.0.1 in (
@@ -91,8 +91,8 @@ batch_found least =
     ))
     (requests_reads least).found
 
-pub batch_again : (least : ℕ) (text rest : List ℕ) → IsBatch least text → batch_at least (text ++ rest) ≡ Some (text, rest)
-unfolding batch_at
+pub batch_again : (least : ℕ) (text rest : List ℕ) → IsBatch least text → batch_text_at least (text ++ rest) ≡ Some (text, rest)
+unfolding batch_text_at
 batch_again least text rest b =
     let v : (requests_parts least).IsValue b.requests = ((omega (arith, b.few), and_from _ _ (le-leb _ _ b.enough) (le-leb _ _ b.few)), (b.each, refl)) in
     ap (λ t. read_as pieces_spelling (requests_at least) (t ++ rest)) b.whole
@@ -100,7 +100,7 @@ batch_again least text rest b =
     ∙ ap (λ t. Some (t, rest)) (sym b.whole)
 
 abbrev pub batch : ℕ → Format (List ℕ)
-batch least = record { IsValue = IsBatch least; spelling = λ b. b; at = batch_at least; reads = record { found = batch_found least; again = batch_again least } }
+batch least = record { IsValue = IsBatch least; spelling = λ b. b; at = batch_text_at least; reads = record { found = batch_found least; again = batch_again least } }
 
 abbrev batches_parts : Format (List (List ℕ))
 batches_parts = several_of (count_to 32) (batch 0)
@@ -252,7 +252,7 @@ message_by_found type bs m h e =
 
 pub message_by_again : AgainBy message_by IsMessage
 unfolding message_by
-message_by_again m h = ap all_of (message_again m h)
+message_by_again m h = ap whole_value (message_again m h)
 
 -- ---- bodies and frames
 

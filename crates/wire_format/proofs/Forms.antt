@@ -8,7 +8,7 @@ use Rattle.tuple_tree.specs.Reading.{◌>>=◌, Reader, read_as}
 use Rattle.tuple_tree.proofs.Readers.{Found, Again, bind_some, parts, guard_holds, moved}
 use Rattle.tuple_codec.proofs.Grammar.{Reads}
 use Rattle.wire_format.specs.Lists.{Each, each_spelling, ascends}
-use Rattle.wire_format.specs.Reading.{both, passing, more_at, counted_at, anyhow, follows, all_of}
+use Rattle.wire_format.specs.Reading.{both, passing, more_at, counted_at, anyhow, comes_after, whole_value}
 
 -- the value passed the test
 pub passed_on : {A : Type 0} (b : Bool) (x y : A) → then_some b x ≡ Some y → (b ≡ true) × (Some x ≡ Some y)
@@ -192,18 +192,18 @@ and_true : (a : Bool) → a && true ≡ a
 and_true true = refl
 and_true false = refl
 
-pub ascends_grows : {A : Type 0} (before : A → A → Bool) (xs : List A) (x : A) → ascends before (xs ++ x ∷ []) ≡ ascends before xs && follows before xs x
+pub ascends_grows : {A : Type 0} (before : A → A → Bool) (xs : List A) (x : A) → ascends before (xs ++ x ∷ []) ≡ ascends before xs && comes_after before xs x
 ascends_grows before [] x = refl
 ascends_grows before (y ∷ []) x = and_true (before y x)
-ascends_grows before (y ∷ z ∷ ys) x = ap (λ b. before y z && b) (ascends_grows before (z ∷ ys) x) ∙ and_assoc (before y z) (ascends before (z ∷ ys)) (follows before (z ∷ ys) x)
+ascends_grows before (y ∷ z ∷ ys) x = ap (λ b. before y z && b) (ascends_grows before (z ∷ ys) x) ∙ and_assoc (before y z) (ascends before (z ∷ ys)) (comes_after before (z ∷ ys) x)
 
 -- ---- all of the bytes
 
-pub all_some : {A : Type 0} (o : Option (A × List ℕ)) (v : A) → all_of o ≡ Some v → o ≡ Some (v, [])
+pub all_some : {A : Type 0} (o : Option (A × List ℕ)) (v : A) → whole_value o ≡ Some v → o ≡ Some (v, [])
 all_some None v e = absurd (let g : ⊥ = cc in g)
 all_some (Some x) v e = ap (λ y. Some y) (ended x.0 x.1 v e)
   where
-    ended : {A : Type 0} (x : A) (bs : List ℕ) (v : A) → all_of (Some (x, bs)) ≡ Some v → ◌≡◌ {A = A × List ℕ} (x, bs) (v, [])
+    ended : {A : Type 0} (x : A) (bs : List ℕ) (v : A) → whole_value (Some (x, bs)) ≡ Some v → ◌≡◌ {A = A × List ℕ} (x, bs) (v, [])
     ended {A = A} x [] v e = let h : x ≡ v = cc in let f : A → A × List ℕ = λ y. (y, []) in ap f h
     ended x (b ∷ bs) v e = absurd (let g : ⊥ = cc in g)
 
@@ -235,8 +235,8 @@ abbrev pub ascending_of : {A : Type 0} → (A → A → Bool) → Format ℕ →
 ascending_of before c f = record {
   IsValue = λ xs. c.IsValue (length xs) × (Each f.IsValue xs × (ascends before xs ≡ true));
   spelling = λ xs. c.spelling (length xs) ++ each_spelling f.spelling xs;
-  at = counted_at c.at f.at (follows before);
-  reads = counted_reads f.IsValue f.spelling f.at (follows before) (ascends before) (ascends_grows before) c.IsValue c.spelling c.at refl c.reads f.reads;
+  at = counted_at c.at f.at (comes_after before);
+  reads = counted_reads f.IsValue f.spelling f.at (comes_after before) (ascends before) (ascends_grows before) c.IsValue c.spelling c.at refl c.reads f.reads;
 }
 
 abbrev pub several_of : {A : Type 0} → Format ℕ → Format A → Format (List A)

@@ -11,18 +11,18 @@ use Rattle.tuple_tree.proofs.Readers.{Found, Again, bind_some, parts, guard_hold
 use Rattle.wire_format.specs.Messages.{MessageData, request, BodyData, MacData, AuthenticatorData, macs, signature, FrameData}
 use Rattle.wire_format.specs.Lists.{each_spelling}
 use Rattle.wire_format.specs.Spelling.{mac_spelling, message_type, fields_spelling, body_spelling, authenticator_spelling, frame_spelling, piece, mac_before, IsAuthenticator, is_signed, authenticator_is_signed, frame_limit, IsFrameOf}
-use Rattle.wire_format.specs.Reading.{all_of, piece_at, macs_at, authenticator_of, body_by, frame_by}
+use Rattle.wire_format.specs.Reading.{whole_value, piece_at, macs_at, authenticator_of, body_by, frame_by}
 use Rattle.wire_format.proofs.Forms.{Format, ascending_of, all_some, passed_on}
 use Rattle.wire_format.proofs.Parts.{count_from, mac, macs_reads, number_2_reads, byte_reads, piece_reads, piece_there}
 
 -- all of the bytes
-pub all_found : {V : Type 0} (IsValue : V → Type 0) (spelling : V → List ℕ) (at : Reader V) → Found IsValue spelling at → (bs : List ℕ) (v : V) → AreBytes bs → all_of (at bs) ≡ Some v → (bs ≡ spelling v) × IsValue v
+pub all_found : {V : Type 0} (IsValue : V → Type 0) (spelling : V → List ℕ) (at : Reader V) → Found IsValue spelling at → (bs : List ℕ) (v : V) → AreBytes bs → whole_value (at bs) ≡ Some v → (bs ≡ spelling v) × IsValue v
 all_found IsValue spelling at reads bs v h e =
     let f = reads bs [] v h (all_some (at bs) v e) in
     (f.0.whole ∙ append-nil (spelling v), f.1)
 
-pub all_again : {V : Type 0} (IsValue : V → Type 0) (spelling : V → List ℕ) (at : Reader V) → Again IsValue spelling at → (v : V) → IsValue v → all_of (at (spelling v)) ≡ Some v
-all_again IsValue spelling at reads v h = ap (λ bs. all_of (at bs)) (sym (append-nil (spelling v))) ∙ ap all_of (reads v [] h)
+pub all_again : {V : Type 0} (IsValue : V → Type 0) (spelling : V → List ℕ) (at : Reader V) → Again IsValue spelling at → (v : V) → IsValue v → whole_value (at (spelling v)) ≡ Some v
+all_again IsValue spelling at reads v h = ap (λ bs. whole_value (at bs)) (sym (append-nil (spelling v))) ∙ ap whole_value (reads v [] h)
 
 -- ---- authenticators
 
@@ -35,7 +35,7 @@ authenticator_parts = ascending_of mac_before (count_from 1 10) mac
 pub authenticator_found : (signed : Bool) (bs : List ℕ) (p : AuthenticatorData) → AreBytes bs → authenticator_of signed bs ≡ Some p → (bs ≡ authenticator_spelling p) × IsAuthenticator p × (authenticator_is_signed p ≡ signed)
 authenticator_found signed [] p h e = absurd (let g : ⊥ = cc in g)
 authenticator_found false (b ∷ bs) p h e =
-    let g = guard_holds (eqb b 0) (all_of (read_as macs macs_at bs)) p e in
+    let g = guard_holds (eqb b 0) (whole_value (read_as macs macs_at bs)) p e in
     let k = bind_some (macs_at bs) (λ x. Some (macs x.0, x.1)) (p, []) (all_some (read_as macs macs_at bs) p g.1) in
     let q = parts k.2 in
     let f = macs_reads.found bs k.0.1 k.0.0 (λ i. h (suc i)) k.1 in
@@ -63,7 +63,7 @@ macs_again : (ms : List MacData) → IsAuthenticator (macs ms) → authenticator
 macs_again ms h =
     let v : authenticator_parts.IsValue ms = ((omega (arith, h.1), and_from _ _ (le-leb _ _ h.0) (le-leb _ _ h.1)), (h.2, h.3)) in
     let e : macs_at (authenticator_parts.spelling ms) ≡ Some (ms, []) = ap macs_at (sym (append-nil (authenticator_parts.spelling ms))) ∙ macs_reads.again ms [] v in
-    ap (λ o. all_of (o >>= λ x. Some (macs x.0, x.1))) e
+    ap (λ o. whole_value (o >>= λ x. Some (macs x.0, x.1))) e
 
 pub authenticator_again : (p : AuthenticatorData) → IsAuthenticator p → authenticator_of (authenticator_is_signed p) (authenticator_spelling p) ≡ Some p
 authenticator_again (macs ms) h = macs_again ms h

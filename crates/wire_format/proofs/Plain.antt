@@ -18,7 +18,7 @@ use Rattle.terms.specs.declared.state.Level.TheVariants as levels
 use Rattle.wire_format.specs.Lists.{Each, each_spelling}
 use Rattle.wire_format.specs.Messages.{ViewChangeData, MessageData, request, pre_prepare, prepare, commit, checkpoint, view_change, new_view, reply, fetch, meta, page}
 use Rattle.wire_format.specs.Spelling.{message_type, level_byte, fields_spelling, last_index, has_children, IsDigest, IsPlain, is_ordered_request, is_view_change}
-use Rattle.wire_format.specs.Reading.{passing, more_at, anyhow, all_of, digest_at, request_at, vote_at, checkpoint_at, client_at, reply_at, place_at, fetch_at, digests_at, meta_at, page_at, request_by, change_by}
+use Rattle.wire_format.specs.Reading.{passing, more_at, anyhow, whole_value, digest_at, request_at, vote_at, checkpoint_at, client_at, reply_at, place_at, fetch_at, digest_list_at, meta_at, page_at, request_by, view_change_by}
 use Rattle.wire_format.proofs.Forms.{Format, both_of, passing_of, passing_found, more_found, more_again, anyhow_grows, as_found, as_again}
 use Rattle.wire_format.proofs.Parts.{long, word, digest, digest_reads, mode, level, change}
 use Rattle.wire_format.proofs.Framing.{FoundBy, AgainBy, all_found}
@@ -79,23 +79,23 @@ abbrev digests_spelling : List (List ℕ) → List ℕ
 digests_spelling ds = each_spelling (λ d. d) ds
 
 -- so many digests
-digests_found : (n : ℕ) (bs rest : List ℕ) (ds : List (List ℕ)) → AreBytes bs → digests_at n bs ≡ Some (ds, rest) → Takes bs (digests_spelling ds) rest × ((length ds ≡ n) × Each IsDigest ds)
-unfolding digests_at
+digests_found : (n : ℕ) (bs rest : List ℕ) (ds : List (List ℕ)) → AreBytes bs → digest_list_at n bs ≡ Some (ds, rest) → Takes bs (digests_spelling ds) rest × ((length ds ≡ n) × Each IsDigest ds)
+unfolding digest_list_at
 digests_found n bs rest ds h e =
     let r = more_found IsDigest (λ d. d) digest_at anyhow (λ ds. true) anyhow_grows digest_reads.found n [] ds bs rest h tt refl e in
     (record { whole = r.whole; bytes = r.bytes }, (omega (arith, r.number), r.each))
 
-digests_again : (n : ℕ) (ds : List (List ℕ)) (rest : List ℕ) → length ds ≡ n → Each IsDigest ds → digests_at n (digests_spelling ds ++ rest) ≡ Some (ds, rest)
-unfolding digests_at
+digests_again : (n : ℕ) (ds : List (List ℕ)) (rest : List ℕ) → length ds ≡ n → Each IsDigest ds → digest_list_at n (digests_spelling ds ++ rest) ≡ Some (ds, rest)
+unfolding digest_list_at
 digests_again n ds rest l h =
     ap (λ n. more_at digest_at anyhow n [] (digests_spelling ds ++ rest)) (sym l)
     ∙ more_again IsDigest (λ d. d) digest_at anyhow (λ ds. true) anyhow_grows digest_reads.again ds [] rest h refl
 
-digests_reads : Reads AreDigests digests_spelling (digests_at 32)
+digests_reads : Reads AreDigests digests_spelling (digest_list_at 32)
 digests_reads = record { found = λ bs rest ds h e. digests_found 32 bs rest ds h e; again = λ ds rest h. digests_again 32 ds rest h.0 h.1 }
 
 abbrev digests : Format (List (List ℕ))
-digests = record { IsValue = AreDigests; spelling = digests_spelling; at = digests_at 32; reads = digests_reads }
+digests = record { IsValue = AreDigests; spelling = digests_spelling; at = digest_list_at 32; reads = digests_reads }
 
 abbrev meta_parts : Format ((ℕ × (Level × ℕ)) × List (List ℕ))
 meta_parts = both_of (passing_of (λ p. has_children p.1.0) place) digests
@@ -211,12 +211,12 @@ IsSort sort m = IsPlain m × IsTrue (sort m)
 
 pub request_by_found : FoundBy request_by (IsSort is_ordered_request)
 request_by_found type bs m h e =
-    let g = guard_holds (eqb type 0x41) (all_of (passing is_ordered_request request_at bs)) m e in
+    let g = guard_holds (eqb type 0x41) (whole_value (passing is_ordered_request request_at bs)) m e in
     let a = all_found (λ m. IsOfType 0x41 IsPlain m × (is_ordered_request m ≡ true)) fields_spelling (passing is_ordered_request request_at) (passing_found (IsOfType 0x41 IsPlain) fields_spelling is_ordered_request request_at request_found) bs m h g.1 in
     (eqb-true type 0x41 g.0 ∙ a.1.0.0, a.0, (a.1.0.1, a.1.1))
 
 pub request_by_again : AgainBy request_by (IsSort is_ordered_request)
-request_by_again (request timestamp modes.Ordered o) h = ap (λ r. all_of (r >>= λ x. then_some (is_ordered_request x.0) x)) (request_again timestamp modes.Ordered o h.0.0 h.0.1)
+request_by_again (request timestamp modes.Ordered o) h = ap (λ r. whole_value (r >>= λ x. then_some (is_ordered_request x.0) x)) (request_again timestamp modes.Ordered o h.0.0 h.0.1)
 request_by_again (pre_prepare view number batch) h = absurd h.0
 request_by_again (new_view n) h = absurd h.0
 request_by_again _ h = absurd (let e : false ≡ true = h.1 in let g : ⊥ = cc in g)
@@ -225,14 +225,14 @@ is_change_type : (m : MessageData) → 0x46 ≡ message_type m → is_view_chang
 is_change_type (view_change c) e = refl
 is_change_type _ e = absurd (omega arith)
 
-pub change_by_found : FoundBy change_by (IsSort is_view_change)
+pub change_by_found : FoundBy view_change_by (IsSort is_view_change)
 change_by_found type bs m h e =
-    let g = guard_holds (eqb type 0x46) (all_of (read_as view_change change.at bs)) m e in
+    let g = guard_holds (eqb type 0x46) (whole_value (read_as view_change change.at bs)) m e in
     let a = all_found (IsOfType 0x46 IsPlain) fields_spelling (read_as view_change change.at) view_change_found bs m h g.1 in
     (eqb-true type 0x46 g.0 ∙ a.1.0, a.0, (a.1.1, is_change_type m a.1.0))
 
-pub change_by_again : AgainBy change_by (IsSort is_view_change)
-change_by_again (view_change c) h = ap all_of (view_change_again c h.0)
+pub change_by_again : AgainBy view_change_by (IsSort is_view_change)
+change_by_again (view_change c) h = ap whole_value (view_change_again c h.0)
 change_by_again (pre_prepare view number batch) h = absurd h.0
 change_by_again (new_view n) h = absurd h.0
 change_by_again _ h = absurd (let e : false ≡ true = h.1 in let g : ⊥ = cc in g)

@@ -7,7 +7,7 @@ use Rattle.tuple_tree.proofs.Readers.{parts}
 use Rattle.wire_format.specs.Lists.{Each, each_spelling}
 use Rattle.wire_format.specs.Messages.{MessageData, pre_prepare, new_view, MacData, AuthenticatorData, macs, signature, FrameData}
 use Rattle.wire_format.specs.Spelling.{body_spelling, authenticator_spelling, frame_spelling, piece, pieces_spelling, mac_spelling, mac_before, IsMessage, IsAuthenticator, IsCarried, IsBatch, is_ordered_request, is_view_change, is_signed, authenticator_is_signed, SpellsBody, SpellsFrame}
-use Rattle.wire_format.specs.Reading.{all_of, requests_at, piece_at, macs_at, message_by}
+use Rattle.wire_format.specs.Reading.{whole_value, requests_at, piece_at, macs_at, message_by}
 use Rattle.wire_format.specs.Words.{requests_of, requests_of_all, ReadsBodies, ReadsRequests, ReadsBatches, CarriesFrames, CarriesAll, HasOneFrame, HasOneBody}
 use Rattle.wire_format.proofs.Forms.{ascending_of}
 use Rattle.wire_format.proofs.Parts.{piece_there, macs_reads, count_from, mac}
@@ -21,7 +21,7 @@ is_requests : (least : ℕ) (text : List ℕ) (b : IsBatch least text) → reque
 unfolding requests_of
 is_requests least text b =
     let v : (requests_parts 0).IsValue b.requests = ((omega (arith, b.few), and_from _ _ (le-leb 0 (length b.requests) (omega arith)) (le-leb _ _ b.few)), (b.each, refl)) in
-    let e : all_of (requests_at 0 text) ≡ Some b.requests = ap (λ t. all_of (requests_at 0 t)) b.whole ∙ all_again (requests_parts 0).IsValue (requests_parts 0).spelling (requests_at 0) (requests_reads 0).again b.requests v in
+    let e : whole_value (requests_at 0 text) ≡ Some b.requests = ap (λ t. whole_value (requests_at 0 t)) b.whole ∙ all_again (requests_parts 0).IsValue (requests_parts 0).spelling (requests_at 0) (requests_reads 0).again b.requests v in
     rw e refl
 
 pub reads_requests : ReadsRequests
@@ -29,9 +29,9 @@ reads_requests requests few each = is_requests 0 (pieces_spelling requests) (rec
 
 pub reads_batches : ReadsBatches
 unfolding requests_of
-reads_batches text h some = cases (all_of (requests_at 0 text)) refl
+reads_batches text h some = cases (whole_value (requests_at 0 text)) refl
   where
-    cases : (o : Option (List (List ℕ))) → all_of (requests_at 0 text) ≡ o → IsBatch 1 text
+    cases : (o : Option (List (List ℕ))) → whole_value (requests_at 0 text) ≡ o → IsBatch 1 text
     cases None e = absurd (let none : requests_of text ≡ [] = rw e refl in omega (arith, some, ap length none))
     cases (Some requests) e =
         let same : requests_of text ≡ requests = rw e refl in

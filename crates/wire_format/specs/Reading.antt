@@ -38,15 +38,15 @@ abbrev pub anyhow : {A : Type 0} → List A → A → Bool
 anyhow xs x = true
 
 -- an item that comes strictly after the last one
-abbrev pub follows : {A : Type 0} → (A → A → Bool) → List A → A → Bool
-follows before [] x = true
-follows before (y ∷ []) x = before y x
-follows before (y ∷ z ∷ ys) x = follows before (z ∷ ys) x
+abbrev pub comes_after : {A : Type 0} → (A → A → Bool) → List A → A → Bool
+comes_after before [] x = true
+comes_after before (y ∷ []) x = before y x
+comes_after before (y ∷ z ∷ ys) x = comes_after before (z ∷ ys) x
 
 -- the value, if no bytes are left
-abbrev pub all_of : {A : Type 0} → Option (A × List ℕ) → Option A
-all_of None = None
-all_of (Some x) = at_end x.0 x.1
+abbrev pub whole_value : {A : Type 0} → Option (A × List ℕ) → Option A
+whole_value None = None
+whole_value (Some x) = at_end x.0 x.1
   where
     at_end : {A : Type 0} → A → List ℕ → Option A
     at_end x [] = Some x
@@ -87,10 +87,10 @@ batch_entry_at bs =
 unfoldable pub checkpoint_entries_at : Reader (List CheckpointEntryData)
 checkpoint_entries_at bs =
     counted_at (passing (λ n. nat_le n 3) byte_at) checkpoint_entry_at
-    (follows checkpoint_entry_before) bs
+    (comes_after checkpoint_entry_before) bs
 
 unfoldable pub batch_entries_at : (BatchEntryData → BatchEntryData → Bool) → Reader (List BatchEntryData)
-batch_entries_at before bs = counted_at (number_of 2) batch_entry_at (follows before) bs
+batch_entries_at before bs = counted_at (number_of 2) batch_entry_at (comes_after before) bs
 
 unfoldable pub view_change_at : Reader ViewChangeData
 view_change_at bs =
@@ -110,12 +110,12 @@ mac_at bs = read_as (λ p. record { receiver = p.0; mac = p.1 }) (both (number_o
 
 unfoldable pub macs_at : Reader (List MacData)
 macs_at bs =
-    counted_at (passing (λ n. nat_le 1 n && nat_le n 10) byte_at) mac_at (follows mac_before) bs
+    counted_at (passing (λ n. nat_le 1 n && nat_le n 10) byte_at) mac_at (comes_after mac_before) bs
 
 -- a signature if the message is signed, and MACs if not
 abbrev pub authenticator_of : Bool → List ℕ → Option AuthenticatorData
 authenticator_of signed [] = None
-authenticator_of false (b ∷ bs) = if b == 0 then all_of (read_as macs macs_at bs) else None
+authenticator_of false (b ∷ bs) = if b == 0 then whole_value (read_as macs macs_at bs) else None
 authenticator_of true (b ∷ bs) =
     if b == 1 && (length bs == 16577 && nat_lt (slice_index bs 0) 64) then Some (signature bs) else None
 
@@ -169,13 +169,13 @@ place_at bs =
 unfoldable pub fetch_at : Reader MessageData
 fetch_at bs = read_as (λ p. fetch p.0 p.1.0 p.1.1) place_at bs
 
-unfoldable pub digests_at : ℕ → Reader (List (List ℕ))
-digests_at n bs = more_at digest_at anyhow n [] bs
+unfoldable pub digest_list_at : ℕ → Reader (List (List ℕ))
+digest_list_at n bs = more_at digest_at anyhow n [] bs
 
 unfoldable pub meta_at : Reader MessageData
 meta_at bs =
     read_as (λ p. meta p.0.0 p.0.1.0 p.0.1.1 p.1)
-    (both (passing (λ p. has_children p.1.0) place_at) (digests_at 32)) bs
+    (both (passing (λ p. has_children p.1.0) place_at) (digest_list_at 32)) bs
 
 unfoldable pub page_at : Reader MessageData
 page_at bs =
@@ -186,16 +186,16 @@ page_at bs =
 
 abbrev pub request_by : ℕ → List ℕ → Option MessageData
 request_by type bs =
-    if type == 0x41 then all_of (passing is_ordered_request request_at bs) else None
+    if type == 0x41 then whole_value (passing is_ordered_request request_at bs) else None
 
-abbrev pub change_by : ℕ → List ℕ → Option MessageData
-change_by type bs = if type == 0x46 then all_of (read_as view_change view_change_at bs) else None
+abbrev pub view_change_by : ℕ → List ℕ → Option MessageData
+view_change_by type bs = if type == 0x46 then whole_value (read_as view_change view_change_at bs) else None
 
 unfoldable pub is_request : List ℕ → Bool
 is_request bs = is_some (frame_by request_by bs)
 
 unfoldable pub is_change : List ℕ → Bool
-is_change bs = is_some (frame_by change_by bs)
+is_change bs = is_some (frame_by view_change_by bs)
 
 -- the length of a request, and the request
 abbrev pub request_frame_at : Reader (List ℕ)
@@ -214,16 +214,16 @@ requests_at least bs =
     counted_at (passing (λ n. nat_le least n && nat_le n 16) byte_at) request_frame_at anyhow bs
 
 -- the text of a batch of least or more requests
-unfoldable pub batch_at : ℕ → Reader (List ℕ)
-batch_at least bs = read_as pieces_spelling (requests_at least) bs
+unfoldable pub batch_text_at : ℕ → Reader (List ℕ)
+batch_text_at least bs = read_as pieces_spelling (requests_at least) bs
 
 unfoldable pub batches_at : Reader (List (List ℕ))
-batches_at bs = counted_at (passing (λ n. nat_le n 32) byte_at) (batch_at 0) anyhow bs
+batches_at bs = counted_at (passing (λ n. nat_le n 32) byte_at) (batch_text_at 0) anyhow bs
 
 unfoldable pub changes_at : Reader (List (List ℕ))
 changes_at bs =
     counted_at (passing (λ n. nat_le 1 n && nat_le n 10) byte_at) change_frame_at
-    (follows sender_before) bs
+    (comes_after sender_before) bs
 
 unfoldable pub new_view_at : Reader MessageData
 new_view_at bs =
@@ -240,7 +240,7 @@ new_view_at bs =
 unfoldable pub pre_prepare_at : Reader MessageData
 pre_prepare_at bs =
     read_as (λ p. pre_prepare p.0 p.1.0 p.1.1)
-    (both (number_of 8) (both (number_of 8) (batch_at 1))) bs
+    (both (number_of 8) (both (number_of 8) (batch_text_at 1))) bs
 
 -- ---- all messages
 
@@ -258,7 +258,7 @@ message_at type bs =
     else (if type == 0x4a then meta_at bs else (if type == 0x4b then page_at bs else None))))))))))
 
 unfoldable pub message_by : ℕ → List ℕ → Option MessageData
-message_by type bs = all_of (message_at type bs)
+message_by type bs = whole_value (message_at type bs)
 
 -- the body that the bytes spell, whole
 unfoldable pub body_of : List ℕ → Option BodyData
@@ -287,7 +287,7 @@ abbrev pub over_in : ℕ → List (List ℕ) → List ℕ → Bool
 over_in zero xs bs = false
 over_in (suc n) xs bs =
     if is_over bs then true
-    else of_some (λ x. follows sender_before xs x.0 && over_in n (xs ++ x.0 ∷ []) x.1)
+    else of_some (λ x. comes_after sender_before xs x.0 && over_in n (xs ++ x.0 ∷ []) x.1)
     (change_frame_at bs)
 
 unfoldable pub changes_over : List ℕ → Bool

@@ -7,7 +7,7 @@ use Rattle.tuple_tree.specs.Reading.{◌>>=◌}
 use Rattle.wire_format.specs.Lists.{Each}
 use Rattle.wire_format.specs.Messages.{MessageData, pre_prepare, new_view, BodyData, AuthenticatorData, macs, signature, FrameData}
 use Rattle.wire_format.specs.Spelling.{pieces_spelling, IsCarried, IsBatch, IsMessage, is_ordered_request, SpellsBody, SpellsFrame}
-use Rattle.wire_format.specs.Reading.{all_of, requests_at, body_of, frame_read}
+use Rattle.wire_format.specs.Reading.{whole_value, requests_at, body_of, frame_read}
 
 -- the frame that the bytes spell
 unfoldable pub frame_of : List ℕ → Option FrameData
@@ -24,7 +24,7 @@ receivers_of (signature s) = []
 
 -- the request frames of a batch's text
 unfoldable pub requests_of : List ℕ → List (List ℕ)
-requests_of text = or_none (all_of (requests_at 0 text))
+requests_of text = or_none (whole_value (requests_at 0 text))
   where
     or_none : Option (List (List ℕ)) → List (List ℕ)
     or_none None = []

@@ -19,7 +19,7 @@ use Rattle.protocol.specs.Replica.Selection.{changes_of, count_in, passes_by, vo
 use Rattle.protocol.specs.Replica.RightReplica.{HasSeen}
 use Rattle.protocol.specs.System.Texts.{NoCollision}
 use Rattle.protocol.specs.Replica.State.{Call, call_in, call_of}
-use Rattle.protocol.specs.Laws.Histories.{AreReplicasSafe, Takes}
+use Rattle.protocol.specs.Laws.Histories.{AreReplicasSafe, TakesOrSendsNewView}
 use Rattle.protocol.proofs.Words.Temporal.{once_weaker, once_in_trace}
 use Rattle.protocol.proofs.Words.Options.{and_then_some, some_injective, given_once, or_else_cases}
 use Rattle.protocol.proofs.Words.Linking.{heard_said}
@@ -146,7 +146,7 @@ module _ (c : Configuration) (setting : IsConfiguration c) (trace : List Entry) 
 
   -- f + 1 replicas vouch for it in a lower view
   vouched_asked : (v : ℕ) → ((u : ℕ) → u < v → AskedIn u) → (r i : ℕ) (a : List ℕ) (new : NewViewData) → is_correct_replica c r ≡ true → logged c r (history_of r trace) v i ≡ Some a
-      → Once (Takes c new) (history_of r trace) → new.view ≡ v → Selected c new → (x : ℕ) → is_weak_quorum c (count_in c (vouches i x (sha256 a)) (changes_of c new)) ≡ true → Asked c trace a
+      → Once (TakesOrSendsNewView c new) (history_of r trace) → new.view ≡ v → Selected c new → (x : ℕ) → is_weak_quorum c (count_in c (vouches i x (sha256 a)) (changes_of c new)) ≡ true → Asked c trace a
   unfolding AskedIn
   vouched_asked v below r i a new correct logs takes' view_is sel x h =
       let enough : c.faults + 1 ≤ count_below (passes_by (vouches i x (sha256 a)) (changes_of c new)) (3 * c.faults + 1) = leb-true (c.faults + 1) (count_in c (vouches i x (sha256 a)) (changes_of c new)) h in
@@ -168,7 +168,7 @@ module _ (c : Configuration) (setting : IsConfiguration c) (trace : List Entry) 
       subst (Asked c trace) same (below k.0.view lower s.0 k.0.number o.batch s.1 o.is_logged)
 
   begun_asked : (v : ℕ) → ((u : ℕ) → u < v → AskedIn u) → (r i : ℕ) (a : List ℕ) (new : NewViewData) → is_correct_replica c r ≡ true → logged c r (history_of r trace) v i ≡ Some a
-      → Once (Takes c new) (history_of r trace) → batch_begun v i new ≡ Some a → may_select c new ≡ true → Asked c trace a
+      → Once (TakesOrSendsNewView c new) (history_of r trace) → batch_begun v i new ≡ Some a → may_select c new ≡ true → Asked c trace a
   begun_asked v below r i a new correct logs takes' has may =
       by (or_cases (nat_lt 0 (count_below (may_stand_at c (changes_of c new) i (sha256 a)) new.view)) (is_null a && may_be_null c (changes_of c new) i) stand)
     where
@@ -209,7 +209,7 @@ module _ (c : Configuration) (setting : IsConfiguration c) (trace : List Entry) 
       begun false k = absurd cc
       begun true k =
           let t = and_then_some (batch_begun v i) (taken c past e) a k in
-          begun_asked v below r i a t.0 correct logs (emb (Takes c t.0) (inl t.1)) t.2 (selected_in c e t.0 (takes c r past e t.0 t.1).brought)
+          begun_asked v below r i a t.0 correct logs (emb (TakesOrSendsNewView c t.0) (inl t.1)) t.2 (selected_in c e t.0 (takes c r past e t.0 t.1).brought)
 
       go : (begun_proposal c r past e v i ≡ Some a) ⊎ (entry_proposal c r past e v i ≡ Some a) → Asked c trace a
       go (inl k) = begun (is_in_marks c (low c r (e ∷ past)) i) k

@@ -8,7 +8,7 @@ use Rattle.protocol.specs.System.Trace.{Entry, party_of, history_of, Once, Sends
 use Rattle.protocol.specs.System.Trace.Entry.{Sent}
 use Rattle.protocol.specs.Replica.Selection.{may_select, changes_of, change_by, count_in, passes_by}
 use Rattle.protocol.specs.Replica.Certificates.{view, view_after, target, is_later, new_view_in}
-use Rattle.protocol.specs.Laws.Histories.{Takes, NoneBegins, FirstViewStays}
+use Rattle.protocol.specs.Laws.Histories.{TakesOrSendsNewView, NoneBegins, FirstViewStays}
 use Rattle.protocol.proofs.Words.Temporal.{once_weaker, once_stays, once_in_trace}
 use Rattle.protocol.proofs.Words.Linking.{Speaks}
 use Rattle.protocol.proofs.Words.Lists.{passes_change}
@@ -22,7 +22,7 @@ none_begins c setting trace right unforged none p new correct begins = none sign
   where
     selected : may_select c new ≡ true
     selected = once_stays (λ past. may_select c new ≡ true) (λ e past k. k) (history_of p trace)
-        (once_weaker (Takes c new) (λ past e. may_select c new ≡ true) (λ past e t. selected_in c e new (takes c 0 past e new t).brought) (history_of p trace) begins)
+        (once_weaker (TakesOrSendsNewView c new) (λ past e. may_select c new ≡ true) (λ past e t. selected_in c e new (takes c 0 past e new t).brought) (history_of p trace) begins)
 
     signer : (s : ℕ) × (s < replicas c) × (is_faulty_replica c s ≡ false) × (passes_by (λ vc. true) (changes_of c new) s ≡ true)
     signer =
@@ -42,7 +42,7 @@ none_begins c setting trace right unforged none p new correct begins = none sign
     sends past _ h = absurd h.1
 
 -- a replica leaves a view only if it takes a new view
-not_left : (c : Configuration) (xs : List Entry) → ((new : NewViewData) → Once (Takes c new) xs → ⊥) → view c xs ≡ 0
+not_left : (c : Configuration) (xs : List Entry) → ((new : NewViewData) → Once (TakesOrSendsNewView c new) xs → ⊥) → view c xs ≡ 0
 unfolding view
 not_left c [] never = refl
 not_left c (e ∷ past) never = go (new_view_in c e) refl (not_left c past (λ new h. never new (inr h)))

@@ -10,7 +10,7 @@ use Rattle.protocol.specs.System.Trace.{Entry, party_of, history_of, Once, Alway
 use Rattle.protocol.specs.System.Trace.Entry.{Invoke, Got, Executed, Sent}
 use Rattle.protocol.specs.Replica.Certificates.{proposal, logged, commit_of, commit_from, vote_in, Committed, batch_begun}
 use Rattle.quorum.specs.Votes.{has_digest}
-use Rattle.protocol.specs.System.Texts.{IsText, HasBatch, batches_of}
+use Rattle.protocol.specs.System.Texts.{IsText, EntryHasBatch, batches_of}
 use Rattle.protocol.specs.System.Texts.IsText.{batch}
 use Rattle.protocol.specs.Laws.Histories.{AreReplicasSafe, ExecutesBatch, ExecutedAgree}
 use Rattle.protocol.proofs.Words.Temporal.{once_weaker, once_stays, once_in_trace, once_in_history}
@@ -95,14 +95,14 @@ offer_has v i a sender (PrePrepare view number b) h = inl (then_some_gives ((vie
 offer_has v i a sender (NewView new) h = begun_has v i new a h
 offer_has v i a sender _ h = absurd cc
 
-brought_has : (c : Configuration) (v i : ℕ) (a : List ℕ) (body : Body) → offer_from v i body ≡ Some a → (past : List Entry) (e : Entry) → Brings c body past e → HasBatch a past e
+brought_has : (c : Configuration) (v i : ℕ) (a : List ℕ) (body : Body) → offer_from v i body ≡ Some a → (past : List Entry) (e : Entry) → Brings c body past e → EntryHasBatch a past e
 brought_has c v i a body is past (Got p bytes) h =
     let says : said bytes ≡ Some body = heard_said c p bytes body h in
     (body, says, offer_has v i a body.sender body.message is)
 brought_has c v i a body is past (Sent p bytes) h = (body, h, offer_has v i a body.sender body.message is)
 brought_has c v i a body is past _ h = absurd cc
 
-has_any_past : (text : List ℕ) (past past' : List Entry) (e : Entry) → HasBatch text past e → HasBatch text past' e
+has_any_past : (text : List ℕ) (past past' : List Entry) (e : Entry) → EntryHasBatch text past e → EntryHasBatch text past' e
 has_any_past text past past' (Got p bytes) h = h
 has_any_past text past past' (Sent p bytes) h = h
 has_any_past text past past' _ h = absurd h
@@ -112,9 +112,9 @@ pub logged_text : (c : Configuration) (trace : List Entry) (r v i : ℕ) (a : Li
 unfolding logged
 logged_text c trace r v i a right correct h =
     batch a
-    (once_weaker (λ past e. (party_of e ≡ r) × HasBatch a (history_of r past) e) (HasBatch a) (λ past e t. has_any_past a (history_of r past) past e t.1) trace
-    (once_in_trace (HasBatch a) r trace
-    (once_weaker (λ past e. RightAt c r past e × (proposal c r past e v i ≡ Some a) × Always (RightAt c r) past) (HasBatch a)
+    (once_weaker (λ past e. (party_of e ≡ r) × EntryHasBatch a (history_of r past) e) (EntryHasBatch a) (λ past e t. has_any_past a (history_of r past) past e t.1) trace
+    (once_in_trace (EntryHasBatch a) r trace
+    (once_weaker (λ past e. RightAt c r past e × (proposal c r past e v i ≡ Some a) × Always (RightAt c r) past) (EntryHasBatch a)
     (λ past e t. let o = proposal_offer c r v i a past e t.1 in brought_has c v i a o.body o.offers past e o.brings) (history_of r trace)
     (once_right c r (λ past e. proposal c r past e v i ≡ Some a) (history_of r trace) (right r correct) (given_once (λ earlier e. proposal c r earlier e v i) a (history_of r trace) h)))))
 

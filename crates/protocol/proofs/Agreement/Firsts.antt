@@ -7,7 +7,7 @@ use Rattle.quorum.specs.Votes.{or_else}
 use Rattle.protocol.specs.System.Configuration.{Configuration, IsConfiguration, is_correct_replica}
 use Rattle.protocol.specs.System.Trace.{Entry, Once, Unforged}
 use Rattle.protocol.specs.System.Trace.Entry.{Invoke, Executed}
-use Rattle.protocol.specs.System.Texts.{NoCollision, batch_by, first_batch, AreFirst}
+use Rattle.protocol.specs.System.Texts.{NoCollision, batch_by, first_batch, AreFirstBatches}
 use Rattle.protocol.specs.Laws.Histories.{AreReplicasSafe, ExecutesBatch, AreExecuted}
 use Rattle.protocol.proofs.Words.Temporal.{once_weaker}
 use Rattle.protocol.proofs.Words.Options.{given_once, given_stays, then_some_gives}
@@ -42,12 +42,12 @@ some_first c k b (e ∷ past) (inl h) = go (first_batch c past k)
     go None = (b, executes_by c k b past e h)
     go (Some x) = (x, refl)
 
-pub first_later : (c : Configuration) (e : Entry) (xs : List Entry) (k : ℕ) (batches : List (List ℕ)) → AreFirst c xs k batches → AreFirst c (e ∷ xs) k batches
+pub first_later : (c : Configuration) (e : Entry) (xs : List Entry) (k : ℕ) (batches : List (List ℕ)) → AreFirstBatches c xs k batches → AreFirstBatches c (e ∷ xs) k batches
 first_later c e xs k [] h = tt
 first_later c e xs k (b ∷ batches) h = (given_stays (λ past e. batch_by c k e) b e xs h.0, first_later c e xs (k + 1) batches h.1)
 
 pub executed_first : (c : Configuration) → IsConfiguration c → (trace : List Entry) → AreReplicasSafe c trace → Unforged c trace → NoCollision c trace
-    → (k : ℕ) (batches : List (List ℕ)) → AreExecuted c trace k batches → AreFirst c trace k batches
+    → (k : ℕ) (batches : List (List ℕ)) → AreExecuted c trace k batches → AreFirstBatches c trace k batches
 executed_first c setting trace right unforged apart k [] h = tt
 executed_first c setting trace right unforged apart k (b ∷ batches) h =
     let s = some_first c k b trace h.0 in

@@ -10,7 +10,7 @@ use Rattle.wire_format.specs.Words.{said}
 use Rattle.protocol.specs.System.Trace.{Entry}
 use Rattle.protocol.specs.System.Trace.Entry.{Got, Sent}
 use Rattle.protocol.specs.Replica.Certificates.{view, view_after, target, taken, new_view_in, new_view_from, low, batch_begun, is_later}
-use Rattle.protocol.specs.Replica.Selection.{may_select, largest, largest_of, changes_of, may_all_stand, is_within, is_batch_entry_within, how_many, is_start, is_checkpoint_within, ascending, is_quorum, count_in}
+use Rattle.protocol.specs.Replica.Selection.{may_select, largest, largest_of, changes_of, may_all_stand, is_within, is_batch_entry_within, how_many_batches, is_start, is_checkpoint_within, ascending, is_quorum, count_in}
 use Rattle.protocol.proofs.Words.Options.{and_then_some, then_some_gives}
 use Rattle.std.specs.Bool.{then_some}
 use Rattle.std.specs.List.{list_all}
@@ -128,14 +128,14 @@ pub record Selects (c : Configuration) (new : NewViewData) : Type 0 where
   pub in_order : ascending (changes_of c new) ≡ true
   pub each : list_all (λ x. (x.1.view == new.view) && is_within c x.1) (changes_of c new) ≡ true
   pub start : is_start c (changes_of c new) new.start new.root ≡ true
-  pub long : (length new.batches == how_many c new) ≡ true
+  pub long : (length new.batches == how_many_batches c new) ≡ true
   pub stand : may_all_stand c new.view (changes_of c new) (suc new.start) new.batches ≡ true
 
 pub selects : (c : Configuration) (new : NewViewData) → may_select c new ≡ true → Selects c new
 unfolding may_select
 selects c new h =
     let a = and_parts _ (may_all_stand c new.view (changes_of c new) (suc new.start) new.batches) h in
-    let b = and_parts _ (length new.batches == how_many c new) a.0 in
+    let b = and_parts _ (length new.batches == how_many_batches c new) a.0 in
     let s = and_parts _ (is_start c (changes_of c new) new.start new.root) b.0 in
     let e = and_parts _ (list_all (λ x. (x.1.view == new.view) && is_within c x.1) (changes_of c new)) s.0 in
     let o = and_parts _ (ascending (changes_of c new)) e.0 in
@@ -146,7 +146,7 @@ selects c new h =
 pub few_batches : (c : Configuration) (new : NewViewData) → may_select c new ≡ true → (length new.batches ≤ span c) × ((i : ℕ) → new.start < i → i - new.start - 1 < length new.batches → i < 2 ^ 48)
 few_batches c new h =
     let s = selects c new h in
-    let e : length new.batches ≡ how_many c new = eqb-true (length new.batches) (how_many c new) s.long in
+    let e : length new.batches ≡ how_many_batches c new = eqb-true (length new.batches) (how_many_batches c new) s.long in
     let l = largest_of-le (new.start + span c) (changes_of c new) in
     let m = largest_of-small c new.view (new.start + span c) (changes_of c new) s.each in
     (omega arith, λ i above within. omega arith)

@@ -7,7 +7,7 @@ use Rattle.wire_format.specs.Messages.{NewViewData}
 use Rattle.protocol.specs.System.Trace.{Entry, history_of, Once, Always}
 use Rattle.quorum.specs.Votes.{or_else}
 use Rattle.protocol.specs.Replica.Certificates.{begun_proposal, entry_proposal, view, view_after, new_view_in, target, low, is_in_marks, logged, proposal, taken, batch_begun, is_later}
-use Rattle.protocol.specs.Laws.Histories.{AreReplicasSafe, Takes, HasOrStartsAbove}
+use Rattle.protocol.specs.Laws.Histories.{AreReplicasSafe, TakesOrSendsNewView, HasOrStartsAbove}
 use Rattle.protocol.proofs.Words.Options.{and_then_some, some_injective, or_else_cases}
 use Rattle.protocol.proofs.Agreement.Voting.{RightAt, right_always, logged_stays}
 use Rattle.protocol.proofs.Agreement.Marks.{low_grows, takes, proposes}
@@ -45,7 +45,7 @@ reached c u (e ∷ past) h l = go (reached_by c u past e h) (reached c u past)
 
 -- each new view of the view u that a correct replica takes has the digest at i, or starts at or above it
 abbrev pub Settled : Configuration → List Entry → ℕ → List ℕ → ℕ → Type 0
-Settled c trace i d u = (q : ℕ) (new : NewViewData) → is_correct_replica c q ≡ true → Once (Takes c new) (history_of q trace) → new.view ≡ u → HasOrStartsAbove i d new
+Settled c trace i d u = (q : ℕ) (new : NewViewData) → is_correct_replica c q ≡ true → Once (TakesOrSendsNewView c new) (history_of q trace) → new.view ≡ u → HasOrStartsAbove i d new
 
 or_else_split : {A : Type 0} (o later : Option A) (x : A) → or_else o later ≡ Some x → (o ≡ Some x) ⊎ ((o ≡ None) × (later ≡ Some x))
 or_else_split None later x e = inr (refl, e)
@@ -66,7 +66,7 @@ settled_placed : (c : Configuration) (trace : List Entry) (i : ℕ) (d : List �
     → (past : List Entry) (e : Entry) → ((R : List Entry → Entry → Type 0) → R past e → Once R (history_of s trace)) → Always (RightAt c s) past → Reaches c u past e → Placed c s u i (e ∷ past)
 unfolding Reaches
 settled_placed c trace i d u s settled correct past e emb right r =
-    go (settled s r.0 correct (emb (Takes c r.0) r.1) r.2)
+    go (settled s r.0 correct (emb (TakesOrSendsNewView c r.0) r.1) r.2)
   where
     go : HasOrStartsAbove i d r.0 → Placed c s u i (e ∷ past)
     go (inl h) = let l = (takes c s past e r.0 r.1).low_is in record { place = inr (omega arith) }
@@ -96,7 +96,7 @@ logged_settled c trace i d u s settled some correct (e ∷ past) emb right b h =
   where
     begun : (m : Bool) → cond m (option_and_then (batch_begun u i) (taken c past e)) None ≡ Some b → sha256 b ≡ d
     begun false k = absurd cc
-    begun true k = in_new (settled s t.0 correct (emb (Takes c t.0) (inl t.1)) (proposes c u i t.0 b t.2).view_is)
+    begun true k = in_new (settled s t.0 correct (emb (TakesOrSendsNewView c t.0) (inl t.1)) (proposes c u i t.0 b t.2).view_is)
       where
         t : (new : NewViewData) × (taken c past e ≡ Some new) × (batch_begun u i new ≡ Some b)
         t = and_then_some (batch_begun u i) (taken c past e) b k

@@ -10,7 +10,7 @@ use Rattle.protocol.specs.System.Trace.Entry.{Invoke, Got, Sent}
 use Rattle.protocol.specs.Replica.Certificates.{new_view_in, new_view_from, taken}
 use Rattle.protocol.specs.Replica.Selection.{changes_of, signed_change, change_in, change_by, list_of}
 use Rattle.protocol.specs.Replica.RightReplica.{HasSeen}
-use Rattle.protocol.specs.Laws.Histories.{AreReplicasSafe, Takes}
+use Rattle.protocol.specs.Laws.Histories.{AreReplicasSafe, TakesOrSendsNewView}
 use Rattle.protocol.proofs.Words.Temporal.{once_weaker, once_in_history, always_sees, always_in_history}
 use Rattle.protocol.proofs.Words.Options.{and_then_some, some_injective}
 use Rattle.protocol.proofs.Words.Linking.{Speaks, heard_said, signed_said, sent_spoken}
@@ -97,7 +97,7 @@ pub begin_seen : (new : NewViewData) (bytes : List ℕ) (whole : List ℕ) (body
     → Has (λ x. x ≡ bytes) (carried_by whole)
 begin_seen new bytes whole body is message h = rw is (rw message (has_left (λ y. y ≡ bytes) new.changes (requests_of_all new.batches) h))
 
-pub taken_seen : (c : Configuration) (new : NewViewData) (bytes : List ℕ) → Has (λ x. x ≡ bytes) new.changes → (past : List Entry) (e : Entry) → Takes c new past e → HasSeen bytes past e
+pub taken_seen : (c : Configuration) (new : NewViewData) (bytes : List ℕ) → Has (λ x. x ≡ bytes) new.changes → (past : List Entry) (e : Entry) → TakesOrSendsNewView c new past e → HasSeen bytes past e
 taken_seen c new bytes h past e t = go e (takes c 0 past e new t).brought
   where
     go : (e : Entry) → new_view_in c e ≡ Some new → HasSeen bytes past e
@@ -113,13 +113,13 @@ taken_seen c new bytes h past e t = go e (takes c 0 past e new t).brought
 
 -- a correct replica sent its view change that stands in a taken new view
 pub change_was_said : (c : Configuration) (trace : List Entry) (q s : ℕ) (new : NewViewData) (vc : ViewChangeData) → AreReplicasSafe c trace → Unforged c trace
-    → is_correct_replica c q ≡ true → is_correct_replica c s ≡ true → Once (Takes c new) (history_of q trace) → change_by (changes_of c new) s ≡ Some vc
+    → is_correct_replica c q ≡ true → is_correct_replica c s ≡ true → Once (TakesOrSendsNewView c new) (history_of q trace) → change_by (changes_of c new) s ≡ Some vc
     → Once (Speaks (changing s vc)) (history_of s trace)
 change_was_said c trace q s new vc right unforged correct from taken is =
     let r = right q correct in
     let f = change_frame c new.changes s vc is in
     let t = and_then_some change_in (signed_body (members c) f.0) (s, vc) f.2 in
     let body : signed_body (members c) f.0 ≡ Some (changing s vc) = t.1 ∙ ap Some (change_is t.0.sender t.0.message s vc t.2) in
-    let seen : Once (HasSeen f.0) (history_of q trace) = once_weaker (Takes c new) (HasSeen f.0) (taken_seen c new f.0 f.1) (history_of q trace) taken in
+    let seen : Once (HasSeen f.0) (history_of q trace) = once_weaker (TakesOrSendsNewView c new) (HasSeen f.0) (taken_seen c new f.0 f.1) (history_of q trace) taken in
     seen_was_said c trace q (history_of q trace) (λ R h. h) (right_always c q (history_of q trace) r.0 r.1)
     (gots_said c trace q unforged (correct_replica c q correct)) f.0 seen (changing s vc) body from

@@ -14,11 +14,11 @@ use Rattle.protocol.specs.Replica.Selection.{is_quorum, changes_of, passes_by, c
 use Rattle.std.specs.List.{list_any}
 use Rattle.protocol.specs.Replica.State.{State, IsReplicatedState, opening, execute, after_batches, page_text, root_of}
 use Rattle.protocol.specs.Replica.Transfers.{in_place}
-use Rattle.protocol.specs.Replica.RightReplica.{Point, first_point, HistoryReaches, SafeReplica, May, MaySay, MayCheckpoint, MayInstall, Moves, GetsPage, StartsAt, kept_states, checkpoint_of, waiting_after, HadQuorum, executed_point}
-use Rattle.protocol.specs.System.Texts.{NoCollision, IsText, IsUnder, InstallsOver, HasPart, AreFirst}
+use Rattle.protocol.specs.Replica.RightReplica.{Point, first_point, HistoryReaches, SafeReplica, May, MaySay, MayCheckpoint, MayInstall, MovesPoint, GetsPage, StartsAt, kept_states, checkpoint_of, waiting_after, HadQuorum, executed_point}
+use Rattle.protocol.specs.System.Texts.{NoCollision, IsText, IsUnder, InstallsOver, EntryHasPart, AreFirstBatches}
 use Rattle.protocol.specs.System.Texts.IsText.{part, page_of, under, installed}
 use Rattle.protocol.specs.Space.Linear.{reached}
-use Rattle.protocol.specs.Laws.Histories.{AreReplicasSafe, ExecutesBatch, AreExecuted, Takes, IsRootOf, IsStateOf, Installs, Had}
+use Rattle.protocol.specs.Laws.Histories.{AreReplicasSafe, ExecutesBatch, AreExecuted, TakesOrSendsNewView, IsRootOf, IsStateOf, Installs, Had}
 use Rattle.protocol.proofs.Words.Temporal.{once_weaker, once_always, once_stays, once_in_trace}
 use Rattle.protocol.proofs.Words.Options.{and_then_some, then_some_gives, some_injective}
 use Rattle.protocol.proofs.Words.Linking.{Speaks, heard_said}
@@ -294,12 +294,12 @@ module _ (c : Configuration) (setting : IsConfiguration c) (trace ys : List Entr
 
   by_new_view : Once (StartsAt c k root) (history_of r ys) → Known c trace k root
   by_new_view h =
-      let found : Once (λ past e. (new : NewViewData) × Takes c new past e × ((new.start ≡ k) × (new.root ≡ root))) (history_of r ys) =
-      once_weaker (StartsAt c k root) (λ past e. (new : NewViewData) × Takes c new past e × ((new.start ≡ k) × (new.root ≡ root)))
+      let found : Once (λ past e. (new : NewViewData) × TakesOrSendsNewView c new past e × ((new.start ≡ k) × (new.root ≡ root))) (history_of r ys) =
+      once_weaker (StartsAt c k root) (λ past e. (new : NewViewData) × TakesOrSendsNewView c new past e × ((new.start ≡ k) × (new.root ≡ root)))
       (λ past e t. (t.0, t.1, (t.2, t.3))) (history_of r ys) h in
-      let n = once_some (λ new past e. Takes c new past e) (λ (new : NewViewData). (new.start ≡ k) × (new.root ≡ root)) (history_of r ys) found in
+      let n = once_some (λ new past e. TakesOrSendsNewView c new past e) (λ (new : NewViewData). (new.start ≡ k) × (new.root ≡ root)) (history_of r ys) found in
       let sel = selected c n.0 (once_stays (λ past. may_select c n.0 ≡ true) (λ e past x. x) (history_of r ys)
-      (once_weaker (Takes c n.0) (λ past e. may_select c n.0 ≡ true) (λ past e t. selected_in c e n.0 (takes c r past e n.0 t).brought) (history_of r ys) n.1)) in
+      (once_weaker (TakesOrSendsNewView c n.0) (λ past e. may_select c n.0 ≡ true) (λ past e t. selected_in c e n.0 (takes c r past e n.0 t).brought) (history_of r ys) n.1)) in
       let enough : c.faults + 1 ≤ count_below (passes_by (λ vc. list_any (λ checkpoint. (checkpoint.number == n.0.start) && bytes_eq checkpoint.digest n.0.root) vc.checkpoints) (changes_of c n.0)) (3 * c.faults + 1) =
       leb-true (c.faults + 1) (count_in c (λ vc. list_any (λ checkpoint. (checkpoint.number == n.0.start) && bytes_eq checkpoint.digest n.0.root) vc.checkpoints) (changes_of c n.0)) sel.lists in
       let more : c.faults < count_below (passes_by (λ vc. list_any (λ checkpoint. (checkpoint.number == n.0.start) && bytes_eq checkpoint.digest n.0.root) vc.checkpoints) (changes_of c n.0)) (3 * c.faults + 1) = omega arith in
@@ -325,7 +325,7 @@ module _ (c : Configuration) (setting : IsConfiguration c) (trace ys : List Entr
       go (inr h) = by_new_view h
 
 -- a page that is received is a text
-got_part : (c : Configuration) (r i : ℕ) (text : List ℕ) (past other : List Entry) (e : Entry) → GetsPage c r i text past e → HasPart text other e
+got_part : (c : Configuration) (r i : ℕ) (text : List ℕ) (past other : List Entry) (e : Entry) → GetsPage c r i text past e → EntryHasPart text other e
 got_part c r i text past other (Got p bytes) h =
     (record { sender = h.0; message = Page h.1 i text }, heard_said c r bytes (record { sender = h.0; message = Page h.1 i text }) h.2, inl refl)
 got_part c r i text past other (Invoke x y z) h = absurd h
@@ -359,7 +359,7 @@ executed_leave c setting trace right batches h =
 
 module _ (c : Configuration) (setting : IsConfiguration c) (trace : List Entry) (right : AreReplicasSafe c trace) (unforged : Unforged c trace) (apart : NoCollision c trace) where
   -- the batches of a state are the first
-  firsts : (st : State) → (is : IsStateOf c trace st) → AreFirst c trace 1 is.batches
+  firsts : (st : State) → (is : IsStateOf c trace st) → AreFirstBatches c trace 1 is.batches
   firsts st is = executed_first c setting trace right unforged apart 1 is.batches is.executed
 
   -- a state with the root of a state of executed batches, whose texts are apart, is that state
@@ -381,7 +381,7 @@ module _ (c : Configuration) (setting : IsConfiguration c) (trace : List Entry) 
 
   good_step : (pre ys : List Entry) (e : Entry) → trace ≡ pre ++ e ∷ ys → (r : ℕ) → is_correct_replica c r ≡ true → party_of e ≡ r
       → ((s : ℕ) → is_correct_replica c s ≡ true → GoodAll c trace s (history_of s ys))
-      → (old point : Point) → HistoryReaches c r (history_of r ys) old → Good c trace old → May c r (history_of r ys) old e → Moves c r (history_of r ys) old e point → Good c trace point
+      → (old point : Point) → HistoryReaches c r (history_of r ys) old → Good c trace old → May c r (history_of r ys) old e → MovesPoint c r (history_of r ys) old e point → Good c trace point
   good_step pre ys (Got p bytes) is r correct own good old point leaves was may move = good_moved old point (record old { ran = []; waiting = waiting_after c r old bytes }) move refl refl was
   good_step pre ys (Tick p) is r correct own good old point leaves was may move = good_moved old point (record old { ran = [] }) move refl refl was
   good_step pre ys (Sent p bytes) is r correct own good old point leaves was may move = subst (Good c trace) (sym move) was
@@ -433,10 +433,10 @@ module _ (c : Configuration) (setting : IsConfiguration c) (trace : List Entry) 
               pick (inl same) =
                   subst (IsText c trace) (sym same) (subst (λ (x : State). IsText c trace (page_text x i)) (sym was.state.is) (page_of was.state.batches i l (firsts old.state was.state)))
               pick (inr got) =
-                  let parts : Once (HasPart (page_text point.state i)) ys =
-                  once_weaker (λ past e. (party_of e ≡ r) × GetsPage c r i (page_text point.state i) (history_of r past) e) (HasPart (page_text point.state i))
+                  let parts : Once (EntryHasPart (page_text point.state i)) ys =
+                  once_weaker (λ past e. (party_of e ≡ r) × GetsPage c r i (page_text point.state i) (history_of r past) e) (EntryHasPart (page_text point.state i))
                   (λ past e t. got_part c r i (page_text point.state i) (history_of r past) past e t.1) ys (once_in_trace (GetsPage c r i (page_text point.state i)) r ys got) in
-                  part (page_text point.state i) (subst (λ (t : List Entry). Once (HasPart (page_text point.state i)) t) (sym is) (once_append (HasPart (page_text point.state i)) pre (Installed p k root ∷ ys) (inr parts)))
+                  part (page_text point.state i) (subst (λ (t : List Entry). Once (EntryHasPart (page_text point.state i)) t) (sym is) (once_append (EntryHasPart (page_text point.state i)) pre (Installed p k root ∷ ys) (inr parts)))
 
           number : length was.state.batches ≡ reached ys r
           number =

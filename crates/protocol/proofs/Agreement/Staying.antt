@@ -10,10 +10,10 @@ use Rattle.protocol.specs.System.Configuration.{Configuration, IsConfiguration, 
 use Rattle.wire_format.specs.Messages.{ViewChangeData, NewViewData, BatchEntryData as BatchEntry}
 use Rattle.protocol.specs.System.Trace.{Entry, history_of, Once, Unforged, Has}
 use Rattle.std.specs.List.{list_all, list_any}
-use Rattle.protocol.specs.Replica.Selection.{is_quorum, is_weak_quorum, count_in, passes_by, change_by, changes_of, may_select, may_stand_at, may_be_null, may_all_stand, is_null, is_within, is_batch_entry_within, is_checkpoint_within, agrees, vouches, how_many}
+use Rattle.protocol.specs.Replica.Selection.{is_quorum, is_weak_quorum, count_in, passes_by, change_by, changes_of, may_select, may_stand_at, may_be_null, may_all_stand, is_null, is_within, is_batch_entry_within, is_checkpoint_within, agrees, vouches, how_many_batches}
 use Rattle.protocol.specs.Replica.Certificates.{batch_begun, commit_of, Prepared, Committed, logged}
 use Rattle.quorum.specs.Votes.{has_digest}
-use Rattle.protocol.specs.Laws.Histories.{AreReplicasSafe, Takes, HasOrStartsAbove, CommittedStays, CommittedAgree}
+use Rattle.protocol.specs.Laws.Histories.{AreReplicasSafe, TakesOrSendsNewView, HasOrStartsAbove, CommittedStays, CommittedAgree}
 use Rattle.protocol.proofs.Words.Temporal.{once_weaker, once_stays}
 use Rattle.protocol.proofs.Agreement.Voting.{right_always}
 use Rattle.protocol.proofs.Agreement.Marks.{takes, selected_in, selects}
@@ -31,14 +31,14 @@ pub record Selected (c : Configuration) (new : NewViewData) : Type 0 where
   pub each : list_all (λ x. (x.1.view == new.view) && is_within c x.1) (changes_of c new) ≡ true
   pub starts : is_quorum c (count_in c (λ vc. nat_le vc.low new.start) (changes_of c new)) ≡ true
   pub lists : is_weak_quorum c (count_in c (λ vc. list_any (λ checkpoint. (checkpoint.number == new.start) && bytes_eq checkpoint.digest new.root) vc.checkpoints) (changes_of c new)) ≡ true
-  pub long : length new.batches ≡ how_many c new
+  pub long : length new.batches ≡ how_many_batches c new
   pub stand : may_all_stand c new.view (changes_of c new) (suc new.start) new.batches ≡ true
 
 pub selected : (c : Configuration) (new : NewViewData) → may_select c new ≡ true → Selected c new
 selected c new h =
     let s = selects c new h in
     let p = and_parts (is_quorum c (count_in c (λ vc. nat_le vc.low new.start) (changes_of c new))) _ s.start in
-    record { each = s.each; starts = p.0; lists = p.1; long = eqb-true (length new.batches) (how_many c new) s.long; stand = s.stand }
+    record { each = s.each; starts = p.0; lists = p.1; long = eqb-true (length new.batches) (how_many_batches c new) s.long; stand = s.stand }
 
 batch_entry_within : (c : Configuration) (vc : ViewChangeData) (batch_entry : BatchEntry) → is_batch_entry_within c vc batch_entry ≡ true → (batch_entry.view < vc.view) × (batch_entry.number ≤ vc.low + span c)
 batch_entry_within c vc batch_entry h =
@@ -85,7 +85,7 @@ module _ (c : Configuration) (setting : IsConfiguration c) (trace : List Entry) 
     change : change_by (changes_of c new) who ≡ Some vc
     pledged : Pledged c who v i vc (history_of who trace)
 
-  witness : (q : ℕ) (new : NewViewData) (test : ViewChangeData → Bool) → is_correct_replica c q ≡ true → Once (Takes c new) (history_of q trace) → Selected c new → v < new.view
+  witness : (q : ℕ) (new : NewViewData) (test : ViewChangeData → Bool) → is_correct_replica c q ≡ true → Once (TakesOrSendsNewView c new) (history_of q trace) → Selected c new → v < new.view
       → is_quorum c (count_in c test (changes_of c new)) ≡ true → Witness new test
   witness q new test correct' takes sel above h =
       let enough : 2 * c.faults + 1 ≤ count_below (passes_by test (changes_of c new)) (3 * c.faults + 1) = leb-true (2 * c.faults + 1) (count_in c test (changes_of c new)) h in
@@ -127,7 +127,7 @@ module _ (c : Configuration) (setting : IsConfiguration c) (trace : List Entry) 
   logged_digest w below s u who l m b h = let some : 0 < u = omega arith in settled_logged c trace i (sha256 a) u s right (below u l m) some who b h
 
   -- f + 1 replicas that vouch for a digest in a view above v
-  vouched : (q : ℕ) (new : NewViewData) → is_correct_replica c q ≡ true → Once (Takes c new) (history_of q trace) → Selected c new
+  vouched : (q : ℕ) (new : NewViewData) → is_correct_replica c q ≡ true → Once (TakesOrSendsNewView c new) (history_of q trace) → Selected c new
       → ((u : ℕ) → v < u → u < new.view → Settled c trace i (sha256 a) u) → (x : ℕ) (b : List ℕ) → v < x
       → is_weak_quorum c (count_in c (vouches i x (sha256 b)) (changes_of c new)) ≡ true → sha256 b ≡ sha256 a
   vouched q new correct' takes' sel below x b above h =
@@ -155,7 +155,7 @@ module _ (c : Configuration) (setting : IsConfiguration c) (trace : List Entry) 
       sym {a = sha256 o.batch} (o.digest_is ∙ digest) ∙ logged_digest new.view below s.0 k.0.view who later lower o.batch there
 
   -- a batch that may stand at the number has the digest
-  may_stand_digest : (q : ℕ) (new : NewViewData) → is_correct_replica c q ≡ true → Once (Takes c new) (history_of q trace) → Selected c new → v < new.view
+  may_stand_digest : (q : ℕ) (new : NewViewData) → is_correct_replica c q ≡ true → Once (TakesOrSendsNewView c new) (history_of q trace) → Selected c new → v < new.view
       → ((u : ℕ) → v < u → u < new.view → Settled c trace i (sha256 a) u) → (b : List ℕ) (x : ℕ)
       → may_stand_at c (changes_of c new) i (sha256 b) x ≡ true → sha256 b ≡ sha256 a
   may_stand_digest q new correct' takes' sel above below b x h = go (or_cases (not (w.1.0.number == i) || nat_lt w.1.0.view x) ((w.1.0.view == x) && bytes_eq w.1.0.digest (sha256 b)) tests)
@@ -195,7 +195,7 @@ module _ (c : Configuration) (setting : IsConfiguration c) (trace : List Entry) 
           sym e ∙ batch_entry_digest new.view below w.0.who w.0.is_correct w.1.0 bound listed
 
   -- no null batch may stand at the number
-  not_null : (q : ℕ) (new : NewViewData) → is_correct_replica c q ≡ true → Once (Takes c new) (history_of q trace) → Selected c new → v < new.view
+  not_null : (q : ℕ) (new : NewViewData) → is_correct_replica c q ≡ true → Once (TakesOrSendsNewView c new) (history_of q trace) → Selected c new → v < new.view
       → may_be_null c (changes_of c new) i ≡ true → ⊥
   not_null q new correct' takes' sel above h =
       let m = witness q new (λ vc. nat_lt vc.low i && list_all (λ (batch_entry : BatchEntry). not (batch_entry.number == i)) vc.prepared) correct' takes' sel above h in
@@ -210,7 +210,7 @@ module _ (c : Configuration) (setting : IsConfiguration c) (trace : List Entry) 
   settle w above below q new correct' takes' is = go (cases_lt new.start i)
     where
       sel : Selected c new
-      sel = selected c new (once_any (history_of q trace) (once_weaker (Takes c new) (λ past e. may_select c new ≡ true) (λ past e t. selected_in c e new (takes c q past e new t).brought) (history_of q trace) takes'))
+      sel = selected c new (once_any (history_of q trace) (once_weaker (TakesOrSendsNewView c new) (λ past e. may_select c new ≡ true) (λ past e t. selected_in c e new (takes c q past e new t).brought) (history_of q trace) takes'))
         where
           once_any : (xs : List Entry) → Once (λ past e. may_select c new ≡ true) xs → may_select c new ≡ true
           once_any xs h = once_stays (λ past. may_select c new ≡ true) (λ e past k. k) xs h

@@ -14,7 +14,7 @@ use Rattle.protocol.specs.System.Trace.Entry.{Invoke, Got, Sent, Accepted}
 use Rattle.protocol.specs.Replica.State.{Call, call_in, call_of}
 use Rattle.protocol.specs.Client.RightClient.{SafeClient, MayAsk, MayRequest, OpenCall, open_call, last_call}
 use Rattle.protocol.specs.Laws.Histories.{ExecutesBatch}
-use Rattle.protocol.specs.Space.Linear.{Placing, batch_of, is_level, Invokes, Asks}
+use Rattle.protocol.specs.Space.Linear.{Placing, batch_of, is_level, Invokes, EntryAsks}
 use Rattle.std.specs.Bool.{then_some}
 use Rattle.protocol.proofs.Words.Temporal.{once_weaker, once_always, once_once, once_in_history, once_in_trace}
 use Rattle.protocol.proofs.Words.Options.{and_then_some, some_injective, given_once, then_some_gives}
@@ -152,7 +152,7 @@ call_body c frame call h =
         test modes.ReadOnly y e h = absurd cc
     go sender _ h = absurd cc
 
-pub asks_request : (c : Configuration) (frame : List ℕ) (sender t : ℕ) (op : Operation) → said frame ≡ Some (asking sender t modes.Ordered op) → (past : List Entry) (e : Entry) → AsksFrame c frame past e → Asks c sender t op past e
+pub asks_request : (c : Configuration) (frame : List ℕ) (sender t : ℕ) (op : Operation) → said frame ≡ Some (asking sender t modes.Ordered op) → (past : List Entry) (e : Entry) → AsksFrame c frame past e → EntryAsks c sender t op past e
 unfolding AsksFrame
 asks_request c frame sender t op is past (Got p bytes) h = (h.0, there (frames_in bytes) h.2)
   where
@@ -213,12 +213,12 @@ module _ (c : Configuration) (trace : List Entry) (run : Run c trace) (x : Placi
       (λ past e t. (t.0, let l = t.1 in omega arith)) (at.entry ∷ at.past) (once_within Q (at.entry ∷ at.past) h) in
       subst (λ (t : List Entry). Once (λ past e. Q past e × (length past ≤ s.position)) t) (sym at.is) (once_append (λ past e. Q past e × (length past ≤ s.position)) at.later (at.entry ∷ at.past) near)
 
-  pub ran_asked : Once (λ past e. Asks c x.item.client x.item.timestamp x.item.op past e × (length past ≤ x.item.position)) trace
+  pub ran_asked : Once (λ past e. EntryAsks c x.item.client x.item.timestamp x.item.op past e × (length past ≤ x.item.position)) trace
   ran_asked =
       let at = source_asked in
-      subst (λ (y : Placing). Once (λ past e. Asks c y.item.client y.item.timestamp y.item.op past e × (length past ≤ y.item.position)) trace) (sym s.is)
-      (whole_once (Asks c (256 + s.ran.call.client) s.ran.call.timestamp s.ran.call.op) at
-      (once_weaker (AsksFrame c s.from.frame) (Asks c (256 + s.ran.call.client) s.ran.call.timestamp s.ran.call.op)
+      subst (λ (y : Placing). Once (λ past e. EntryAsks c y.item.client y.item.timestamp y.item.op past e × (length past ≤ y.item.position)) trace) (sym s.is)
+      (whole_once (EntryAsks c (256 + s.ran.call.client) s.ran.call.timestamp s.ran.call.op) at
+      (once_weaker (AsksFrame c s.from.frame) (EntryAsks c (256 + s.ran.call.client) s.ran.call.timestamp s.ran.call.op)
       (asks_request c s.from.frame (256 + s.ran.call.client) s.ran.call.timestamp s.ran.call.op spelled) (at.entry ∷ at.past) at.holds.1))
 
   pub ran_invoked : is_correct_client c x.item.client ≡ true → Once (λ past e. Invokes x.item.client x.item.timestamp x.item.op past e × (length past ≤ x.item.position)) trace

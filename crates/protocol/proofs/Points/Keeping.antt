@@ -15,7 +15,7 @@ use Rattle.protocol.specs.System.Trace.{Entry, party_of, Once, Has}
 use Rattle.protocol.specs.System.Trace.Entry.{Invoke, Got, Tick, Executed, Installed, Sent, Accepted}
 use Rattle.protocol.specs.Replica.State.{State, Call, Ran, opening, runs, run_call, call_in, call_of, run_frame, execute, ran_by, ran_in, kept_by, kept_of, last_time}
 use Rattle.reply_cache.specs.Replies.{Kept, Replies, last_of, with_reply}
-use Rattle.protocol.specs.Replica.RightReplica.{HistoryReaches, May, Moves}
+use Rattle.protocol.specs.Replica.RightReplica.{HistoryReaches, May, MovesPoint}
 use Rattle.protocol.specs.Laws.Histories.{ExecutesBatch}
 use Rattle.protocol.specs.Space.Linear.{Item, Placing, NoneTwice, ordered_point, ordered_points, first_position, batch_of, comes_before, insert_point, sorted}
 use Rattle.protocol.proofs.Words.Options.{and_then_some, some_injective}
@@ -133,7 +133,7 @@ module _ (c : Configuration) (xs : List Entry) (run : Run c xs) (r : ℕ) (corre
       ran_same : (p : RightReplica.Point) → point ≡ p → p.ran ≡ [] → RanBy c xs opening 1 point.state.number (IsRun x)
       ran_same p e none = absurd (subst (λ (rans : List Ran). Has (λ y. y ≡ x) rans) (ap (λ (q : RightReplica.Point). q.ran) e ∙ none) h)
 
-      go : (e : Entry) → party_of e ≡ r → ((k : ℕ) (b : List ℕ) → ExecutesBatch c k b past e → Once (ExecutesBatch c k b) xs) → May c r past leaves.0 e → Moves c r past leaves.0 e point
+      go : (e : Entry) → party_of e ≡ r → ((k : ℕ) (b : List ℕ) → ExecutesBatch c k b past e → Once (ExecutesBatch c k b) xs) → May c r past leaves.0 e → MovesPoint c r past leaves.0 e point
           → (Has (λ y. y ≡ x) leaves.0.ran → RanBy c xs opening 1 leaves.0.state.number (IsRun x)) → RanBy c xs opening 1 point.state.number (IsRun x)
       go (Got p bytes) own there may move below = ran_same (record leaves.0 { ran = []; waiting = waiting_after c r leaves.0 bytes }) move refl
       go (Tick p) own there may move below = ran_same (record leaves.0 { ran = [] }) move refl

@@ -9,7 +9,7 @@ use Rattle.protocol.specs.System.Configuration.{Configuration, IsConfiguration, 
 use Rattle.protocol.specs.System.Trace.{Entry, party_of, history_of}
 use Rattle.protocol.specs.System.Trace.Entry.{Invoke, Executed, Installed, Accepted}
 use Rattle.protocol.specs.Replica.State.{execute}
-use Rattle.protocol.specs.Replica.RightReplica.{HistoryReaches, May, Moves}
+use Rattle.protocol.specs.Replica.RightReplica.{HistoryReaches, May, MovesPoint}
 use Rattle.protocol.specs.Space.Linear.{reached_at, reached, count_correct, has_reached, is_level}
 
 -- ---- how many are correct
@@ -132,7 +132,7 @@ unfolding execute
 number_reached c r [] point h = ap (λ (x : RightReplica.Point). x.state.number) h
 number_reached c r (e ∷ past) point h = go e h.2.own h.2.may h.2.moves (number_reached c r past h.0 h.1)
   where
-    go : (e : Entry) → party_of e ≡ r → May c r past h.0 e → Moves c r past h.0 e point → h.0.state.number ≡ reached past r → point.state.number ≡ max (reached_at r e) (reached past r)
+    go : (e : Entry) → party_of e ≡ r → May c r past h.0 e → MovesPoint c r past h.0 e point → h.0.state.number ≡ reached past r → point.state.number ≡ max (reached_at r e) (reached past r)
     go (Invoke x y z) own may move was = absurd may
     go (Accepted x y z) own may move was = absurd may
     go (Executed p k batch) own may move was =

@@ -13,7 +13,7 @@ use Rattle.protocol.specs.System.Trace.{Entry, history_of, Once, Always, Has}
 use Rattle.protocol.specs.System.Trace.Entry.{Invoke, Got, Tick, Executed, Installed, Sent, Accepted}
 use Rattle.protocol.specs.Replica.State.{State, Call, Ran, opening, runs, run_call, call_of, run_frame, execute, ran_by, ran_in, kept_by, kept_of}
 use Rattle.reply_cache.specs.Replies.{Kept}
-use Rattle.protocol.specs.Replica.RightReplica.{HistoryReaches, May, Moves, MaySay, MayReply}
+use Rattle.protocol.specs.Replica.RightReplica.{HistoryReaches, May, MovesPoint, MaySay, MayReply}
 use Rattle.protocol.specs.Client.RightClient.{Vote, latest, is_alike}
 use Rattle.protocol.specs.Space.Linear.{reached, is_level}
 use Rattle.protocol.proofs.Words.Temporal.{once_weaker, once_always, once_stays}
@@ -94,7 +94,7 @@ ran_at_most c r (e ∷ past) point h x k = go e h.2.may h.2.moves (ran_at_most c
     at : (new : RightReplica.Point) → point ≡ new → Has (λ y. y ≡ x) new.ran
     at new is = subst (λ (p : RightReplica.Point). Has (λ y. y ≡ x) p.ran) is k
 
-    go : (e : Entry) → May c r past h.0 e → Moves c r past h.0 e point → (Has (λ y. y ≡ x) h.0.ran → x.kept.number ≤ h.0.state.number) → x.kept.number ≤ point.state.number
+    go : (e : Entry) → May c r past h.0 e → MovesPoint c r past h.0 e point → (Has (λ y. y ≡ x) h.0.ran → x.kept.number ≤ h.0.state.number) → x.kept.number ≤ point.state.number
     go (Got p bytes) may move below = absurd (at (record h.0 { ran = []; waiting = waiting_after c r h.0 bytes }) move)
     go (Tick p) may move below = absurd (at (record h.0 { ran = [] }) move)
     go (Sent p bytes) may move below = subst (λ (q : RightReplica.Point). x.kept.number ≤ q.state.number) (sym move) (below (at h.0 move))

@@ -14,7 +14,7 @@ use Rattle.space.proofs.Keeping.{read_same}
 use Rattle.protocol.specs.Replica.State.{opening}
 use Rattle.protocol.specs.Client.RightClient.{OpenCall, Vote}
 use Rattle.protocol.specs.System.Texts.{NoCollision}
-use Rattle.protocol.specs.Space.Linear.{Item, Placing, Legal, IsLinear, Invokes, Accepts, Asks, first_position, read_points, is_double, sorted, insert_point, comes_before, points}
+use Rattle.protocol.specs.Space.Linear.{Item, Placing, Legal, IsLinear, Invokes, Accepts, EntryAsks, first_position, read_points, is_double, sorted, insert_point, comes_before, points}
 use Rattle.protocol.specs.Laws.Histories.{LinearOfSafe, IsSafeTrace}
 use Rattle.protocol.proofs.Words.Temporal.{once_weaker, once_in_history}
 use Rattle.protocol.proofs.Points.Legality.{legal_ordered}
@@ -120,7 +120,7 @@ invoked_in_history p t op xs h = once_in_history (Invokes p t op) p xs (once_wea
 -- an item's conditions, but for those on acceptances
 pub record ItemFacts (c : Configuration) (trace : List Entry) (item : Item) : Type 0 where
   pub invoked : is_correct_client c item.client ≡ true → Once (λ past e. Invokes item.client item.timestamp item.op past e × (length past ≤ item.position)) trace
-  pub asked : is_correct_client c item.client ≡ false → Once (λ past e. Asks c item.client item.timestamp item.op past e × (length past ≤ item.position)) trace
+  pub asked : is_correct_client c item.client ≡ false → Once (λ past e. EntryAsks c item.client item.timestamp item.op past e × (length past ≤ item.position)) trace
 
 module _ (c : Configuration) (trace : List Entry) (run : Run c trace) where
   abbrev reads : List Placing

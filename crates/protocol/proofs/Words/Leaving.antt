@@ -15,7 +15,7 @@ use Rattle.wire_format.specs.Messages.{MessageData as Message, request as Reques
 use Rattle.wire_format.specs.Words.{requests_of, said}
 use Rattle.terms.specs.declared.order.Mode.TheVariants as modes
 use Rattle.protocol.specs.System.Frames.{same_mode}
-use Rattle.reply_cache.specs.Replies.{Kept, Replies, no_replies, last_of, with_reply, IsKept, IsReply, AreReplies}
+use Rattle.reply_cache.specs.Replies.{Kept, Replies, no_replies, last_of, with_reply, IsKeptReply, IsReply, AreReplies}
 use Rattle.reply_cache.proofs.Slots.{AreReplies-none}
 use Rattle.protocol.specs.Replica.State.{State, IsReplicatedState, Call, opening, kept_of, last_time, call_in, call_of, runs, kept_by, ran_call, run_call, run_frame, execute, after_batches}
 use Rattle.protocol.specs.Laws.Histories.{BatchesLeaveStates}
@@ -38,7 +38,7 @@ last_put (o ∷ replies) (suc i) (suc client) kept = go (last_put replies i clie
     go (inl k) = inl (k.0, ap suc k.1)
     go (inr k) = inr k
 
-put_replies : (replies : Replies) (i : ℕ) (kept : Kept) → IsKept kept → AreReplies replies → AreReplies (with_reply replies i kept)
+put_replies : (replies : Replies) (i : ℕ) (kept : Kept) → IsKeptReply kept → AreReplies replies → AreReplies (with_reply replies i kept)
 put_replies replies i kept is are = record { all = length-set replies i (Some kept) ∙ are.all; each = λ client. go client (last_put replies i client kept) }
   where
     go : (client : ℕ) → ((last_of (with_reply replies i kept) client ≡ Some kept) × (i ≡ client)) ⊎ (last_of (with_reply replies i kept) client ≡ last_of replies client)
@@ -82,7 +82,7 @@ call_fits c frame call h =
 call_leaves : (number : ℕ) → number < 2 ^ 64 → (st : State) (most : ℕ) (call : Call) → (call.timestamp < 2 ^ 64) × IsOperation call.op → Running st most → Running (run_call st number call) (most + 256)
 call_leaves number small st most call fits r = go (runs st call) refl
   where
-    kept : runs st call ≡ true → IsKept (kept_by st number call)
+    kept : runs st call ≡ true → IsKeptReply (kept_by st number call)
     kept e =
         let l = ltb-true (last_time st call.client) call.timestamp e in
         record { first = omega arith; timestamp_fits = fits.0; number_fits = small; answer = answers_are_valid st.space call.client call.op r.space fits.1 }

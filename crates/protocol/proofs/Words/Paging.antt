@@ -3,7 +3,7 @@ use Rattle.std.proofs.Common.{◌≡◌, ℕ, ◌+◌, ◌-◌, ◌<◌, Bool, t
 use Rattle.std.specs.Prelude.{◌==◌, nat_lt}
 use Rattle.std.proofs.lemmas.Bool.{lt-ltb, ltb-true}
 use Rattle.space.specs.Births.{SpaceState}
-use Rattle.space.specs.Pages.{header_text, page_text as tuple_page}
+use Rattle.space.specs.Pages.{header_text, tuple_page_text as tuple_page}
 use Rattle.space.proofs.Determining
 use Rattle.reply_cache.specs.Replies.{Replies}
 use Rattle.reply_cache.proofs.Determining as Cache

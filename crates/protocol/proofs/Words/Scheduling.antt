@@ -8,7 +8,7 @@ use Rattle.protocol.specs.System.Trace.Entry.{Invoke, Got, Tick, Sent}
 use Rattle.protocol.specs.System.Schedule.{Step, Made, World, StepsLead, new_world, made_by}
 use Rattle.protocol.specs.System.Schedule.Step.{seal, sign, flush}
 use Rattle.protocol.specs.System.Schedule.StepsLead.{ends, gives, called, delivers, gets, ticked, seals, signs, flushes, flushed}
-use Rattle.protocol.specs.Laws.Schedules.{IsInputOf, feeds_input, FeedsEachStep, is_sent, AllowsSent}
+use Rattle.protocol.specs.Laws.Schedules.{IsInputOfStep, feeds_input, FeedsEachStep, is_sent, AllowsSent}
 use Rattle.protocol.proofs.Words.Elements.{has_reverse}
 
 -- ---- each step is fed
@@ -16,28 +16,28 @@ use Rattle.protocol.proofs.Words.Elements.{has_reverse}
 no_input : (step other : Step) → feeds_input other ≡ false → other ≡ step → feeds_input step ≡ true → (X : Type 0) → X
 no_input step other none is feeds X = let bad : false ≡ true = sym none ∙ ap feeds_input is ∙ feeds in absurd cc
 
-fed : (c : Configuration) (w v : World) (steps : List Step) (entries : List Entry) → StepsLead c w steps entries v → (step : Step) → Has (λ x. x ≡ step) steps → feeds_input step ≡ true → Has (IsInputOf step) entries
+fed : (c : Configuration) (w v : World) (steps : List Step) (entries : List Entry) → StepsLead c w steps entries v → (step : Step) → Has (λ x. x ≡ step) steps → feeds_input step ≡ true → Has (IsInputOfStep step) entries
 fed c w v _ _ ends step h k = absurd h
 fed c w v _ _ (gives o g) step h k = inr (fed c _ _ _ _ g step h k)
-fed c w v _ _ (called {client = client} {timestamp = timestamp} {op = op} a g) step (inl h) k = inl (subst (λ (x : Step). IsInputOf x (Invoke client timestamp op)) h (refl, refl))
+fed c w v _ _ (called {client = client} {timestamp = timestamp} {op = op} a g) step (inl h) k = inl (subst (λ (x : Step). IsInputOfStep x (Invoke client timestamp op)) h (refl, refl))
 fed c w v _ _ (called a g) step (inr h) k = inr (fed c _ _ _ _ g step h k)
-fed c w v _ _ (delivers {frame = frame} {party = party} {made = made} a s g) step (inl h) k = inl (subst (λ (x : Step). IsInputOf x (Got party made.bytes)) h refl)
+fed c w v _ _ (delivers {frame = frame} {party = party} {made = made} a s g) step (inl h) k = inl (subst (λ (x : Step). IsInputOfStep x (Got party made.bytes)) h refl)
 fed c w v _ _ (delivers a s g) step (inr h) k = inr (fed c _ _ _ _ g step h k)
-fed c w v _ _ (gets {party = party} {text = text} a g) step (inl h) k = inl (subst (λ (x : Step). IsInputOf x (Got party text)) h (refl, refl))
+fed c w v _ _ (gets {party = party} {text = text} a g) step (inl h) k = inl (subst (λ (x : Step). IsInputOfStep x (Got party text)) h (refl, refl))
 fed c w v _ _ (gets a g) step (inr h) k = inr (fed c _ _ _ _ g step h k)
-fed c w v _ _ (ticked {party = party} a g) step (inl h) k = inl (subst (λ (x : Step). IsInputOf x (Tick party)) h refl)
+fed c w v _ _ (ticked {party = party} a g) step (inl h) k = inl (subst (λ (x : Step). IsInputOfStep x (Tick party)) h refl)
 fed c w v _ _ (ticked a g) step (inr h) k = inr (fed c _ _ _ _ g step h k)
-fed c w v _ _ (seals {sender = sender} {receivers = receivers} {body = body} a i g) step (inl h) k = no_input step (seal sender receivers body) refl h k (Has (IsInputOf step) _)
+fed c w v _ _ (seals {sender = sender} {receivers = receivers} {body = body} a i g) step (inl h) k = no_input step (seal sender receivers body) refl h k (Has (IsInputOfStep step) _)
 fed c w v _ _ (seals a i g) step (inr h) k = fed c _ _ _ _ g step h k
-fed c w v _ _ (signs {replica = replica} {leaf = leaf} {receivers = receivers} {body = body} a i g) step (inl h) k = no_input step (sign replica leaf receivers body) refl h k (Has (IsInputOf step) _)
+fed c w v _ _ (signs {replica = replica} {leaf = leaf} {receivers = receivers} {body = body} a i g) step (inl h) k = no_input step (sign replica leaf receivers body) refl h k (Has (IsInputOfStep step) _)
 fed c w v _ _ (signs a i g) step (inr h) k = fed c _ _ _ _ g step h k
-fed c w v _ _ (flushes p g) step (inl h) k = no_input step flush refl h k (Has (IsInputOf step) _)
+fed c w v _ _ (flushes p g) step (inl h) k = no_input step flush refl h k (Has (IsInputOfStep step) _)
 fed c w v _ _ (flushes p g) step (inr h) k = fed c _ _ _ _ g step (inr (inr h)) k
-fed c w v _ _ (flushed i p g) step (inl h) k = no_input step flush refl h k (Has (IsInputOf step) _)
+fed c w v _ _ (flushed i p g) step (inl h) k = no_input step flush refl h k (Has (IsInputOfStep step) _)
 fed c w v _ _ (flushed i p g) step (inr h) k = fed c _ _ _ _ g step h k
 
 pub feeds_each_step : FeedsEachStep
-feeds_each_step c steps step trace has input feeds = has_reverse (IsInputOf step) trace (fed c new_world feeds.0 steps (reverse trace) feeds.1 step has input)
+feeds_each_step c steps step trace has input feeds = has_reverse (IsInputOfStep step) trace (fed c new_world feeds.0 steps (reverse trace) feeds.1 step has input)
 
 -- ---- the past and the frames
 

@@ -4,7 +4,7 @@ use Rattle.protocol.specs.System.Configuration.{Configuration}
 use Rattle.protocol.specs.System.Trace.{Entry}
 use Rattle.protocol.specs.System.Trace.Entry.{Installed}
 use Rattle.protocol.specs.Replica.State.{State, Call, Ran}
-use Rattle.protocol.specs.Replica.RightReplica.{Point, Moves, IsInstalled, still_waiting}
+use Rattle.protocol.specs.Replica.RightReplica.{Point, MovesPoint, IsInstalled, still_waiting}
 use Rattle.protocol.specs.Laws.Histories.{PointsAreOne}
 use Rattle.protocol.proofs.Words.Paging.{pages_determine}
 
@@ -21,7 +21,7 @@ one_installed c me k root past old x y m n =
     state : x.state ≡ y.state
     state = pages_determine x.state y.state m.is_state n.is_state (λ i l. m.pages i l ∙ sym (n.pages i l))
 
-one_move : (c : Configuration) (me : ℕ) (past : List Entry) (old : Point) (e : Entry) (x y : Point) → Moves c me past old e x → Moves c me past old e y → x ≡ y
+one_move : (c : Configuration) (me : ℕ) (past : List Entry) (old : Point) (e : Entry) (x y : Point) → MovesPoint c me past old e x → MovesPoint c me past old e y → x ≡ y
 one_move c me past old (Installed r k root) x y m n = one_installed c me k root past old x y m n
 one_move c me past old _ x y m n = m ∙ sym n
 
@@ -29,4 +29,4 @@ pub points_are_one : PointsAreOne
 points_are_one c me [] x y h k = h ∙ sym k
 points_are_one c me (e ∷ past) x y h k =
     let same : h.0 ≡ k.0 = points_are_one c me past h.0 k.0 h.1 k.1 in
-    one_move c me past k.0 e x y (subst (λ (old : Point). Moves c me past old e x) same h.2.moves) k.2.moves
+    one_move c me past k.0 e x y (subst (λ (old : Point). MovesPoint c me past old e x) same h.2.moves) k.2.moves

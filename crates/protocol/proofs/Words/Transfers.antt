@@ -13,7 +13,7 @@ use Rattle.protocol.specs.System.Configuration.{Configuration, members}
 use Rattle.protocol.specs.System.Trace.{Entry, Once}
 use Rattle.protocol.specs.System.Trace.Entry.{Invoke, Got, Tick, Executed, Installed, Sent, Accepted}
 use Rattle.protocol.specs.Replica.Transfers.{place_from, number_asked, fetching, asked_last, is_page_level, is_page_asked, text_given, answer, took}
-use Rattle.protocol.specs.Laws.Transfers.{AnswersAreTaken, OthersAreLeft, IsAnswered, TakenWereAsked, DropsAreLeft, FetchesTell, OutputsTellNothing, TicksTakeNothing, InstallationsEnd, ExecutionsEnd, ExecutionsLeave}
+use Rattle.protocol.specs.Laws.Transfers.{AnswersAreTaken, OthersAreLeft, FetchIsAnswered, TakenWereAsked, DropsAreLeft, FetchesTell, OutputsTellNothing, TicksTakeNothing, InstallationsEnd, ExecutionsEnd, ExecutionsLeave}
 use Rattle.protocol.proofs.Words.Options.{or_else_first, or_else_second, or_else_cases, and_then_some, then_some_gives}
 
 -- ---- the place that was asked for last
@@ -98,7 +98,7 @@ pub drops_are_left : DropsAreLeft
 unfolding took
 drops_are_left c me i past bytes = refl
 
-answer_asked : (c : Configuration) (me i p : ℕ) (next : Option ℕ) (past : List Entry) (text bytes : List ℕ) → answer c me next past i bytes ≡ Some text → IsAnswered c me i text past (Got p bytes)
+answer_asked : (c : Configuration) (me i p : ℕ) (next : Option ℕ) (past : List Entry) (text bytes : List ℕ) → answer c me next past i bytes ≡ Some text → FetchIsAnswered c me i text past (Got p bytes)
 answer_asked c me i p None past text bytes h = absurd cc
 answer_asked c me i p (Some k) past text bytes h = let a = answers c me k i past bytes text h in (a.sender, k, a.says, a.asked)
 
@@ -107,15 +107,15 @@ unfolding took
 taken_were_asked c me i next [] text h = absurd cc
 taken_were_asked c me i next (Got p bytes ∷ past) text h = go (or_else_cases (answer c me next past i bytes) (took c me None past i) text h) (taken_were_asked c me i None past text)
   where
-    go : (answer c me next past i bytes ≡ Some text) ⊎ (took c me None past i ≡ Some text) → (took c me None past i ≡ Some text → Once (IsAnswered c me i text) past)
-        → Once (IsAnswered c me i text) (Got p bytes ∷ past)
+    go : (answer c me next past i bytes ≡ Some text) ⊎ (took c me None past i ≡ Some text) → (took c me None past i ≡ Some text → Once (FetchIsAnswered c me i text) past)
+        → Once (FetchIsAnswered c me i text) (Got p bytes ∷ past)
     go (inl here) below = inl (answer_asked c me i p next past text bytes here)
     go (inr there) below = inr (below there)
 taken_were_asked c me i next (Tick p ∷ past) text h = inr (taken_were_asked c me i None past text h)
 taken_were_asked c me i next (Sent p bytes ∷ past) text h = inr (taken_were_asked c me i (or_else (number_asked bytes) next) past text h)
 taken_were_asked c me i next (Executed r number batch ∷ past) text h = inr (go (nat_le (fetching past) number) h (taken_were_asked c me i next past text))
   where
-    go : (b : Bool) → cond b None (took c me next past i) ≡ Some text → (took c me next past i ≡ Some text → Once (IsAnswered c me i text) past) → Once (IsAnswered c me i text) past
+    go : (b : Bool) → cond b None (took c me next past i) ≡ Some text → (took c me next past i ≡ Some text → Once (FetchIsAnswered c me i text) past) → Once (FetchIsAnswered c me i text) past
     go true x below = absurd cc
     go false x below = below x
 taken_were_asked c me i next (Installed r number root ∷ past) text h = absurd cc

@@ -104,8 +104,8 @@ pub data Reaction : Type 0 where
   accepts : (timestamp : ℕ) (answer : Outcome) → Reaction
 
 -- a message is an ordered request of this timestamp
-abbrev pub is_ordered_request : ℕ → Body → Bool
-is_ordered_request timestamp body =
+abbrev pub is_ordered_request_of : ℕ → Body → Bool
+is_ordered_request_of timestamp body =
     elim body.message [ Request t mode op ↦ (t == timestamp) && same_mode mode modes.Ordered | _ ↦ false ]
 
 -- the client has sent the open call's request as an ordered one
@@ -113,7 +113,7 @@ abbrev pub went_ordered : List Entry → ℕ → Bool
 went_ordered [] timestamp = false
 went_ordered (Invoke client t op ∷ past) timestamp = false
 went_ordered (Sent p bytes ∷ past) timestamp =
-    option_map_or (is_ordered_request timestamp) (said bytes) false || went_ordered past timestamp
+    option_map_or (is_ordered_request_of timestamp) (said bytes) false || went_ordered past timestamp
 went_ordered (_ ∷ past) timestamp = went_ordered past timestamp
 
 -- the client has a read-only reply from each replica

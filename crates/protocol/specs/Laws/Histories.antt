@@ -56,8 +56,8 @@ HasOrStartsAbove i digest new =
     (i ≤ new.start) ⊎ ((batch : List ℕ) × (batch_begun new.view i new ≡ Some batch) × (sha256 batch ≡ digest))
 
 -- the replica takes or sends the new view in this entry
-abbrev pub Takes : Configuration → NewViewData → List Entry → Entry → Type 0
-Takes c new past e = taken c past e ≡ Some new
+abbrev pub TakesOrSendsNewView : Configuration → NewViewData → List Entry → Entry → Type 0
+TakesOrSendsNewView c new past e = taken c past e ≡ Some new
 
 -- If a batch is committed, each new view of a later view that a correct replica takes or sends assigns its digest to
 -- its number, or starts at or above the number.
@@ -65,7 +65,7 @@ abbrev pub CommittedStays : Type 0
 CommittedStays =
     (c : Configuration) → IsConfiguration c → (trace : List Entry) → AreReplicasSafe c trace → Unforged c trace
     → (p q v i : ℕ) (a : List ℕ) (new : NewViewData) → is_correct_replica c p ≡ true → is_correct_replica c q ≡ true
-    → Committed c p (history_of p trace) v i a → Once (Takes c new) (history_of q trace) → v < new.view
+    → Committed c p (history_of p trace) v i a → Once (TakesOrSendsNewView c new) (history_of q trace) → v < new.view
     → HasOrStartsAbove i (sha256 a) new
 
 -- Batches that two correct replicas hold committed for one number have one digest, over all views.
@@ -207,7 +207,7 @@ abbrev pub NoneBegins : Type 0
 NoneBegins =
     (c : Configuration) → IsConfiguration c → (trace : List Entry) → AreReplicasSafe c trace → Unforged c trace
     → NoneChanges c trace
-    → (p : ℕ) (new : NewViewData) → is_correct_replica c p ≡ true → Once (Takes c new) (history_of p trace) → ⊥
+    → (p : ℕ) (new : NewViewData) → is_correct_replica c p ≡ true → Once (TakesOrSendsNewView c new) (history_of p trace) → ⊥
 
 -- So each stays in the first view.
 abbrev pub FirstViewStays : Type 0

@@ -6,12 +6,12 @@ use Rattle.protocol.specs.System.Trace.Entry.{Invoke, Got, Tick, Sent}
 use Rattle.protocol.specs.System.Schedule.{Step, calls, deliver, feed, ticks, IsAllowed, Feeds}
 
 -- the entry is the input that the step feeds
-abbrev pub IsInputOf : Step → Entry → Type 0
-IsInputOf (calls k op) (Invoke client timestamp o) = (client ≡ k) × (o ≡ op)
-IsInputOf (deliver frame party) (Got p bytes) = p ≡ party
-IsInputOf (feed party text) (Got p bytes) = (p ≡ party) × (bytes ≡ text)
-IsInputOf (ticks party) (Tick p) = p ≡ party
-IsInputOf _ _ = ⊥
+abbrev pub IsInputOfStep : Step → Entry → Type 0
+IsInputOfStep (calls k op) (Invoke client timestamp o) = (client ≡ k) × (o ≡ op)
+IsInputOfStep (deliver frame party) (Got p bytes) = p ≡ party
+IsInputOfStep (feed party text) (Got p bytes) = (p ≡ party) × (bytes ≡ text)
+IsInputOfStep (ticks party) (Tick p) = p ≡ party
+IsInputOfStep _ _ = ⊥
 
 -- the step brings an input of its own into the trace
 abbrev pub feeds_input : Step → Bool
@@ -27,7 +27,7 @@ feeds_input step = elim step [
 abbrev pub FeedsEachStep : Type 0
 FeedsEachStep =
     (c : Configuration) (steps : List Step) (step : Step) (trace : List Entry)
-    → Has (λ x. x ≡ step) steps → feeds_input step ≡ true → Feeds c steps trace → Has (IsInputOf step) trace
+    → Has (λ x. x ≡ step) steps → feeds_input step ≡ true → Feeds c steps trace → Has (IsInputOfStep step) trace
 
 -- a frame is sent here
 abbrev pub is_sent : Entry → Bool

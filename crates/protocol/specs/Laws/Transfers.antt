@@ -28,18 +28,18 @@ OthersAreLeft =
     → took c me (Some k) (Got me bytes ∷ past) i ≡ took c me None past i
 
 -- what is taken of a place was got for it, where it was asked for last.
-abbrev pub IsAnswered : Configuration → ℕ → ℕ → List ℕ → List Entry → Entry → Type 0
-IsAnswered c me i text past (Got p bytes) =
+abbrev pub FetchIsAnswered : Configuration → ℕ → ℕ → List ℕ → List Entry → Entry → Type 0
+FetchIsAnswered c me i text past (Got p bytes) =
     (sender k : ℕ)
     × (heard (members c) me bytes ≡ Some (record { sender = sender; message = Page k i text }))
     × (asked_last past ≡ Some (k, (levels.Page, i)))
-IsAnswered c me i text past _ = ⊥
+FetchIsAnswered c me i text past _ = ⊥
 
 abbrev pub TakenWereAsked : Type 0
 TakenWereAsked =
     (c : Configuration) (me i : ℕ) (next : Option ℕ) (past : List Entry) (text : List ℕ)
     → took c me next past i ≡ Some text
-    → Once (IsAnswered c me i text) past
+    → Once (FetchIsAnswered c me i text) past
 
 -- Nor is one where the event goes on with nothing.
 abbrev pub DropsAreLeft : Type 0

@@ -25,7 +25,7 @@ use Rattle.protocol.specs.System.Trace.Entry.{Invoke, Got, Tick, Executed, Insta
 use Rattle.protocol.specs.Replica.Selection.{is_quorum, is_weak_quorum}
 use Rattle.protocol.specs.Replica.Certificates.{view, target, is_active_in, taken, latest_change, count_checkpoints, low, is_in_marks, are_genuine, logged, Prepared, Committed}
 use Rattle.reply_cache.specs.Replies.{Kept}
-use Rattle.protocol.specs.Replica.Transfers.{fetching, asked_last, NoneAsked, IsNext, in_place}
+use Rattle.protocol.specs.Replica.Transfers.{fetching, asked_last, NoneAsked, IsNextPart, in_place}
 use Rattle.protocol.specs.Replica.State.{State, IsReplicatedState, Call, call_in, Ran, opening, execute, root_of, pages_of, page_text, kept_of, last_time, tuples, ran_in}
 use Rattle.wire_format.specs.Lists.{Each}
 
@@ -147,12 +147,12 @@ executed_point c old k batch = record {
 
 -- How an entry moves the point: an input begins an event in which nothing ran yet, an execution or an installation
 -- changes the state, and all else changes nothing.
-abbrev pub Moves : Configuration → ℕ → List Entry → Point → Entry → Point → Type 0
-Moves c me past old (Got p bytes) new = new ≡ record old { ran = []; waiting = waiting_after c me old bytes }
-Moves c me past old (Tick p) new = new ≡ record old { ran = [] }
-Moves c me past old (Executed r k batch) new = new ≡ executed_point c old k batch
-Moves c me past old (Installed r k root) new = IsInstalled c me past old k root new
-Moves c me past old _ new = new ≡ old
+abbrev pub MovesPoint : Configuration → ℕ → List Entry → Point → Entry → Point → Type 0
+MovesPoint c me past old (Got p bytes) new = new ≡ record old { ran = []; waiting = waiting_after c me old bytes }
+MovesPoint c me past old (Tick p) new = new ≡ record old { ran = [] }
+MovesPoint c me past old (Executed r k batch) new = new ≡ executed_point c old k batch
+MovesPoint c me past old (Installed r k root) new = IsInstalled c me past old k root new
+MovesPoint c me past old _ new = new ≡ old
 
 -- ---- kept states, and the contents of a view change
 
@@ -260,7 +260,7 @@ pub record MayFetch (c : Configuration) (me : ℕ) (past : List Entry) (point : 
   pub root : List ℕ
   pub may : MayInstall c past point k root
   pub newest : fetching past ≤ k
-  pub next : IsNext c me past (in_place c me k past point.state) k root level index ⊎ IsAskedAgain past k level index
+  pub next : IsNextPart c me past (in_place c me k past point.state) k root level index ⊎ IsAskedAgain past k level index
 
 -- ---- what may be sent. Each clause covers sending again too.
 
@@ -437,7 +437,7 @@ pub record IsStep (c : Configuration) (me : ℕ) (past : List Entry) (old : Poin
     (new : Point) : Type 0 where
   pub own : party_of e ≡ me
   pub may : May c me past old e
-  pub moves : Moves c me past old e new
+  pub moves : MovesPoint c me past old e new
 
 -- each entry is one that the replica may have, and the newest leaves it at the point
 abbrev pub HistoryReaches : Configuration → ℕ → List Entry → Point → Type 0

@@ -143,8 +143,8 @@ ascending (x ∷ []) = true
 ascending (x ∷ y ∷ xs) = nat_lt x.0 y.0 && ascending (y ∷ xs)
 
 -- how many batches a new view must have: up to the largest number prepared, at most the span above its start
-abbrev pub how_many : Configuration → NewViewData → ℕ
-how_many c new = max (largest_of (new.start + span c) (changes_of c new)) new.start - new.start
+abbrev pub how_many_batches : Configuration → NewViewData → ℕ
+how_many_batches c new = max (largest_of (new.start + span c) (changes_of c new)) new.start - new.start
 
 -- ---- the rules of a new view, each by its name
 
@@ -162,7 +162,7 @@ all_within c new = list_all (λ x. (x.1.view == new.view) && is_within c x.1) (c
 
 -- the new view has as many batches as it must have
 abbrev pub has_length : Configuration → NewViewData → Bool
-has_length c new = length new.batches == how_many c new
+has_length c new = length new.batches == how_many_batches c new
 
 -- The new view meets all the rules.
 unfoldable pub may_select : Configuration → NewViewData → Bool

@@ -9,7 +9,7 @@ use Rattle.terms.specs.Parties.{client_number}
 use Rattle.tuple_codec.specs.Operations.{Operation}
 use Rattle.space.specs.Applying.{Contents, outcome}
 use Rattle.space.specs.Births.{SpaceState, empty_state, tuples_of, state_after}
-use Rattle.space.specs.Pages.{IsStateAt, header_text, page_text as tuple_page}
+use Rattle.space.specs.Pages.{IsStateAt, header_text, tuple_page_text as tuple_page}
 use Rattle.partition_tree.specs.Digests.{root_of as root_of_pages}
 use Rattle.protocol.specs.System.Configuration.{Configuration, is_client}
 use Rattle.terms.specs.declared.order.Mode.TheVariants as modes

@@ -116,10 +116,10 @@ pub record DiffersFirst (c : Configuration) (me : ℕ) (past : List Entry) (page
 -- The part to fetch next. The root comes first, if nothing was fetched of this number or a greater one: so a transfer
 -- begins or moves. Then, depth first, comes the first inner part that differs from the pages in place, and then its
 -- first page that does.
-abbrev pub IsNext : Configuration → ℕ → List Entry → (ℕ → List ℕ) → ℕ → List ℕ → Level → ℕ → Type 0
-IsNext c me past pages k root levels.Root index = fetching past < k
-IsNext c me past pages k root levels.Inner j = NoneAsked past × DiffersFirst c me past pages root j
-IsNext c me past pages k root levels.Page i =
+abbrev pub IsNextPart : Configuration → ℕ → List Entry → (ℕ → List ℕ) → ℕ → List ℕ → Level → ℕ → Type 0
+IsNextPart c me past pages k root levels.Root index = fetching past < k
+IsNextPart c me past pages k root levels.Inner j = NoneAsked past × DiffersFirst c me past pages root j
+IsNextPart c me past pages k root levels.Page i =
     NoneAsked past × (part : DiffersFirst c me past pages root (i / 32)) × (digests : List (List ℕ))
     × GotBelow c me past levels.Inner (i / 32) part.first.digest digests
     × IsFirstToDiffer digests (λ r. sha256 (pages (32 * (i / 32) + r))) (i % 32)

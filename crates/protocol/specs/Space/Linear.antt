@@ -59,11 +59,11 @@ Accepts p timestamp answer past (Accepted client t a) = (client_party client ≡
 Accepts p timestamp answer past _ = ⊥
 
 -- In this entry a correct replica receives the client's ordered request, alone or carried, authentic to the replica.
-abbrev pub Asks : Configuration → ℕ → ℕ → Operation → List Entry → Entry → Type 0
-Asks c client timestamp op past (Got p bytes) =
+abbrev pub EntryAsks : Configuration → ℕ → ℕ → Operation → List Entry → Entry → Type 0
+EntryAsks c client timestamp op past (Got p bytes) =
     (is_correct_replica c p ≡ true) × Has (λ frame. heard (members c) p frame
     ≡ Some (record { sender = client; message = Request timestamp modes.Ordered op })) (frames_in bytes)
-Asks c client timestamp op past _ = ⊥
+EntryAsks c client timestamp op past _ = ⊥
 
 -- no two items have the same client and timestamp
 abbrev pub NoneTwice : List Item → Type 0
@@ -80,7 +80,7 @@ pub record Covers (c : Configuration) (items : List Item) (trace : List Entry) :
   pub invoked : (item : Item) → Has (λ x. x ≡ item) items
       → is_correct_client c item.client ≡ true → Once (Invokes item.client item.timestamp item.op) trace
   pub asked : (item : Item) → Has (λ x. x ≡ item) items → is_correct_client c item.client ≡ false
-      → Once (λ past e. Asks c item.client item.timestamp item.op past e × (length past ≤ item.position)) trace
+      → Once (λ past e. EntryAsks c item.client item.timestamp item.op past e × (length past ≤ item.position)) trace
   pub once : NoneTwice items
 
 -- ---- placed

@@ -132,9 +132,9 @@ IsAllowed c w flush = ⊤
 -- ---- the trace of a schedule
 
 -- no output comes next
-abbrev pub AtInput : List Entry → Type 0
-AtInput [] = ⊤
-AtInput (e ∷ entries) = is_output e ≡ false
+abbrev pub NoOutputIsNext : List Entry → Type 0
+NoOutputIsNext [] = ⊤
+NoOutputIsNext (e ∷ entries) = is_output e ≡ false
 
 -- these steps lead from one world to another, over exactly these entries: a step brings its input, and outputs may
 -- follow
@@ -157,18 +157,18 @@ pub data StepsLead (c : Configuration) : World → List Step → List Entry → 
       → IsAllowed c w (ticks party) → StepsLead c (with_entry c w (Tick party)) steps entries v
       → StepsLead c w (ticks party ∷ steps) (Tick party ∷ entries) v
   seals : {w v : World} {steps : List Step} {entries : List Entry} {sender : ℕ} {receivers body : List ℕ}
-      → IsAllowed c w (seal sender receivers body) → AtInput entries
+      → IsAllowed c w (seal sender receivers body) → NoOutputIsNext entries
       → StepsLead c (with_frame w (sealed_bytes c sender receivers body) receivers) steps entries v
       → StepsLead c w (seal sender receivers body ∷ steps) entries v
   signs : {w v : World} {steps : List Step} {entries : List Entry} {replica leaf : ℕ} {receivers body : List ℕ}
-      → IsAllowed c w (sign replica leaf receivers body) → AtInput entries
+      → IsAllowed c w (sign replica leaf receivers body) → NoOutputIsNext entries
       → StepsLead c (with_frame w (signed_bytes c replica leaf body) receivers) steps entries v
       → StepsLead c w (sign replica leaf receivers body ∷ steps) entries v
   flushes : {w v : World} {steps : List Step} {entries : List Entry} {frame party : ℕ}
       → pending c w ≡ Some (frame, party) → StepsLead c w (deliver frame party ∷ flush ∷ steps) entries v
       → StepsLead c w (flush ∷ steps) entries v
   flushed : {w v : World} {steps : List Step} {entries : List Entry}
-      → AtInput entries → pending c w ≡ None → StepsLead c w steps entries v → StepsLead c w (flush ∷ steps) entries v
+      → NoOutputIsNext entries → pending c w ≡ None → StepsLead c w steps entries v → StepsLead c w (flush ∷ steps) entries v
 
 -- the inputs of the trace are those that the steps feed, each of them allowed; the trace stands newest first
 abbrev pub Feeds : Configuration → List Step → List Entry → Type 0

@@ -29,15 +29,15 @@ abbrev pub SaysBatch : List ℕ → List ℕ → Type 0
 SaysBatch text bytes = (body : Body) × (said bytes ≡ Some body) × Has (λ x. x ≡ text) (batches_of body.message)
 
 -- a party receives or sends the batch in this entry
-abbrev pub HasBatch : List ℕ → List Entry → Entry → Type 0
-HasBatch text past (Got p bytes) = SaysBatch text bytes
-HasBatch text past (Sent p bytes) = SaysBatch text bytes
-HasBatch text past _ = ⊥
+abbrev pub EntryHasBatch : List ℕ → List Entry → Entry → Type 0
+EntryHasBatch text past (Got p bytes) = SaysBatch text bytes
+EntryHasBatch text past (Sent p bytes) = SaysBatch text bytes
+EntryHasBatch text past _ = ⊥
 
 -- a party receives the page, or the text of digests, in this entry
-abbrev pub HasPart : List ℕ → List Entry → Entry → Type 0
-HasPart text past (Got p bytes) = (body : Body) × (said bytes ≡ Some body) × Has (λ x. x ≡ text) (parts_of body.message)
-HasPart text past _ = ⊥
+abbrev pub EntryHasPart : List ℕ → List Entry → Entry → Type 0
+EntryHasPart text past (Got p bytes) = (body : Body) × (said bytes ≡ Some body) × Has (λ x. x ≡ text) (parts_of body.message)
+EntryHasPart text past _ = ⊥
 
 -- the batch that a correct replica executes in this entry for number k
 abbrev pub batch_by : Configuration → ℕ → Entry → Option (List ℕ)
@@ -50,9 +50,9 @@ first_batch c trace k = first_given (λ past e. batch_by c k e) trace
 
 -- the batches are those executed first for the numbers k, k + 1, and so on; there is at most one such list of each
 -- length
-abbrev pub AreFirst : Configuration → List Entry → ℕ → List (List ℕ) → Type 0
-AreFirst c trace k [] = Unit {0}
-AreFirst c trace k (batch ∷ batches) = (first_batch c trace k ≡ Some batch) × AreFirst c trace (k + 1) batches
+abbrev pub AreFirstBatches : Configuration → List Entry → ℕ → List (List ℕ) → Type 0
+AreFirstBatches c trace k [] = Unit {0}
+AreFirstBatches c trace k (batch ∷ batches) = (first_batch c trace k ≡ Some batch) × AreFirstBatches c trace (k + 1) batches
 
 -- the texts of digests in the partition tree over these pages: of an inner part's pages, and of all inner parts
 pub data IsUnder (page : ℕ → List ℕ) : List ℕ → Type 0 where
@@ -72,13 +72,13 @@ InstallsOver c batches text past _ = ⊥
 -- reached, with those that its state transfer took put in.
 pub data IsText (c : Configuration) (trace : List Entry) : List ℕ → Type 0 where
   null : IsText c trace null_batch
-  batch : (text : List ℕ) → Once (HasBatch text) trace → IsText c trace text
-  part : (text : List ℕ) → Once (HasPart text) trace → IsText c trace text
-  page_of : (batches : List (List ℕ)) (i : ℕ) → i < PAGES → AreFirst c trace 1 batches
+  batch : (text : List ℕ) → Once (EntryHasBatch text) trace → IsText c trace text
+  part : (text : List ℕ) → Once (EntryHasPart text) trace → IsText c trace text
+  page_of : (batches : List (List ℕ)) (i : ℕ) → i < PAGES → AreFirstBatches c trace 1 batches
       → IsText c trace (page_text (after_batches c opening batches) i)
-  under : (batches : List (List ℕ)) (text : List ℕ) → AreFirst c trace 1 batches
+  under : (batches : List (List ℕ)) (text : List ℕ) → AreFirstBatches c trace 1 batches
       → IsUnder (page_text (after_batches c opening batches)) text → IsText c trace text
-  installed : (batches : List (List ℕ)) (text : List ℕ) → AreFirst c trace 1 batches
+  installed : (batches : List (List ℕ)) (text : List ℕ) → AreFirstBatches c trace 1 batches
       → Once (InstallsOver c batches text) trace → IsText c trace text
 
 -- Different texts of the trace have different SHA-256 digests (FIPS 180-4). They are at most 1,057 for each entry and

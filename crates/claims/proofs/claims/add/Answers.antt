@@ -5,7 +5,7 @@ use Rattle.std.proofs.Common.{◌≡◌, ℕ, true, false, List, ◌∷◌, leng
 use Rattle.std.proofs.lemmas.Bool.{le-leb, lt-leb}
 use Rattle.wire_format.specs.Lists.{Each}
 use Rattle.claims.specs.declared.claim.Claim.{Claim}
-use Rattle.claims.specs.ClaimsView.{claim_data, claims_of, texts_in, IsAmong}
+use Rattle.claims.specs.ClaimsView.{claim_data, claims_of, texts_in, IsAmongTexts}
 use Rattle.claims.specs.Places.{place_in, same_at}
 use Rattle.claims.proofs.KeptClaims.{texts_inserted, texts_replaced, texts_same}
 use Rattle.claims.proofs.Placing.{inserted, replaced, kept, same_within}
@@ -62,7 +62,7 @@ pub returns-then-not-is_same_at-clause-texts : goal.returns-then-not-is_same_at-
 returns-then-not-is_same_at-clause-texts c =
     let k = c.args.claim in
     let xs = c.args.claims.now.items in
-    subst (λ (ys : List Claim). Each (IsAmong (arc_value k.batch ∷ texts_in xs)) (texts_in ys)) (sym c.in_ok-insert.ensures.items) (texts_inserted k xs c.place_of-place.result)
+    subst (λ (ys : List Claim). Each (IsAmongTexts (arc_value k.batch ∷ texts_in xs)) (texts_in ys)) (sym c.in_ok-insert.ensures.items) (texts_inserted k xs c.place_of-place.result)
 
 pub returns-then-index-claim-clause-texts : goal.returns-then-index-claim-clause-texts
 returns-then-index-claim-clause-texts c =

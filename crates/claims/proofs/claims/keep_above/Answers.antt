@@ -3,7 +3,7 @@ use Rattle.std.proofs.Common.{rules, List, sym, ap, ◌∙◌, subst}
 use Rattle.std.proofs.lemmas.Fn.{filter_same}
 use Rattle.wire_format.specs.Lists.{Each}
 use Rattle.claims.specs.declared.claim.Claim.{Claim}
-use Rattle.claims.specs.ClaimsView.{claims_of, texts_in, IsAmong}
+use Rattle.claims.specs.ClaimsView.{claims_of, texts_in, IsAmongTexts}
 use Rattle.claims.proofs.KeptClaims.{texts_left}
 use Rattle.claims.proofs.Placing.{cut_is}
 use Rattle.claims.proofs.claims.keep_above.Goals as goal
@@ -13,5 +13,5 @@ returns-clause-claims c = ap claims_of (filter_same _ _ _ (λ x b f' k. search r
 
 pub returns-clause-texts : goal.returns-clause-texts
 returns-clause-texts c =
-    subst (λ (xs : List Claim). Each (IsAmong (texts_in c.args.claims.now.items)) (texts_in xs)) (sym (filter_same _ _ _ (λ x b f' k. search rules) _ _ c.retain.ensures.filtered))
+    subst (λ (xs : List Claim). Each (IsAmongTexts (texts_in c.args.claims.now.items)) (texts_in xs)) (sym (filter_same _ _ _ (λ x b f' k. search rules) _ _ c.retain.ensures.filtered))
     (texts_left (λ x. nat_lt c.args.low.0 x.entry.number.0) c.args.claims.now.items)

@@ -3,7 +3,7 @@ use Rattle.std.specs.Prelude.{slice_get, Some}
 use Rattle.std.proofs.lemmas.List.{length_push}
 use Rattle.std.proofs.lemmas.Iterator.Adapters.{YieldsList-from_vec}
 use Rattle.std.proofs.lemmas.Iterator.Consumers.{YieldsList-at, YieldsList-from_enumerate, YieldsList-turn}
-use Rattle.cluster_run.specs.Threads.{Starts, promises_of}
+use Rattle.cluster_run.specs.Threads.{StartsThread, promises_of}
 use Rattle.cluster_run.proofs.Joining.{started_more}
 use Rattle.cluster_run.proofs.Turns.{turn_at}
 use Rattle.cluster_run.proofs.calling.start_clients.Goals as goal
@@ -20,7 +20,7 @@ loop-number-preserved g c =
     let number : c.in_ok-number.number ≡ c.in-Some.number = search rules in
     let so_many : length c.loop-number.yielded ≡ length old = sym c.loop-number.invariant.1 in
     let at : c.in_ok-number.number ≡ length old = omega (arith, number, turn.0, so_many) in
-    let starts : Starts old c.in_ok-number.number c.in-Some.ops new = search rules in
+    let starts : StartsThread old c.in_ok-number.number c.in-Some.ops new = search rules in
     let is : slice_get c.args.hands.items c.in_ok-number.number ≡ Some c.in-Some.ops = ap (slice_get c.args.hands.items) (at ∙ c.loop-number.invariant.1) ∙ turn.1 in
     let more = started_more c.args.hands.items c.in-Some.ops old new c.in_ok-number.number c.loop-number.invariant.0 starts at is in
     (more.0, more.1 ∙ (ap (λ k. k + 1) c.loop-number.invariant.1 ∙ sym (length_push c.loop-number.yielded (c.in-Some.number, c.in-Some.ops))))

@@ -1,5 +1,5 @@
 use Rattle.std.proofs.Common.{sym, subst, ◌∙◌}
-use Rattle.one_space.specs.NextLines.{Fails}
+use Rattle.one_space.specs.NextLines.{NextLineFails}
 use Rattle.one_space.proofs.BlankLemmas.{drops_more, part_refused_known, end_at_known, end_last_known, EndJudged, OfBlanks}
 use Rattle.one_space.proofs.input.blanks_line.Goals as goal
 
@@ -17,7 +17,7 @@ returns-in-InputEnd g c =
 
 pub returns-then-not-drop_blanks : goal.returns-then-not-drop_blanks
 returns-then-not-drop_blanks g c =
-    subst (λ failed. OfBlanks (g.B.Read.remaining c.args.reader.now) c.args.line.now.items (Fails failed)) (sym c.too_many_blanks.ensures)
+    subst (λ failed. OfBlanks (g.B.Read.remaining c.args.reader.now) c.args.line.now.items (NextLineFails failed)) (sym c.too_many_blanks.ensures)
     (part_refused_known (g.B.Read.remaining c.args.reader.now) (g.B.Read.remaining c.loop.reader) (g.B.Read.remaining c.read_piece.new.reader) c.args.line.now.items c.loop.line.items c.read_piece.new.piece.items 65538
     c.loop.invariant (rw c.in-Full.is at c.in_ok-read_piece.ensures.known) c.if-not-drop_blanks.ensures)
 

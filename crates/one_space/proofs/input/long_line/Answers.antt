@@ -1,7 +1,7 @@
 use Rattle.std.proofs.Common.{◌≡◌, ◌<◌, ◌≤◌, ◌++◌, IfSome, MatchResult, arith, length, take, subst, sym, ◌∙◌, ap}
 use Rattle.std.proofs.lemmas.List.{get_or_default}
 use Rattle.tuple_text.specs.Texts.{AreBlanks}
-use Rattle.one_space.specs.NextLines.{Fails, IsJudged, IsRefused}
+use Rattle.one_space.specs.NextLines.{NextLineFails, IsJudged, IsRefused}
 use Rattle.one_space.proofs.PieceLemmas.{NoLineFeed}
 use Rattle.one_space.proofs.NextLemmas.{skipped_comment}
 use Rattle.one_space.proofs.BlankLemmas.{blanks_of, not_blanks, judged_long, refused_first, goes_on}
@@ -30,7 +30,7 @@ returns-then-not-drop_blanks g c =
     let line = c.args.line.now in
     let long : 65538 ≤ length line.items = omega (arith, c.requires, line.ok.0) in
     let front : c.split_at.result.0.now ≡ take 65537 line.items = c.split_at.ensures.front ∙ ap (take 65537) c.as_slice.ensures.value in
-    subst (λ failed. IfSome (g.B.Read.remaining c.args.reader.now) (λ ys. NoLineFeed line.items → Fails failed (line.items ++ ys))) (sym c.too_many_blanks.ensures)
+    subst (λ failed. IfSome (g.B.Read.remaining c.args.reader.now) (λ ys. NoLineFeed line.items → NextLineFails failed (line.items ++ ys))) (sym c.too_many_blanks.ensures)
     (refused_first (g.B.Read.remaining c.args.reader.now) line.items long (subst AreBlanks front (blanks_of c.split_at.result.0.now (sym c.is_blank.ensures ∙ c.if-not-is_blank.false))) c.if-not-drop_blanks.ensures)
 
 pub returns : goal.returns

@@ -1,8 +1,8 @@
 use Rattle.std.proofs.Common.{◌<◌, ◌/◌, ap, sym, subst, ◌∙◌, arith}
 use Rattle.std.proofs.lemmas.List.{length-set}
 use Rattle.std.specs.Vec.Iter.{into_iter_items}
-use Rattle.partition_tree.specs.Changes.{pages_with, IsKept}
-use Rattle.partition_tree.specs.Parts.{parts_of, pages_of}
+use Rattle.partition_tree.specs.Changes.{pages_with, UnmarkedPartsStay}
+use Rattle.partition_tree.specs.Parts.{parts_held, pages_held}
 use Rattle.partition_tree.proofs.Standing.{pages_written, full_written, kept_elsewhere, parts_kept}
 use Rattle.partition_tree.proofs.parts.change_all.Goals as goal
 
@@ -21,7 +21,7 @@ loop-page-preserved-then-branch c =
       is_finite = tt;
       pages =
           ap (pages_with (into_iter_items c.next.new.self)) pages
-          ∙ ap (λ more. pages_with more (pages_of owners)) (sym items)
+          ∙ ap (λ more. pages_with more (pages_held owners)) (sym items)
           ∙ was.pages;
       full = full_written owners i _ _ text was.count was.full h c.index_mut.ensures.value is;
       count = rw length-set was.count;
@@ -46,10 +46,10 @@ loop-page-preserved c =
       is_finite = tt;
       pages =
           ap (pages_with (into_iter_items c.next.new.self)) pages
-          ∙ ap (λ more. pages_with more (pages_of owners)) (sym items)
+          ∙ ap (λ more. pages_with more (pages_held owners)) (sym items)
           ∙ was.pages;
       full = full_written owners i _ _ text was.count was.full h c.index_mut.ensures.value is;
       count = rw length-set was.count;
       flags = was.flags;
-      kept = subst (IsKept c.loop-page.changed (parts_of c.args.parts.now.items)) (sym parts) was.kept;
+      kept = subst (UnmarkedPartsStay c.loop-page.changed (parts_held c.args.parts.now.items)) (sym parts) was.kept;
     }

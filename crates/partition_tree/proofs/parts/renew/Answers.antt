@@ -1,7 +1,7 @@
 use Rattle.std.proofs.Common.{◌≡◌, ◌<◌, ℕ, List, [], length, get_or, ap, sym, ◌∙◌, arith}
 use Rattle.std.proofs.lemmas.List.{length-set, length-map, get_or-map, ext_get_or}
 use Rattle.std.specs.Arc.{arc_value}
-use Rattle.partition_tree.specs.Parts.{parts_of, part_digest}
+use Rattle.partition_tree.specs.Parts.{parts_held, part_digest}
 use Rattle.partition_tree.proofs.Standing.{read}
 use Rattle.partition_tree.proofs.Renewing.{set_more, set_above, keep_more}
 use Rattle.partition_tree.proofs.parts.renew.Goals as goal
@@ -9,7 +9,7 @@ use Rattle.partition_tree.proofs.parts.renew.Goals.{then-changed-part, else-chan
 
 pub loop-part-preserved : goal.loop-part-preserved
 loop-part-preserved c =
-    let f : ℕ → List ℕ = λ j. part_digest (get_or (parts_of c.args.parts.now) j []) in
+    let f : ℕ → List ℕ = λ j. part_digest (get_or (parts_held c.args.parts.now) j []) in
     let was = c.loop-part.invariant in
     elim c.if-changed-part.branch [
       | then-changed-part w ↦
@@ -34,7 +34,7 @@ returns c =
     let owners = c.args.parts.now in
     let was = c.loop-part.invariant in
     let all : length owners ≡ 32 = c.requires.count in
-    ext_get_or [] _ _ (was.count ∙ sym (length-map (parts_of owners) part_digest ∙ length-map owners arc_value ∙ all))
+    ext_get_or [] _ _ (was.count ∙ sym (length-map (parts_held owners) part_digest ∙ length-map owners arc_value ∙ all))
     (λ j h.
-    let within : j < length (parts_of owners) = rw length-map (omega arith) in
-    was.done j (omega arith) ∙ sym (get_or-map part_digest (parts_of owners) j [] [] within))
+    let within : j < length (parts_held owners) = rw length-map (omega arith) in
+    was.done j (omega arith) ∙ sym (get_or-map part_digest (parts_held owners) j [] [] within))

@@ -3,7 +3,7 @@ use Rattle.std.proofs.lemmas.Iterator.{YieldsList-from_chars}
 use Rattle.std.proofs.lemmas.Iterator.Consumers.{YieldsList-end}
 use Rattle.std.proofs.lemmas.Result.{err_from_is_err_and}
 use Rattle.tuple_text.proofs.Writing.{error_second}
-use Rattle.picture.specs.Escaping.{escaped}
+use Rattle.picture.specs.Escaping.{escaped_character}
 use Rattle.picture.proofs.Written.{one_more}
 use Rattle.picture.proofs.escaping.escape.Goals as goal
 
@@ -23,4 +23,4 @@ pub returns : goal.returns
 returns c =
     let end = YieldsList-end (YieldsList-from_chars c.args.text.now c.utf8.text cc) c.loop-character.yielded _ c.loop-character.yielded_by _ _ c.in-None.is c.next.ensures.steps in
     c.loop-character.invariant
-    ∙ ap (λ cs. string_bytes c.args.out.now ++ encode_utf8_all (flat_map escaped cs)) (sym (map-id c.loop-character.yielded) ∙ end.0)
+    ∙ ap (λ cs. string_bytes c.args.out.now ++ encode_utf8_all (flat_map escaped_character cs)) (sym (map-id c.loop-character.yielded) ∙ end.0)

@@ -2,7 +2,7 @@ use Rattle.std.proofs.Common.{ℕ, List, Bor, sym, ap, ◌∙◌, subst, arith}
 use Rattle.std.specs.Prelude.{OnOk}
 use Rattle.wire.specs.Headers.{IsFrame}
 use Rattle.wire_format.specs.Lists.{Each}
-use Rattle.points.specs.Running.{so_far, RunsAll}
+use Rattle.points.specs.Running.{placed_so_far, PlacesAllFrames}
 use Rattle.execution.proofs.Calling.{requests_are_frames}
 use Rattle.points.proofs.Going.{texts}
 use Rattle.points.proofs.running.run_batch.Goals as goal
@@ -14,5 +14,5 @@ run_frames-requires-clause-frames c =
 
 pub returns : goal.returns
 returns c =
-    subst (λ (fs : List (List ℕ)). OnOk c.run_frames.result (RunsAll c.args.turn fs (so_far c.args.space.now c.args.replies.now c.args.found.now.items) (so_far c.run_frames.new.space c.run_frames.new.replies c.run_frames.new.found.items)))
+    subst (λ (fs : List (List ℕ)). OnOk c.run_frames.result (PlacesAllFrames c.args.turn fs (placed_so_far c.args.space.now c.args.replies.now c.args.found.now.items) (placed_so_far c.run_frames.new.space c.run_frames.new.replies c.run_frames.new.found.items)))
     (ap texts c.as_slice.ensures.value ∙ c.requests-frames.ensures.frames) c.run_frames.ensures

@@ -1,12 +1,12 @@
 use Rattle.std.proofs.Common.{ap, ◌∙◌}
-use Rattle.points.specs.Seating.{seat_after}
+use Rattle.points.specs.Seating.{seat_after_entry}
 use Rattle.points.proofs.Noting.{notes_own, notes_none}
 use Rattle.points.proofs.seats.note.Goals as goal
 
 pub returns-in-Ok : goal.returns-in-Ok
 returns-in-Ok c =
     notes_own c.in-Some.client.number c.args.position c.args.entry.now c.args.seats.now.entries _ c.seat_after-seat.result (c.in-Some.ensures)
-    ((c.in-Ok.ensures {u = tt}).updates.0) (c.seat_after-seat.ensures ∙ ap (seat_after c.args.position c.args.entry.now) c.seat_of.ensures)
+    ((c.in-Ok.ensures {u = tt}).updates.0) (c.seat_after-seat.ensures ∙ ap (seat_after_entry c.args.position c.args.entry.now) c.seat_of.ensures)
 
 pub returns-in_default : goal.returns-in_default
 returns-in_default c = notes_none c.args.position c.args.entry.now c.args.seats.now.entries c.in_default.ensures

@@ -5,14 +5,14 @@ use Rattle.wire_format.specs.Views.{message_data}
 use Rattle.protocol.specs.System.Trace.Entry.{Sent}
 use Rattle.events.specs.Outputs.{receivers_in}
 use Rattle.events.proofs.Meant.{sealed_is_for}
-use Rattle.posting.specs.Endpoint.{Posts, says}
+use Rattle.posting.specs.Endpoint.{PostsMessage, says}
 use Rattle.posting.specs.Frames.{SpellsSealed}
 use Rattle.posting.proofs.Posting.{sealed_posts}
 use Rattle.posting.proofs.sealing.seal_for.Goals as goal
 
 pub returns-clause-posted : goal.returns-clause-posted
 returns-clause-posted c =
-    let posts : Posts c.args.ring.now c.args.me.0 (message_data c.args.message) (map party_number c.args.receivers.items) c.in_ok-text.text.items =
+    let posts : PostsMessage c.args.ring.now c.args.me.0 (message_data c.args.message) (map party_number c.args.receivers.items) c.in_ok-text.text.items =
     sealed_posts c.args.ring.now c.args.me.0 (message_data c.args.message) (map party_number c.args.receivers.items) c.in_ok-text.text.items
     (subst (λ (parties : List Party). SpellsSealed c.args.ring.now.seed (says c.args.me.0 (message_data c.args.message)) (map party_number parties) c.in_ok-text.text.items) c.as_slice.ensures.value c.in_ok-text.ensures.sealed) in
     record {

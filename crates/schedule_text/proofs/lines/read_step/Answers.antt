@@ -2,19 +2,19 @@ use Rattle.std.proofs.Common.{inl, sym, ap, ◌∙◌, subst}
 use Rattle.std.proofs.lemmas.Bool.{iff_false}
 use Rattle.std.proofs.lemmas.Result.{err_from_is_err_and}
 use Rattle.schedule_text.specs.Words.{trimmed}
-use Rattle.schedule_text.specs.Reading.{IsFirst}
+use Rattle.schedule_text.specs.Reading.{IsFirstWord}
 use Rattle.schedule_text.proofs.Skips.{trimmed_blanks, not_skipped, refuses}
 use Rattle.schedule_text.proofs.lines.read_step.Goals as goal
 
 pub returns-in_err-read_named-in-Some-clause-answer : goal.returns-in_err-read_named-in-Some-clause-answer
 returns-in_err-read_named-in-Some-clause-answer c =
     let p = err_from_is_err_and c.from_residual.result c.from_residual.ensures.1 in
-    let first = subst (λ line. IsFirst line c.in-Some.name.now c.next.new.self.rest.now) c.new-words.ensures (c.in-Some.ensures {u = tt}) in
+    let first = subst (λ line. IsFirstWord line c.in-Some.name.now c.next.new.self.rest.now) c.new-words.ensures (c.in-Some.ensures {u = tt}) in
     rw (p.1, p.2) (refuses c.args.line.now c.in-Some.name.now c.next.new.self.rest.now first (iff_false c.is_comment.ensures c.if-is_comment.false) c.in_err-read_named-in-Some.field-0.0 (c.in_err-read_named-in-Some.ensures {u = tt}))
 
 pub returns-in_err-read_named-in-Some-clause-skipped : goal.returns-in_err-read_named-in-Some-clause-skipped
 returns-in_err-read_named-in-Some-clause-skipped c h =
-    let first = subst (λ line. IsFirst line c.in-Some.name.now c.next.new.self.rest.now) c.new-words.ensures (c.in-Some.ensures {u = tt}) in
+    let first = subst (λ line. IsFirstWord line c.in-Some.name.now c.next.new.self.rest.now) c.new-words.ensures (c.in-Some.ensures {u = tt}) in
     absurd (not_skipped c.args.line.now c.in-Some.name.now c.next.new.self.rest.now first (iff_false c.is_comment.ensures c.if-is_comment.false) h)
 
 pub returns-in-None-clause-answer : goal.returns-in-None-clause-answer
@@ -22,5 +22,5 @@ returns-in-None-clause-answer c = inl (trimmed_blanks c.args.line.now (ap trimme
 
 pub returns-in_ok-read_named-in-Some-clause-skipped : goal.returns-in_ok-read_named-in-Some-clause-skipped
 returns-in_ok-read_named-in-Some-clause-skipped c h =
-    let first = subst (λ line. IsFirst line c.in-Some.name.now c.next.new.self.rest.now) c.new-words.ensures (c.in-Some.ensures {u = tt}) in
+    let first = subst (λ line. IsFirstWord line c.in-Some.name.now c.next.new.self.rest.now) c.new-words.ensures (c.in-Some.ensures {u = tt}) in
     absurd (not_skipped c.args.line.now c.in-Some.name.now c.next.new.self.rest.now first (iff_false c.is_comment.ensures c.if-is_comment.false) h)

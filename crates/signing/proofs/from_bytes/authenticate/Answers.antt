@@ -2,7 +2,7 @@ use Rattle.std.proofs.Common.{◌∙◌, ap, sym, subst}
 use Rattle.std.proofs.lemmas.Result.{err_from_is_err_and}
 use Rattle.terms.specs.Parties.{party_number}
 use Rattle.wire.specs.Headers.{header_data}
-use Rattle.signing.specs.Hearing.{Refuses, signature_holds}
+use Rattle.signing.specs.Hearing.{RefusesBytes, signature_holds}
 use Rattle.signing.proofs.Heard.{heard_was_opened}
 use Rattle.signing.proofs.Opened.{own_not_heard, refused_not_heard, refused_by_header, heard_by_header, unsigned_by_header, unsigned_not_heard}
 use Rattle.signing.proofs.Whether.{hears_nothing, hears_something}
@@ -29,7 +29,7 @@ returns-in-Some-clause-heard c =
 
 pub returns-in-Some-clause-refused : goal.returns-in-Some-clause-refused
 returns-in-Some-clause-refused c =
-    subst (Refuses c.args.ring.now (party_number c.args.me) c.args.bytes.now) (sym c.into.ensures)
+    subst (RefusesBytes c.args.ring.now (party_number c.args.me) c.args.bytes.now) (sym c.into.ensures)
     (refused_by_header c.args.ring.now (party_number c.args.me) c.args.bytes.now (header_data c.in_ok-header.header) c.in_ok-header.ensures.found c.in-Some.fault c.in-Some.ensures.value
     (λ e. c.if-number.false (c.number.ensures ∙ e ∙ sym c.number-2.ensures)))
 

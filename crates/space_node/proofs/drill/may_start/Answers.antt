@@ -1,5 +1,5 @@
 use Rattle.std.proofs.Common.{rules, ◌≡◌, [], true, false}
-use Rattle.space_node.specs.Drills.{each_once, replicas_of}
+use Rattle.space_node.specs.Drills.{are_faulty_once, replicas_of}
 use Rattle.space_node.proofs.Drilled.{not_once, whole}
 use Rattle.space_node.proofs.drill.may_start.Goals as goal
 use Rattle.space_node.proofs.drill.may_start.Goals.{then-has_correct_clients, else-has_correct_clients}
@@ -11,7 +11,7 @@ returns-then-are_of_faulty c =
     elim c.if-has_correct_clients.branch [
       | then-has_correct_clients w ↦
           let clients : config.faulty_clients ≡ [] = search rules in
-          let once : each_once config rs ≡ true = cc in
+          let once : are_faulty_once config rs ≡ true = cc in
           whole config rs c.is_drilled.result clients once c.is_drilled.ensures
       | else-has_correct_clients w ↦ absurd cc
     ]
@@ -22,7 +22,7 @@ returns-else-are_of_faulty c =
     let rs = replicas_of c.args.drills.now in
     elim c.if-has_correct_clients.branch [
       | then-has_correct_clients w ↦
-          let once : each_once config rs ≡ false = cc in
+          let once : are_faulty_once config rs ≡ false = cc in
           (λ t. absurd cc, λ may. absurd (not_once config rs once may))
       | else-has_correct_clients w ↦ (λ t. absurd cc, λ may. search (rules, may.0))
     ]

@@ -1,10 +1,10 @@
 use Rattle.std.proofs.Common.{◌≡◌, ◌<◌, ◌≤◌, arith, subst, sym}
-use Rattle.space_node.specs.Places.{IsFirst}
+use Rattle.space_node.specs.Places.{IsFirstShareOf}
 use Rattle.space_node.proofs.Orders.{after_client, after_replica}
 use Rattle.space_node.proofs.seating.seat_party.Goals as goal
 
 pub take_order-order-requires-clause-first : goal.take_order-order-requires-clause-first
-take_order-order-requires-clause-first g c = subst (λ p. IsFirst p c.args.orders.now.items) (sym c.in-Replica.ensures.value) c.requires.first
+take_order-order-requires-clause-first g c = subst (λ p. IsFirstShareOf p c.args.orders.now.items) (sym c.in-Replica.ensures.value) c.requires.first
 
 pub returns-in_ok-push-in-Replica-clause-left : goal.returns-in_ok-push-in-Replica-clause-left
 returns-in_ok-push-in-Replica-clause-left g c =

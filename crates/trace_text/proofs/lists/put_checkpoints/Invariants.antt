@@ -1,9 +1,9 @@
 use Rattle.std.proofs.Common.{take}
 use Rattle.std.specs.Prelude.{codes}
 use Rattle.wire_format.specs.Views.{checkpoint_entry_data}
-use Rattle.trace_text.specs.Frames.{checkpoint_entry_text}
+use Rattle.trace_text.specs.Frames.{shown_checkpoint_entry}
 use Rattle.trace_text.proofs.Joined.{SoFar}
 use Rattle.trace_text.proofs.lists.put_checkpoints.Given as goal
 
 abbrev pub invariant-loop-item : goal.invariant-loop-item
-invariant-loop-item l = SoFar (codes ",") (λ entry. checkpoint_entry_text (checkpoint_entry_data entry)) l.fn.out.items l.out.items l.gap (take l.item-index l.items)
+invariant-loop-item l = SoFar (codes ",") (λ entry. shown_checkpoint_entry (checkpoint_entry_data entry)) l.fn.out.items l.out.items l.gap (take l.item-index l.items)

@@ -1,7 +1,7 @@
 use Rattle.std.proofs.Common.{◌∙◌, ◌+◌, ◌-◌, [], ◌∷◌, ◌++◌, ap, sym, arith, rules, append_assoc, append-nil}
 use Rattle.std.proofs.lemmas.Result.{err_from_is_err_and}
 use Rattle.tuple_tree.specs.Reading.{rest_of}
-use Rattle.tuple_text.specs.Walks.{field_at, fields_at, field_written, others_written, IsThere, text_of}
+use Rattle.tuple_text.specs.Walks.{spelled_field_at, spelled_fields_at, field_written, others_written, IsThere, text_of}
 use Rattle.tuple_text.proofs.FieldTexts.{first_there, further, none_left, field_length, slot_read, nested_read}
 use Rattle.tuple_text.proofs.Writing.{one_more, nothing_left, error_behind, error_second, second_part}
 use Rattle.tuple_text.proofs.fields.+put_list.Goals as goal
@@ -32,7 +32,7 @@ pub put_field-put_list-requires : goal.put_field-put_list-requires
 put_field-put_list-requires g t c =
     let n = nested_read c.args.levels _ _ _ c.requires c.first_byte-tag.ensures c.if-tag-ne5.false in
     let deep = n.deep in
-    let there : IsThere (fields_at (c.args.levels - 1) c.first_byte-count.result.0 c.first_byte-count.result.1.now) = (n.list _ _ c.first_byte-count.ensures).there in
+    let there : IsThere (spelled_fields_at (c.args.levels - 1) c.first_byte-count.result.0 c.first_byte-count.result.1.now) = (n.list _ _ c.first_byte-count.ensures).there in
     search (rules, deep, there)
 
 pub put_field-returns-clause-text : goal.put_field-returns-clause-text
@@ -47,7 +47,7 @@ put_field-returns-clause-rest g t c =
 
 pub put_fields-put_field-requires : goal.put_fields-put_field-requires
 put_fields-put_field-requires g t c =
-    let there : IsThere (field_at c.args.levels c.args.bytes.now) = first_there c.args.levels c.args.count c.args.bytes.now (omega arith) c.requires in
+    let there : IsThere (spelled_field_at c.args.levels c.args.bytes.now) = first_there c.args.levels c.args.count c.args.bytes.now (omega arith) c.requires in
     search (rules, there)
 
 pub put_fields-returns-then-count-eq0-clause-text : goal.put_fields-returns-then-count-eq0-clause-text
@@ -59,7 +59,7 @@ put_fields-returns-then-count-eq0-clause-rest g t c = ap rest_of (none_left c.ar
 pub put_fields-put_others-requires : goal.put_fields-put_others-requires
 put_fields-put_others-requires g t c =
     let f = further c.args.levels c.args.count (c.args.count - 1) c.args.bytes.now c.in_ok-rest.rest.now (omega arith) c.requires (c.in_ok-rest.ensures {u = tt}).rest in
-    let there : IsThere (fields_at c.args.levels (c.args.count - 1) c.in_ok-rest.rest.now) = f.there in
+    let there : IsThere (spelled_fields_at c.args.levels (c.args.count - 1) c.in_ok-rest.rest.now) = f.there in
     search (rules, there)
 
 pub put_fields-returns-clause-text : goal.put_fields-returns-clause-text
@@ -74,7 +74,7 @@ put_fields-returns-clause-rest g t c =
 
 pub put_others-put_field-requires : goal.put_others-put_field-requires
 put_others-put_field-requires g t c =
-    let there : IsThere (field_at c.args.levels c.loop-i.rest.now) = first_there c.args.levels (c.args.count - c.loop-i._i) c.loop-i.rest.now (omega arith) c.loop-i.invariant.there in
+    let there : IsThere (spelled_field_at c.args.levels c.loop-i.rest.now) = first_there c.args.levels (c.args.count - c.loop-i._i) c.loop-i.rest.now (omega arith) c.loop-i.invariant.there in
     search (rules, there)
 
 pub put_others-returns-in_err-put_byte-clause-text : goal.put_others-returns-in_err-put_byte-clause-text
@@ -90,7 +90,7 @@ put_others-returns-in_err-rest-clause-text g t c =
 pub put_others-loop-i-preserved : goal.put_others-loop-i-preserved
 put_others-loop-i-preserved g t c =
     let f = further c.args.levels (c.args.count - c.loop-i._i) (c.args.count - (c.loop-i._i + 1)) c.loop-i.rest.now c.in_ok-rest.rest.now (omega arith) c.loop-i.invariant.there (c.in_ok-rest.ensures {u = tt}).rest in
-    let text = text_of field_written (field_at c.args.levels c.loop-i.rest.now) in
+    let text = text_of field_written (spelled_field_at c.args.levels c.loop-i.rest.now) in
     record {
       there = f.there;
       rest = sym f.rest ∙ c.loop-i.invariant.rest;

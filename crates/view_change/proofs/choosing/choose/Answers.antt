@@ -5,18 +5,18 @@ use Rattle.std.proofs.lemmas.List.{drop_all}
 use Rattle.sha2.specs.Sha256.{sha256}
 use Rattle.protocol.specs.Replica.Selection.{may_be_null}
 use Rattle.view_change.specs.Selecting.{stands_by_entry, goes_before}
-use Rattle.view_change.specs.Sets.{sized, pairs, texts_of}
+use Rattle.view_change.specs.Sets.{sized, changes_by_sender, texts_of}
 use Rattle.view_change.proofs.Chosen.{IsBest, best_begins, best_more, chosen, none_chosen}
 use Rattle.view_change.proofs.choosing.choose.Goals as goal
 use Rattle.view_change.proofs.choosing.choose.Goals.{then-goes_before, else-goes_before, then-stands, else-stands}
 
 pub loop-batch-init : goal.loop-batch-init
-loop-batch-init c = best_begins (sized c.args.sizes) (pairs c.args.set.now) (texts_of c.args.held.now) c.args.number.0 (arc_value c.args.null.now) c.requires.null
+loop-batch-init c = best_begins (sized c.args.sizes) (changes_by_sender c.args.set.now) (texts_of c.args.held.now) c.args.number.0 (arc_value c.args.null.now) c.requires.null
 
 pub loop-batch-preserved : goal.loop-batch-preserved
 loop-batch-preserved c =
     let k = sized c.args.sizes in
-    let set = pairs c.args.set.now in
+    let set = changes_by_sender c.args.set.now in
     let held = c.args.held.now in
     let i = c.loop-batch.batch-index in
     let more = best_more k set c.args.number.0 held i c.batch-item.result (arc_value c.loop-batch.best.now) c.goes_before.result c.loop-batch-test.true
@@ -31,7 +31,7 @@ loop-batch-preserved c =
 pub returns-then-may_be_null-clause-some : goal.returns-then-may_be_null-clause-some
 returns-then-may_be_null-clause-some c =
     let k = sized c.args.sizes in
-    let set = pairs c.args.set.now in
+    let set = changes_by_sender c.args.set.now in
     let n = c.args.number.0 in
     let best = arc_value c.loop-batch.best.now in
     let done = subst (λ rest. IsBest k set (texts_of c.args.held.now) n rest best) (ap texts_of (drop_all c.loop-batch.batch-index c.args.held.now (omega arith))) c.loop-batch.invariant in
@@ -46,7 +46,7 @@ returns-then-may_be_null-clause-some c =
 pub returns-else-may_be_null-clause-none : goal.returns-else-may_be_null-clause-none
 returns-else-may_be_null-clause-none c =
     let k = sized c.args.sizes in
-    let set = pairs c.args.set.now in
+    let set = changes_by_sender c.args.set.now in
     let n = c.args.number.0 in
     let best = arc_value c.loop-batch.best.now in
     let done = subst (λ rest. IsBest k set (texts_of c.args.held.now) n rest best) (ap texts_of (drop_all c.loop-batch.batch-index c.args.held.now (omega arith))) c.loop-batch.invariant in

@@ -1,5 +1,5 @@
 use Rattle.std.proofs.Common.{subst, arith}
-use Rattle.tuple_codec.specs.Gives.{Fails}
+use Rattle.tuple_codec.specs.Gives.{DecodingFails}
 use Rattle.wire_format.specs.Reading.{frame_read}
 use Rattle.wire_format.specs.Views.{frame_data}
 use Rattle.wire_format.proofs.Carriers.{frame_of_found}
@@ -8,7 +8,7 @@ use Rattle.wire.proofs.decoding.decode_judged.Goals as goal
 
 pub unreachable-requires : goal.unreachable-requires
 unreachable-requires c =
-    reads c.args.bytes.now c.requires (subst (λ e. Fails e (frame_read c.args.bytes.now)) c.in-Err-Malformed.field-0-is c.in-Err-Malformed.ensures)
+    reads c.args.bytes.now c.requires (subst (λ e. DecodingFails e (frame_read c.args.bytes.now)) c.in-Err-Malformed.field-0-is c.in-Err-Malformed.ensures)
 
 pub returns-in-Ok : goal.returns-in-Ok
 returns-in-Ok c = frame_of_found c.args.bytes.now (frame_data c.in-Ok.frame) (λ i. omega (arith, c.type_inv.bytes i)) c.in-Ok.ensures

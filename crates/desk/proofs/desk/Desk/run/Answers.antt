@@ -1,5 +1,5 @@
 use Rattle.std.proofs.Common.{◌≡◌, ℕ, suc, ◌+◌, map, ◌∙◌, ap, subst, arith}
-use Rattle.execution.specs.Executed.{ExecutedData, Executes, told}
+use Rattle.execution.specs.Executed.{ExecutedData, ExecutesBatchText, told}
 use Rattle.protocol.specs.Replica.State.{IsReplicatedState}
 use Rattle.protocol.specs.System.Trace.Entry.{Executed}
 use Rattle.desk.specs.State.{DeskData}
@@ -27,7 +27,7 @@ returns-clause-ok c =
       clients = omega (arith, ap (λ (e : ExecutedData). e.clients) lent, c.clients-clients.ensures.value, c.clients-clients.ensures.most);
       few = c.are_few.ensures;
     })
-    (subst (λ (e : ExecutedData). Executes e c.args.text.now (map told c.in_ok-ran.ran.items) c.execute.new.self) lent c.in_ok-ran.ensures.executed) number
+    (subst (λ (e : ExecutedData). ExecutesBatchText e c.args.text.now (map told c.in_ok-ran.ran.items) c.execute.new.self) lent c.in_ok-ran.ensures.executed) number
     (ap (λ (n : ℕ). Executed old.me n c.in_ok-batch.batch)
     (c.number.ensures.value ∙ ap (λ (e : ExecutedData). e.state.number) shown ∙ ap (λ e. e.state.number) (kept_executed (record old { executed = c.execute.new.self }) kept kept_is) ∙ number ∙ one_more old.executed.state.number)
     ∙ ap (Executed old.me (suc old.executed.state.number)) (c.in_ok-batch.ensures ∙ c.in_ok-copy.ensures.items))

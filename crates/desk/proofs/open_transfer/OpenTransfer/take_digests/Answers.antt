@@ -8,7 +8,7 @@ use Rattle.partition_tree.specs.Digests.{digest_of_children}
 use Rattle.state_transfer.specs.declared.part_fault.PartFault.{PartFault}
 use Rattle.state_transfer.specs.declared.part_fault.PartFault.TheVariants as faults
 use Rattle.state_transfer.specs.declared.place.Place.{Place}
-use Rattle.state_transfer.specs.Taking.{IsKnown, IsMetaAsked, RefusesMeta}
+use Rattle.state_transfer.specs.Taking.{DigestIsKnown, IsMetaAsked, RefusesMeta}
 use Rattle.state_transfer.specs.Transfer.{TransferData, wanted, with_digests}
 use Rattle.desk.specs.OpenTransferView.{open_data}
 use Rattle.desk.specs.State.{OpenData}
@@ -22,7 +22,7 @@ no_page _ has same = absurd cc
 abbrev place_of : Meta → Place
 place_of meta = record { level = meta.level; index = meta.index }
 
-takes : (o : OpenData) (t : TransferData) (meta : Meta) (digests : List (List ℕ)) (r : Result (Unit {0}) PartFault) → MayBeSaid meta → digests ≡ meta.digests.items → IsKnown o.transfer
+takes : (o : OpenData) (t : TransferData) (meta : Meta) (digests : List (List ℕ)) (r : Result (Unit {0}) PartFault) → MayBeSaid meta → digests ≡ meta.digests.items → DigestIsKnown o.transfer
     → OnOk r (IsMetaAsked o.transfer meta.number.0 (place_of meta)) → OnOk r (wanted o.transfer (place_of meta) ≡ Some (digest_of_children digests)) → OnOk r (t ≡ with_digests o.transfer (place_of meta) digests)
     → IfErr r (RefusesMeta o.transfer meta.number.0 (place_of meta) digests) → OnErr r (t ≡ o.transfer) → TakesDigestsOf o meta (record o { transfer = t }) (is_ok r)
 takes o t meta digests (Ok x) may same known asked fits ok fault err = (
@@ -48,5 +48,5 @@ returns c =
     rw (← c.self.view_is, c.is_ok.ensures.value)
     (subst (λ (t : TransferData). TakesDigestsOf (record o { transfer = t }) c.args.meta.now (record o { transfer = c.on_meta.new.self }) (is_ok c.on_meta.result)) lent
     (takes (record o { transfer = c.deref_mut.result.now }) c.on_meta.new.self c.args.meta.now c.in-Ok.digests.now c.on_meta.result c.requires (c.in-Ok.ensures.1.same ∙ c.as_slice.ensures.value)
-    (subst IsKnown (c.deref.ensures ∙ sym lent) c.keeps.ensures.wanted)
+    (subst DigestIsKnown (c.deref.ensures ∙ sym lent) c.keeps.ensures.wanted)
     c.on_meta.ensures.asked c.on_meta.ensures.fits c.on_meta.ensures.ok c.on_meta.ensures.fault c.on_meta.ensures.err))

@@ -7,9 +7,9 @@ use Rattle.journal.specs.Carrying.{IsCarriedFrom}
 use Rattle.journal.specs.Codes.{part_from}
 use Rattle.journal.specs.Comparing.{ordering_of}
 use Rattle.journal.specs.Histories.{IsEventOf, IsRight}
-use Rattle.journal.specs.Parts.{Part, AreAlike}
+use Rattle.journal.specs.Parts.{Part, AgreeInOrdering}
 use Rattle.protocol.specs.System.Reads.{without_reads}
-use Rattle.journal.specs.Ties.{Marks}
+use Rattle.journal.specs.Ties.{SeenHasHistory}
 use Rattle.journal.proofs.Appending.{kept_longer, right_longer, ties_kept, marks_kept, ordering_kept, journal_longer, part_longer}
 use Rattle.journal.proofs.locked.Journal.append_order.Goals as goal
 use Rattle.journal.proofs.locked.Journal.append_order.Goals.{in-Ok, in-Err}
@@ -23,7 +23,7 @@ invariant_of-self g c =
     let agrees : history_of p (reverse t) ≡ reverse h = search rules in
     let by : IsCarriedFrom g.N.Naming.config (reverse t) c.args.from es = search rules in
     let room : length (reverse t) + length es ≤ c.self.inside.limit = search rules in
-    let alike : AreAlike c.args.share.now c.args.order.now = search rules in
+    let alike : AgreeInOrdering c.args.share.now c.args.order.now = search rules in
     let event : IsEventOf p es = subst (λ (s : Part). IsEventOf s.party es) (sym c.share.view_is) c.requires.event in
     let right : IsRight g.N.Naming.config p (after_entries es (reverse h)) = subst (λ (s : Part). IsRight g.N.Naming.config s.party (after_entries es s.history)) (sym c.share.view_is) (c.requires.right alike) in
     elim c.match-grow_three.branch [
@@ -41,7 +41,7 @@ invariant_of-share g c =
     let p = party_number c.share.inside.party in
     let es = c.args.entries.items in
     let agrees : history_of p (reverse t) ≡ reverse h = search rules in
-    let alike : AreAlike c.args.share.now c.args.order.now = search rules in
+    let alike : AgreeInOrdering c.args.share.now c.args.order.now = search rules in
     let event : IsEventOf p es = subst (λ (s : Part). IsEventOf s.party es) (sym c.share.view_is) c.requires.event in
     let right : IsRight g.N.Naming.config p (after_entries es (reverse h)) = subst (λ (s : Part). IsRight g.N.Naming.config s.party (after_entries es s.history)) (sym c.share.view_is) (c.requires.right alike) in
     elim c.match-grow_three.branch [
@@ -62,13 +62,13 @@ invariant_of-order g c =
     let q = party_number c.order.inside.party in
     let es = c.args.entries.items in
     let agrees : history_of p (reverse t) ≡ reverse h = search rules in
-    let both : AreAlike c.args.share.now c.args.order.now = search rules in
-    let alike : AreAlike (part_from (p, reverse h)) (part_from (q, reverse o)) = subst (λ (s : Part). AreAlike s (part_from (q, reverse o))) (sym c.share.view_is) (subst (λ (r : Part). AreAlike c.args.share.now r) (sym c.order.view_is) both) in
+    let both : AgreeInOrdering c.args.share.now c.args.order.now = search rules in
+    let alike : AgreeInOrdering (part_from (p, reverse h)) (part_from (q, reverse o)) = subst (λ (s : Part). AgreeInOrdering s (part_from (q, reverse o))) (sym c.share.view_is) (subst (λ (r : Part). AgreeInOrdering c.args.share.now r) (sym c.order.view_is) both) in
     let event : IsEventOf p es = subst (λ (s : Part). IsEventOf s.party es) (sym c.share.view_is) c.requires.event in
     elim c.match-grow_three.branch [
       | in-Ok w ↦ rw (w.order-inside-is, w.again.ensures, w.in-Ok.ensures.ordering) (
         c.order.invariant.0,
-        subst (λ (r : ℕ). Marks ordering_of w.in-Ok.front r (o ++ without_reads es)) alike.0
+        subst (λ (r : ℕ). SeenHasHistory ordering_of w.in-Ok.front r (o ++ without_reads es)) alike.0
             (ordering_kept g.N.Naming.config p t h es agrees event c.self.inside.tie _ w.in-Ok.front o c.self.invariant.1 w.in-Ok.ensures.tied alike.1),
       )
       | in-Err w ↦ rw (w.order-inside-is, w.in-Err.ensures.err_ordering) c.order.invariant

@@ -9,7 +9,7 @@ use Rattle.std.proofs.Common.{◌<◌, ◌∷◌, ℕ, List, true, sym, subst}
 use Rattle.ordering.specs.Log as logs
 use Rattle.wire_format.specs.Lists.{Each}
 use Rattle.wire_format.specs.Spelling.{IsBatch}
-use Rattle.claims.specs.ClaimsView.{IsAmong}
+use Rattle.claims.specs.ClaimsView.{IsAmongTexts}
 use Rattle.orderer.proofs.orderer.Orderer.log_batch.Goals as goal
 
 pub returns-clause-ok : goal.returns-clause-ok
@@ -29,4 +29,4 @@ invariant_of-self-2 c =
     c.requires.batch
     (subst (λ (x : OrdererData). x.begun < c.args.number.0 → IsBatch 1 (arc_value c.args.batch)) (sym c.self.view_is) c.requires.some)
     c.put_batch.ensures
-    (subst (λ (t : List ℕ). Each (IsAmong (t ∷ o.claims.texts)) c.note_logged.new.self.texts) text c.in_ok-note_logged.ensures.texts)
+    (subst (λ (t : List ℕ). Each (IsAmongTexts (t ∷ o.claims.texts)) c.note_logged.new.self.texts) text c.in_ok-note_logged.ensures.texts)

@@ -5,7 +5,7 @@ use Rattle.wire_format.specs.Spelling.{pieces_spelling}
 use Rattle.wire_format.specs.Views.{texts_of}
 use Rattle.orderer.specs.OrdererView.{orderer_data}
 use Rattle.orderer.specs.Claiming.{LogsBatch}
-use Rattle.orderer.specs.Saying.{Says}
+use Rattle.orderer.specs.Saying.{SaysToOthers}
 use Rattle.orderer.proofs.Again.{says_batch}
 use Rattle.orderer.proofs.orderer.Orderer.say_batch.Goals as goal
 use Rattle.orderer.specs.State.{OrdererData}
@@ -17,7 +17,7 @@ returns-clause-ok c =
     let arc = c.in_ok-batch.ensures.ok ∙ c.new.ensures ∙ c.in_ok-of.ensures.text in
     let read = c.text.ensures ∙ c.deref.ensures ∙ arc in
     says_batch c.args.number.0 text c.args.self.now (orderer_data c.self.inside) _ c.args.outputs.now.items c.say_pre_prepare.new.outputs.items c.keeps.ensures.own
-    (subst (λ (x : List ℕ). Says c.args.self.now (PrePrepare c.args.self.now.log.view c.args.number.0 x) c.args.outputs.now.items c.say_pre_prepare.new.outputs.items) read c.in_ok-say_pre_prepare.ensures.said)
+    (subst (λ (x : List ℕ). SaysToOthers c.args.self.now (PrePrepare c.args.self.now.log.view c.args.number.0 x) c.args.outputs.now.items c.say_pre_prepare.new.outputs.items) read c.in_ok-say_pre_prepare.ensures.said)
     (subst (λ (m : OrdererData). LogsBatch c.args.number.0 text c.args.self.now m) (sym c.self.view_is)
     (subst (λ (t : List ℕ). LogsBatch c.args.number.0 t c.args.self.now c.log_batch.new.self) arc
     (subst (λ (o : OrdererData). LogsBatch c.args.number.0 (arc_value c.in_ok-batch.batch) o c.log_batch.new.self) c.in_ok-say_pre_prepare.ensures.same c.in_ok-log_batch.ensures.ok)))

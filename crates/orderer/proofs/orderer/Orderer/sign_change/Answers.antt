@@ -2,10 +2,10 @@ use Rattle.std.proofs.Common.{rules, ◌≡◌, Bool, List, ℕ, ◌+◌, Some, 
 use Rattle.wire_format.specs.Views.{checkpoint_entries_data, message_data}
 use Rattle.protocol.specs.Replica.Selection.{signed_change}
 use Rattle.view_change.specs.declared.changes.Change.{Change}
-use Rattle.view_change.specs.ReceivedView.{configuration_of, held_as}
+use Rattle.view_change.specs.ReceivedView.{judging_configuration, held_as}
 use Rattle.view_change.specs.Sets.{change_pair}
 use Rattle.orderer.specs.State.{OrdererData}
-use Rattle.orderer.specs.Receiving.{Receives}
+use Rattle.orderer.specs.Receiving.{ReceivesViewChange}
 use Rattle.orderer.proofs.ChangingViews.{of_some, signs_in, own_is_signed, signs_change, signs_copy, not_signed, of_none, too_many}
 use Rattle.orderer.proofs.orderer.Orderer.sign_change.Goals as goal
 
@@ -13,8 +13,8 @@ pub receive-requires : goal.receive-requires
 receive-requires c =
     let x : Change = record { sender = c.me.result; change = c.in-Some.change } in
     let signed = signs_in (message_data c.view_change_message.result) c.args.self.now c.sign.new.self c.in_ok-frame.field-0 c.in-Some-2.frame c.in-Some-2.is c.in_ok-frame.ensures.ok in
-    subst (λ (b : List ℕ). signed_change (configuration_of c.sign.new.self.received) b ≡ Some (change_pair x)) (sym c.deref.ensures.value)
-    (subst (λ (o : OrdererData). signed_change (configuration_of o.received) c.in-Some-2.frame.items ≡ Some (change_pair x)) (sym c.sign.ensures.same)
+    subst (λ (b : List ℕ). signed_change (judging_configuration c.sign.new.self.received) b ≡ Some (change_pair x)) (sym c.deref.ensures.value)
+    (subst (λ (o : OrdererData). signed_change (judging_configuration o.received) c.in-Some-2.frame.items ≡ Some (change_pair x)) (sym c.sign.ensures.same)
     (own_is_signed c.args.self.now x c.in-Some-2.frame.items c.keeps.ensures.own c.keeps.ensures.log (search rules)
     (signs_copy c.args.self.now c.in_ok-said.said x _ c.in-Some-2.frame.items c.in_ok-said.ensures c.view_change_message.ensures.says signed.0)))
 
@@ -26,9 +26,9 @@ returns-clause-ok c =
     (of_some _ _ _ c.in-Some.is c.in_ok-change.ensures.made) (search rules) (search rules)
     (signs_copy c.args.self.now c.in_ok-said.said x _ c.in-Some-2.frame.items c.in_ok-said.ensures c.view_change_message.ensures.says signed.0)
     signed.1
-    (subst (λ (b : List ℕ). Receives (held_as x b) (record c.args.self.now { spent = c.args.self.now.spent + 1 }) c.receive.new.self true) c.deref.ensures.value
-    (subst (λ (o : OrdererData). Receives (held_as x c.deref.result.now) o c.receive.new.self true) signed.2
-    (subst (λ (b : Bool). Receives (held_as x c.deref.result.now) c.sign.new.self c.receive.new.self b) c.if-not-branch.false c.in_ok-receive.ensures.ok)))
+    (subst (λ (b : List ℕ). ReceivesViewChange (held_as x b) (record c.args.self.now { spent = c.args.self.now.spent + 1 }) c.receive.new.self true) c.deref.ensures.value
+    (subst (λ (o : OrdererData). ReceivesViewChange (held_as x c.deref.result.now) o c.receive.new.self true) signed.2
+    (subst (λ (b : Bool). ReceivesViewChange (held_as x c.deref.result.now) c.sign.new.self c.receive.new.self b) c.if-not-branch.false c.in_ok-receive.ensures.ok)))
 
 pub returns-in_default-clause-ok : goal.returns-in_default-clause-ok
 returns-in_default-clause-ok c = rw (← c.self.view_is) (refl, inr (inl (too_many _ _ (of_none _ _ c.in_default.is c.in_ok-change.ensures.none))))

@@ -2,7 +2,7 @@ use Rattle.std.proofs.Common.{◌≡◌, ◌<◌, [], length, get_or, ap, sym, s
 use Rattle.std.proofs.lemmas.List.{get_or-map, length-map}
 use Rattle.std.specs.Arc.{arc_value}
 use Rattle.partition_tree.specs.Changes.{pages_with}
-use Rattle.partition_tree.specs.Parts.{AreFull, pages_in, parts_of, part_digest}
+use Rattle.partition_tree.specs.Parts.{AreFull, pages_in, parts_held, part_digest}
 use Rattle.partition_tree.proofs.Holding.{held_by_clones}
 use Rattle.partition_tree.proofs.tree.Tree.set_pages.Goals as goal
 
@@ -13,7 +13,7 @@ change_all-requires-clause-full c =
 pub renew-requires-clause-whole : goal.renew-requires-clause-whole
 renew-requires-clause-whole c =
     ap length c.self.invariant.2
-    ∙ length-map (parts_of c.self.inside.parts.items) part_digest
+    ∙ length-map (parts_held c.self.inside.parts.items) part_digest
     ∙ length-map c.self.inside.parts.items arc_value
     ∙ c.self.invariant.0
 
@@ -22,11 +22,11 @@ renew-requires-clause-known c j h told =
     let same = held_by_clones arc_value c.self.inside.parts.items c.in_ok-parts.parts.items c.in_ok-parts.ensures.cases.0 in
     let owners = c.self.inside.parts.items in
     let all : length owners ≡ 32 = c.self.invariant.0 in
-    let within : j < length (parts_of owners) = rw length-map (omega arith) in
+    let within : j < length (parts_held owners) = rw length-map (omega arith) in
     ap (λ ds. get_or ds j []) c.self.invariant.2
-    ∙ get_or-map part_digest (parts_of owners) j [] [] within
+    ∙ get_or-map part_digest (parts_held owners) j [] [] within
     ∙ ap part_digest (sym (c.in_ok-changed.ensures.kept j h told ∙ ap (λ parts. get_or parts j []) same))
-    ∙ ap (λ parts. part_digest (get_or (parts_of parts) j [])) (sym c.as_slice.ensures.value)
+    ∙ ap (λ parts. part_digest (get_or (parts_held parts) j [])) (sym c.as_slice.ensures.value)
 
 pub returns-clause-ok : goal.returns-clause-ok
 returns-clause-ok c =

@@ -2,7 +2,7 @@ use Rattle.std.proofs.Common.{◌≡◌, ◌∙◌, ap, sym, arith, subst, ℕ, 
 use Rattle.wire_format.specs.Spelling.{IsBatch}
 use Rattle.wire_format.specs.Words.{requests_of}
 use Rattle.posting.specs.Endpoint.{are_heard}
-use Rattle.posting.specs.Frames.{texts}
+use Rattle.posting.specs.Frames.{slice_texts}
 use Rattle.posting.proofs.endpoint.Endpoint.are_genuine.Goals as goal
 
 pub split_batch-frames-requires : goal.split_batch-frames-requires
@@ -12,6 +12,6 @@ split_batch-frames-requires c =
 
 pub returns-clause-genuine : goal.returns-clause-genuine
 returns-clause-genuine c =
-    let e : texts c.as_slice.result.now ≡ requests_of c.args.batch.now.text.items = ap texts c.as_slice.ensures.value ∙ c.split_batch-frames.ensures ∙ ap requests_of c.deref.ensures.value in
+    let e : slice_texts c.as_slice.result.now ≡ requests_of c.args.batch.now.text.items = ap slice_texts c.as_slice.ensures.value ∙ c.split_batch-frames.ensures ∙ ap requests_of c.deref.ensures.value in
     rw (← c.self.view_is)
     (subst (λ (xs : List (List ℕ)). c.hears_all.result ≡ are_heard c.self.inside.ring c.self.inside.me.0 xs) e c.hears_all.ensures.heard)

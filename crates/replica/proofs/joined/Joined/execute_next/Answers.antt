@@ -3,7 +3,7 @@ use Rattle.ordering.specs.Log.{committed_batch}
 use Rattle.ordering.specs.RowView.{batch_lent}
 use Rattle.replica.specs.State.{JoinedData}
 use Rattle.replica.specs.JoinedView.{joined_data}
-use Rattle.replica.specs.Going.{ExecutesNext}
+use Rattle.replica.specs.Going.{ExecutesNextBatch}
 use Rattle.replica.proofs.Executions.{executes_next}
 use Rattle.replica.proofs.joined.Joined.execute_next.Goals as goal
 
@@ -16,7 +16,7 @@ returns-clause-ok c =
     let seen : batch_lent c.next_batch.result ≡ committed_batch log (c.number.result.0 + 1) = search rules in
     let there : committed_batch log (suc d.executed.state.number) ≡ Some c.text.result.now =
     ap (committed_batch log) (sym next) ∙ sym seen ∙ ap batch_lent c.in-Some.is ∙ ap Some (sym (c.text.ensures ∙ c.deref.ensures ∙ c.in_ok-batch.ensures)) in
-    subst (λ (a : JoinedData). ExecutesNext a c.args.outputs.now.items c.say_due_checkpoint.new.self c.say_due_checkpoint.new.outputs.items) c.self.view_is
+    subst (λ (a : JoinedData). ExecutesNextBatch a c.args.outputs.now.items c.say_due_checkpoint.new.self c.say_due_checkpoint.new.outputs.items) c.self.view_is
     (executes_next (joined_data c.self.inside) c.execute.new.self c.say_due_checkpoint.new.self c.text.result.now c.args.outputs.now.items c.execute.new.outputs.items
     c.say_due_checkpoint.new.outputs.items
     c.in_ok-execute.ensures.ok

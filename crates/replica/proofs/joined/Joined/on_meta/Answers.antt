@@ -5,7 +5,7 @@ use Rattle.replica.specs.declared.taking.Touched.TheVariants as touched
 use Rattle.replica.specs.State.{JoinedData}
 use Rattle.replica.specs.JoinedView.{joined_data}
 use Rattle.replica.specs.Entering.{TakesMessage}
-use Rattle.replica.specs.Fetching.{AsksOn, InstallsFetched}
+use Rattle.replica.specs.Fetching.{FetchesNextPart, InstallsFetchedState}
 use Rattle.replica.proofs.PartsEnd.{digests_install, digests_end}
 use Rattle.replica.proofs.Parts.{digests_dropped, digests_asked}
 use Rattle.replica.proofs.joined.Joined.on_meta.Goals as goal
@@ -17,7 +17,7 @@ returns-then-not-take_digests-clause-ok c = rw (← c.self.view_is) (λ bytes h.
 pub returns-then-branch-clause-ok : goal.returns-then-branch-clause-ok
 returns-then-branch-clause-ok c = rw (← c.self.view_is) (λ bytes h.
     digests_asked (joined_data c.self.inside) c.self.invariant bytes c.args.sender.0 c.take_digests.new.self c.ask_next.new.outputs.items c.args.outputs.now.items c.requires.first c.ask_next.new.self
-    (subst (λ (b : Bool). AsksOn (joined_data (record c.self.inside { desk = c.take_digests.new.self })) c.args.outputs.now.items c.ask_next.new.self c.ask_next.new.outputs.items b) c.if-branch.true c.in_ok-ask_next.ensures.ok)
+    (subst (λ (b : Bool). FetchesNextPart (joined_data (record c.self.inside { desk = c.take_digests.new.self })) c.args.outputs.now.items c.ask_next.new.self c.ask_next.new.outputs.items b) c.if-branch.true c.in_ok-ask_next.ensures.ok)
     c.args.message.now h c.if-not-take_digests.ensures)
 
 pub returns-then-branch-2-clause-ok : goal.returns-then-branch-2-clause-ok
@@ -26,9 +26,9 @@ returns-then-branch-2-clause-ok c =
     subst (λ (r : JoinedData). TakesMessage c.args.sender (meta m.number.0 m.level m.index m.digests.items) r touched.State c.install.new.self c.install.new.outputs.items) c.self.view_is
     (digests_install (joined_data c.self.inside) c.self.invariant c.args.sender m c.take_digests.new.self c.ask_next.new.self c.install.new.self c.ask_next.new.outputs.items c.install.new.outputs.items
     c.if-not-take_digests.ensures
-    (subst (λ (os : List Output). AsksOn (joined_data (record c.self.inside { desk = c.take_digests.new.self })) os c.ask_next.new.self c.ask_next.new.outputs.items false) c.requires.first
-    (subst (AsksOn (joined_data (record c.self.inside { desk = c.take_digests.new.self })) c.args.outputs.now.items c.ask_next.new.self c.ask_next.new.outputs.items) c.if-branch.false c.in_ok-ask_next.ensures.ok))
-    (subst (InstallsFetched c.ask_next.new.self c.ask_next.new.outputs.items c.install.new.self c.install.new.outputs.items) c.if-branch-2.true c.in_ok-install.ensures.ok))
+    (subst (λ (os : List Output). FetchesNextPart (joined_data (record c.self.inside { desk = c.take_digests.new.self })) os c.ask_next.new.self c.ask_next.new.outputs.items false) c.requires.first
+    (subst (FetchesNextPart (joined_data (record c.self.inside { desk = c.take_digests.new.self })) c.args.outputs.now.items c.ask_next.new.self c.ask_next.new.outputs.items) c.if-branch.false c.in_ok-ask_next.ensures.ok))
+    (subst (InstallsFetchedState c.ask_next.new.self c.ask_next.new.outputs.items c.install.new.self c.install.new.outputs.items) c.if-branch-2.true c.in_ok-install.ensures.ok))
 
 pub returns-clause-ok : goal.returns-clause-ok
 returns-clause-ok c =
@@ -36,6 +36,6 @@ returns-clause-ok c =
     subst (λ (r : JoinedData). TakesMessage c.args.sender (meta m.number.0 m.level m.index m.digests.items) r touched.Nothing c.install.new.self c.install.new.outputs.items) c.self.view_is
     (digests_end (joined_data c.self.inside) c.self.invariant c.args.sender m c.take_digests.new.self c.ask_next.new.self c.install.new.self c.ask_next.new.outputs.items c.install.new.outputs.items
     c.if-not-take_digests.ensures
-    (subst (λ (os : List Output). AsksOn (joined_data (record c.self.inside { desk = c.take_digests.new.self })) os c.ask_next.new.self c.ask_next.new.outputs.items false) c.requires.first
-    (subst (AsksOn (joined_data (record c.self.inside { desk = c.take_digests.new.self })) c.args.outputs.now.items c.ask_next.new.self c.ask_next.new.outputs.items) c.if-branch.false c.in_ok-ask_next.ensures.ok))
-    (subst (InstallsFetched c.ask_next.new.self c.ask_next.new.outputs.items c.install.new.self c.install.new.outputs.items) c.if-branch-2.false c.in_ok-install.ensures.ok))
+    (subst (λ (os : List Output). FetchesNextPart (joined_data (record c.self.inside { desk = c.take_digests.new.self })) os c.ask_next.new.self c.ask_next.new.outputs.items false) c.requires.first
+    (subst (FetchesNextPart (joined_data (record c.self.inside { desk = c.take_digests.new.self })) c.args.outputs.now.items c.ask_next.new.self c.ask_next.new.outputs.items) c.if-branch.false c.in_ok-ask_next.ensures.ok))
+    (subst (InstallsFetchedState c.ask_next.new.self c.ask_next.new.outputs.items c.install.new.self c.install.new.outputs.items) c.if-branch-2.false c.in_ok-install.ensures.ok))

@@ -3,7 +3,7 @@ use Rattle.std.specs.Arc.{arc_value}
 use Rattle.std.proofs.lemmas.List.{length-map}
 use Rattle.wire_format.specs.Views.{new_view_data}
 use Rattle.replica_histories.proofs.Words.{apart}
-use Rattle.replica.specs.EnteringViews.{Enters}
+use Rattle.replica.specs.EnteringViews.{EntersView}
 use Rattle.replica.specs.JoinedView.{joined_data}
 use Rattle.replica.specs.State.{JoinedData}
 use Rattle.replica.proofs.NewViewsCome.{enters_with, new_view_dropped, new_view_entered, right_views_are_small}
@@ -35,7 +35,7 @@ pub returns-clause-ok : goal.returns-clause-ok
 returns-clause-ok c = rw (← c.self.view_is)
     (new_view_entered c.refusals_decide.ensures.new_views c.sizes_decide.ensures.decide (joined_data c.self.inside) c.args.sender (new_view_data c.args.message) c.enter.new.self c.enter.new.outputs.items
     c.self.invariant c.keeps.ensures.own c.keeps-2.ensures.0 (c.in_ok-may_enter.ensures.0 c.if-not-branch.false)
-    (subst (λ (r : JoinedData). Enters (new_view_data c.args.message).view (start_in (new_view_data c.args.message)) (new_view_data c.args.message).batches None r [] c.enter.new.self c.enter.new.outputs.items) (sym c.self.view_is)
+    (subst (λ (r : JoinedData). EntersView (new_view_data c.args.message).view (start_in (new_view_data c.args.message)) (new_view_data c.args.message).batches None r [] c.enter.new.self c.enter.new.outputs.items) (sym c.self.view_is)
     (enters_with (new_view_data c.args.message) c.in_ok-selection.selection.start.0 c.in_ok-selection.selection.root _ c.args.self.now c.enter.new.self c.args.outputs.now.items c.enter.new.outputs.items
     c.in_ok-selection.ensures.start c.in_ok-selection.ensures.root c.in_ok-selection.ensures.batches c.requires.first c.in_ok-enter.ensures.ok)))
 

@@ -5,7 +5,7 @@ use Rattle.replica.specs.declared.taking.Touched.TheVariants as touched
 use Rattle.replica.specs.State.{JoinedData}
 use Rattle.replica.specs.JoinedView.{joined_data}
 use Rattle.replica.specs.Entering.{TakesMessage}
-use Rattle.replica.specs.Fetching.{AsksOn, InstallsFetched}
+use Rattle.replica.specs.Fetching.{FetchesNextPart, InstallsFetchedState}
 use Rattle.desk.specs.Fetching.{TakesPage}
 use Rattle.replica.proofs.PartsEnd.{page_installs, page_ends}
 use Rattle.desk.specs.declared.open_transfer.Taken.{Taken}
@@ -20,7 +20,7 @@ returns-in_default-clause-ok c = rw (← c.self.view_is) (λ bytes h.
 pub returns-then-branch-clause-ok : goal.returns-then-branch-clause-ok
 returns-then-branch-clause-ok c = rw (← c.self.view_is) (λ bytes h.
     page_asked (joined_data c.self.inside) c.self.invariant bytes c.args.sender.0 c.take_page.new.self c.ask_next.new.outputs.items c.args.outputs.now.items c.requires.first c.ask_next.new.self
-    (subst (λ (b : Bool). AsksOn (joined_data (record c.self.inside { desk = c.take_page.new.self })) c.args.outputs.now.items c.ask_next.new.self c.ask_next.new.outputs.items b) c.if-branch.true c.in_ok-ask_next.ensures.ok)
+    (subst (λ (b : Bool). FetchesNextPart (joined_data (record c.self.inside { desk = c.take_page.new.self })) c.args.outputs.now.items c.ask_next.new.self c.ask_next.new.outputs.items b) c.if-branch.true c.in_ok-ask_next.ensures.ok)
     c.args.message.now c.in-Some.taken h
     (subst (λ (taken : Option Taken). TakesPage c.self.inside.desk c.args.message.now c.take_page.new.self taken) c.in-Some.is c.in_ok-taken.ensures.ok))
 
@@ -30,9 +30,9 @@ returns-then-branch-2-clause-ok c =
     subst (λ (r : JoinedData). TakesMessage c.args.sender (page m.number.0 m.index m.text.items) r touched.State c.install.new.self c.install.new.outputs.items) c.self.view_is
     (page_installs (joined_data c.self.inside) c.self.invariant c.args.sender m c.in-Some.taken c.take_page.new.self c.ask_next.new.self c.install.new.self c.ask_next.new.outputs.items c.install.new.outputs.items
     (subst (TakesPage c.self.inside.desk m c.take_page.new.self) c.in-Some.is c.in_ok-taken.ensures.ok)
-    (subst (λ (os : List Output). AsksOn (joined_data (record c.self.inside { desk = c.take_page.new.self })) os c.ask_next.new.self c.ask_next.new.outputs.items false) c.requires.first
-    (subst (AsksOn (joined_data (record c.self.inside { desk = c.take_page.new.self })) c.args.outputs.now.items c.ask_next.new.self c.ask_next.new.outputs.items) c.if-branch.false c.in_ok-ask_next.ensures.ok))
-    (subst (InstallsFetched c.ask_next.new.self c.ask_next.new.outputs.items c.install.new.self c.install.new.outputs.items) c.if-branch-2.true c.in_ok-install.ensures.ok))
+    (subst (λ (os : List Output). FetchesNextPart (joined_data (record c.self.inside { desk = c.take_page.new.self })) os c.ask_next.new.self c.ask_next.new.outputs.items false) c.requires.first
+    (subst (FetchesNextPart (joined_data (record c.self.inside { desk = c.take_page.new.self })) c.args.outputs.now.items c.ask_next.new.self c.ask_next.new.outputs.items) c.if-branch.false c.in_ok-ask_next.ensures.ok))
+    (subst (InstallsFetchedState c.ask_next.new.self c.ask_next.new.outputs.items c.install.new.self c.install.new.outputs.items) c.if-branch-2.true c.in_ok-install.ensures.ok))
 
 pub returns-clause-ok : goal.returns-clause-ok
 returns-clause-ok c =
@@ -40,9 +40,9 @@ returns-clause-ok c =
     subst (λ (r : JoinedData). TakesMessage c.args.sender (page m.number.0 m.index m.text.items) r touched.Nothing (joined_data (record c.self-2.inside { desk = c.give_back.new.self })) c.install.new.outputs.items) c.self.view_is
     (page_ends (joined_data c.self.inside) c.self.invariant c.args.sender m c.in-Some.taken c.take_page.new.self c.ask_next.new.self (joined_data c.self-2.inside) c.ask_next.new.outputs.items c.install.new.outputs.items
     (subst (TakesPage c.self.inside.desk m c.take_page.new.self) c.in-Some.is c.in_ok-taken.ensures.ok)
-    (subst (λ (os : List Output). AsksOn (joined_data (record c.self.inside { desk = c.take_page.new.self })) os c.ask_next.new.self c.ask_next.new.outputs.items false) c.requires.first
-    (subst (AsksOn (joined_data (record c.self.inside { desk = c.take_page.new.self })) c.args.outputs.now.items c.ask_next.new.self c.ask_next.new.outputs.items) c.if-branch.false c.in_ok-ask_next.ensures.ok))
+    (subst (λ (os : List Output). FetchesNextPart (joined_data (record c.self.inside { desk = c.take_page.new.self })) os c.ask_next.new.self c.ask_next.new.outputs.items false) c.requires.first
+    (subst (FetchesNextPart (joined_data (record c.self.inside { desk = c.take_page.new.self })) c.args.outputs.now.items c.ask_next.new.self c.ask_next.new.outputs.items) c.if-branch.false c.in_ok-ask_next.ensures.ok))
     c.give_back.new.self
-    (subst (λ (r : JoinedData). InstallsFetched c.ask_next.new.self c.ask_next.new.outputs.items r c.install.new.outputs.items false) (sym c.self-2.view_is)
-    (subst (InstallsFetched c.ask_next.new.self c.ask_next.new.outputs.items c.install.new.self c.install.new.outputs.items) c.if-branch-2.false c.in_ok-install.ensures.ok))
+    (subst (λ (r : JoinedData). InstallsFetchedState c.ask_next.new.self c.ask_next.new.outputs.items r c.install.new.outputs.items false) (sym c.self-2.view_is)
+    (subst (InstallsFetchedState c.ask_next.new.self c.ask_next.new.outputs.items c.install.new.self c.install.new.outputs.items) c.if-branch-2.false c.in_ok-install.ensures.ok))
     c.give_back.ensures)

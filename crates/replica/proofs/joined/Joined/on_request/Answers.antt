@@ -6,7 +6,7 @@ use Rattle.replica.specs.JoinedView.{joined_data}
 use Rattle.replica.specs.declared.taking.Touched.TheVariants as touched
 use Rattle.desk.specs.declared.arriving.Arrival.TheVariants as arrivals
 use Rattle.replica.proofs.Desking.{PaysAgain, pays_kept}
-use Rattle.desk.specs.Desking.{HasReply, Waits}
+use Rattle.desk.specs.Desking.{HasReply, RequestWaits}
 use Rattle.desk.specs.Arriving.{IsArrival}
 use Rattle.replica.specs.Entering.{TakesRequest}
 use Rattle.replica.proofs.Requests.{all_again, request_kept, request_past, request_again, request_new}
@@ -79,5 +79,5 @@ returns-in_ok-wait-in-New-clause-ok c =
     (ap (λ o. o.items) (c.in_ok-reply_again.ensures.silent c.if-branch.false) ∙ c.requires.first)
     (subst (λ (x : DeskData). IsArrival x client time frame arrivals.New) c.in_ok-reply_again.ensures.same
     c.in-New.ensures)
-    (subst (λ (x : DeskData). Waits client time frame x later) c.in_ok-reply_again.ensures.same
+    (subst (λ (x : DeskData). RequestWaits client time frame x later) c.in_ok-reply_again.ensures.same
     c.in_ok-wait-in-New.ensures.ok))

@@ -10,7 +10,7 @@ use Rattle.terms.specs.declared.order.View.{View}
 use Rattle.orderer.specs.Changing.{IsJoinedBy, IsJoinedByNone}
 use Rattle.replica.specs.Changing.{ChangesView}
 use Rattle.orderer.proofs.ChangingViews.{of_some, of_none}
-use Rattle.orderer.specs.Receiving.{Receives}
+use Rattle.orderer.specs.Receiving.{ReceivesViewChange}
 use Rattle.replica.proofs.ChangesCome.{heard_is_signed, change_refused, change_taken, MayJoin}
 use Rattle.replica.proofs.Results.{if_ok_on}
 use Rattle.replica.proofs.joined.Joined.on_view_change.Goals.{in-Some+in_ok-change_view, in_default}
@@ -26,7 +26,7 @@ returns-then-not-branch-clause-ok c = rw (← c.self.view_is, c.requires.first)
     (change_refused (joined_data c.self.inside) (record { sender = c.args.sender; change = c.args.message }) c.args.frame.now c.self.invariant c.judges.ensures.alike c.judges.ensures.changes
     (subst (λ (a : JoinedData). heard a.desk.membership a.desk.me c.args.frame.now ≡ Some (record { sender = c.args.sender.0; message = view_change (view_change_data c.args.message) })) (sym c.self.view_is) c.requires.heard)
     c.receive.new.self
-    (subst (λ (b : Bool). Receives (held_as (record { sender = c.args.sender; change = c.args.message }) c.args.frame.now) c.self.inside.orderer c.receive.new.self b) c.if-not-branch.true c.in_ok-receive.ensures.ok))
+    (subst (λ (b : Bool). ReceivesViewChange (held_as (record { sender = c.args.sender; change = c.args.message }) c.args.frame.now) c.self.inside.orderer c.receive.new.self b) c.if-not-branch.true c.in_ok-receive.ensures.ok))
 
 pub returns-clause-ok : goal.returns-clause-ok
 returns-clause-ok c =
@@ -50,5 +50,5 @@ returns-clause-ok c =
     (if_ok_on _ _ c.begin_view.result (λ what begins. change_taken r (record { sender = c.args.sender; change = c.args.message }) c.args.frame.now c.self.invariant c.judges.ensures.alike c.judges.ensures.changes
     (subst (λ (a : JoinedData). heard a.desk.membership a.desk.me c.args.frame.now ≡ Some (record { sender = c.args.sender.0; message = view_change (view_change_data c.args.message) })) (sym c.self.view_is) c.requires.heard)
     c.receive.new.self moved c.begin_view.new.self said c.begin_view.new.outputs.items what
-    (subst (λ (b : Bool). Receives (held_as (record { sender = c.args.sender; change = c.args.message }) c.args.frame.now) c.self.inside.orderer c.receive.new.self b) c.if-not-branch.false c.in_ok-receive.ensures.ok)
+    (subst (λ (b : Bool). ReceivesViewChange (held_as (record { sender = c.args.sender; change = c.args.message }) c.args.frame.now) c.self.inside.orderer c.receive.new.self b) c.if-not-branch.false c.in_ok-receive.ensures.ok)
     moves begins) c.begin_view.ensures.ok)

@@ -2,7 +2,7 @@ use Rattle.std.proofs.Common.{◌≡◌, Some, sym, ap, ◌∙◌, subst}
 use Rattle.replica.specs.State.{OrdererPart, DeskPart, JoinedData, IsOrdererPart, IsDeskPart, AreOne}
 use Rattle.replica.specs.Joined.{JoinedEventLeads, joined}
 use Rattle.orderer.specs.Changing.{AreChanges}
-use Rattle.replica.specs.Parted.{Reacts}
+use Rattle.replica.specs.Parted.{PartsReact}
 use Rattle.replica.proofs.PartsLead.{orders, answers, steps, steps_send, together_one}
 use Rattle.replica.proofs.parted.Orderer.step_with.Goals as goal
 
@@ -29,7 +29,7 @@ returns-clause-leads c =
     let are_o : IsOrdererPart o = subst IsOrdererPart c.self.view_is c.self.invariant in
     let are_d : IsDeskPart d = subst IsDeskPart c.desk.view_is c.desk.invariant in
     let one : AreOne x y = together_one o d x y c.requires.together are_o are_d o_is d_is in
-    let reacts : Reacts x y c.args.event c.in-Ok.outputs.items c.joined.inside.orderer c.joined.inside.desk = record {
+    let reacts : PartsReact x y c.args.event c.in-Ok.outputs.items c.joined.inside.orderer c.joined.inside.desk = record {
       leads = subst (λ (n : JoinedData). JoinedEventLeads (joined x y) c.args.event c.in-Ok.outputs.items n) (sym c.joined.view_is) c.in-Ok.ensures.leads;
       one = c.joined.invariant;
       changes = subst (λ (n : JoinedData). AreChanges n.orderer.received.held) (sym c.joined.view_is) c.in-Ok.ensures.changes;
@@ -50,7 +50,7 @@ returns-clause-sends c =
     let are_o : IsOrdererPart o = subst IsOrdererPart c.self.view_is c.self.invariant in
     let are_d : IsDeskPart d = subst IsDeskPart c.desk.view_is c.desk.invariant in
     let one : AreOne x y = together_one o d x y c.requires.together are_o are_d o_is d_is in
-    let reacts : Reacts x y c.args.event c.in-Ok.outputs.items c.joined.inside.orderer c.joined.inside.desk = record {
+    let reacts : PartsReact x y c.args.event c.in-Ok.outputs.items c.joined.inside.orderer c.joined.inside.desk = record {
       leads = subst (λ (n : JoinedData). JoinedEventLeads (joined x y) c.args.event c.in-Ok.outputs.items n) (sym c.joined.view_is) c.in-Ok.ensures.leads;
       one = c.joined.invariant;
       changes = subst (λ (n : JoinedData). AreChanges n.orderer.received.held) (sym c.joined.view_is) c.in-Ok.ensures.changes;

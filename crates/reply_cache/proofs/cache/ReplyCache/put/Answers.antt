@@ -2,7 +2,7 @@ use Rattle.std.proofs.Common.{None, sym, ap, ◌∙◌, arith}
 use Rattle.std.proofs.lemmas.List.{get_or_past}
 use Rattle.tuple_codec.specs.OperationView.{outcome_of}
 use Rattle.reply_cache.specs.Replies.{last_of, with_reply}
-use Rattle.reply_cache.specs.ReplyView.{reply_of}
+use Rattle.reply_cache.specs.ReplyView.{kept_if_any}
 use Rattle.reply_cache.proofs.Slots.{on_err, last-padded, padded-set, AreSlots-set, AreReplies-padded}
 use Rattle.reply_cache.proofs.cache.ReplyCache.put.Goals as goal
 
@@ -13,7 +13,7 @@ pub returns-in_err-reach-clause-memory : goal.returns-in_err-reach-clause-memory
 returns-in_err-reach-clause-memory c =
     let slots = c.self.inside.slots.items in
     let past = (c.in_err-reach.ensures {u = tt}).memory in
-    on_err c.from_residual.result (λ other l. sym (ap (λ rs. last_of rs other) c.self.view_is) ∙ last-padded slots other ∙ ap reply_of (get_or_past slots other None (omega arith)))
+    on_err c.from_residual.result (λ other l. sym (ap (λ rs. last_of rs other) c.self.view_is) ∙ last-padded slots other ∙ ap kept_if_any (get_or_past slots other None (omega arith)))
 
 pub invariant_of-self-2 : goal.invariant_of-self-2
 invariant_of-self-2 c =

@@ -1,8 +1,8 @@
 use Rattle.std.proofs.Common.{◌<◌, ◌≤◌, map, length, get_or, arith, sym, ap, ◌∙◌, subst}
 use Rattle.std.specs.Prelude.{All}
 use Rattle.terms.specs.Parties.{party_number}
-use Rattle.schedule_world.specs.Pooled.{IsServed, IsNext}
-use Rattle.schedule_world.specs.PoolView.{frame_of}
+use Rattle.schedule_world.specs.Pooled.{IsServed, IsFirstWaiting}
+use Rattle.schedule_world.specs.PoolView.{frame_in_pool}
 use Rattle.schedule_world.proofs.Serving.{next_served, all_served, is_next, none_first}
 use Rattle.schedule_world.proofs.pool.Pool.next.Goals as goal
 
@@ -13,7 +13,7 @@ returns-in-Some-clause-next c =
     let e = c.deref.ensures.value ∙ ap (λ m. m.waiting.items) c.index.ensures in
     let next = is_next c.loop-self.self-inside.frames.items c.loop-self.self-inside.first c.index.result.now c.in-Some.party.now within
     (subst (λ xs. 0 < length xs) e item.3.0) (item.1 ∙ ap (λ xs. get_or xs 0 c.in-Some.party.now) e) c.loop-self.invariant.1 in
-    subst (λ fs. IsNext fs c.loop-self.self-inside.first (party_number c.in-Some.party.now)) (ap (λ v. map frame_of v.items) c.loop-self.invariant.2 ∙ c.self.view_is) next
+    subst (λ fs. IsFirstWaiting fs c.loop-self.self-inside.first (party_number c.in-Some.party.now)) (ap (λ v. map frame_in_pool v.items) c.loop-self.invariant.2 ∙ c.self.view_is) next
 
 pub loop-self-preserved : goal.loop-self-preserved
 loop-self-preserved c =
@@ -26,4 +26,4 @@ pub returns-clause-next : goal.returns-clause-next
 returns-clause-next c =
     let n : length c.loop-self.self-inside.frames.items ≤ c.loop-self.self-inside.first = omega arith in
     let here = all_served c.loop-self.self-inside.frames.items c.loop-self.self-inside.first n c.loop-self.invariant.1 in
-    subst (All IsServed) (ap (λ v. map frame_of v.items) c.loop-self.invariant.2 ∙ c.self.view_is) here
+    subst (All IsServed) (ap (λ v. map frame_in_pool v.items) c.loop-self.invariant.2 ∙ c.self.view_is) here

@@ -4,7 +4,7 @@ use Rattle.protocol.specs.System.Configuration.{is_correct}
 use Rattle.protocol.specs.System.Trace.Entry.{Tick}
 use Rattle.replica.specs.declared.replica.Event.TheVariants as replica_events
 use Rattle.client_cert.specs.declared.client.Event.TheVariants as client_events
-use Rattle.schedule_world.specs.Moving.{Comes}
+use Rattle.schedule_world.specs.Moving.{InputComes}
 use Rattle.schedule_world.proofs.Standing.{from_replica, from_client}
 use Rattle.schedule_world.proofs.stage.Stage.tick.Goals as goal
 use Rattle.schedule_world.proofs.stage.Stage.tick.Goals.{in-Replica, in-Client}
@@ -16,7 +16,7 @@ returns-clause-comes c = elim c.match-party.branch [
       let same = w.party-is in
       let there = w.party-is ∙ sym w.in-Replica.is in
       let correct = subst (λ p. is_correct c.args.config.now (party_number p) ≡ true) (sym there) c.requires.correct in
-      subst (λ p. Comes c.args.config.now (Tick (party_number p)) c.args.self.now c.add_outputs.new.self) there
+      subst (λ p. InputComes c.args.config.now (Tick (party_number p)) c.args.self.now c.add_outputs.new.self) there
       (from_replica c.args.config.now c.args.self.now c.match-party.self w.step_replica-outputs.new.self c.add.new.self c.add_outputs.new.self (party_number c.match-party.party) w.in-Replica.replica.0
       replica_events.Timeout c.match-party.outputs.items w.step_replica-outputs.result.items (Tick (party_number c.match-party.party)) c.requires.seated (ap party_number same) low correct
       w.step_replica-outputs.ensures.moves w.step_replica-outputs.ensures.seats w.step_replica-outputs.ensures.kept w.self-is (ap (λ v. v.items) w.outputs-is) (ap (λ p. Tick (party_number p)) same)
@@ -25,7 +25,7 @@ returns-clause-comes c = elim c.match-party.branch [
       let same = w.party-is in
       let there = w.party-is ∙ sym w.in-Client.is in
       let correct = subst (λ p. is_correct c.args.config.now (party_number p) ≡ true) (sym there) c.requires.correct in
-      subst (λ p. Comes c.args.config.now (Tick (party_number p)) c.args.self.now c.add_outputs.new.self) there
+      subst (λ p. InputComes c.args.config.now (Tick (party_number p)) c.args.self.now c.add_outputs.new.self) there
       (from_client c.args.config.now c.args.self.now c.match-party.self w.step_client-outputs.new.self c.add.new.self c.add_outputs.new.self (party_number c.match-party.party) w.in-Client.client.number
       client_events.Retry c.match-party.outputs.items w.step_client-outputs.result.items (Tick (party_number c.match-party.party)) c.requires.seated (ap party_number same) correct
       w.step_client-outputs.ensures.moves w.step_client-outputs.ensures.replicas w.step_client-outputs.ensures.kept w.self-is (ap (λ v. v.items) w.outputs-is) (ap (λ p. Tick (party_number p)) same)

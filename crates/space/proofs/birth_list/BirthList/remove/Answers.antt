@@ -2,7 +2,7 @@ use Rattle.std.proofs.Common.{◌≡◌, ◌≢◌, ℕ, ◌<◌, length, get_or
 use Rattle.std.specs.Prelude.{AllPairs}
 use Rattle.std.proofs.lemmas.List.Sorted.{IsPartitionPoint-from_clause}
 use Rattle.std.proofs.lemmas.List.{get_or_default}
-use Rattle.space.specs.Ages.{without}
+use Rattle.space.specs.Ages.{births_without}
 use Rattle.space.proofs.Ages.{without-at, without-none, absent, rising_numbers}
 use Rattle.space.proofs.birth_list.BirthList.remove.Goals as goal
 use Rattle.space.proofs.birth_list.BirthList.remove.Goals.{then-place-births-via-then-place-births, then-place-births-via-else-place-births+then-births-place}
@@ -19,7 +19,7 @@ returns-then-place-births c rising =
       | then-place-births-via-then-place-births w ↦ omega arith
       | then-place-births-via-else-place-births+then-births-place w ↦ w.if-births-place.true (get_or_default xs place 0 d l ∙ e)
     ] in
-    subst (λ zs. zs ≡ without b zs) c.as_slice-births.ensures (sym (without-none xs b (absent xs b place h point none)))
+    subst (λ zs. zs ≡ births_without b zs) c.as_slice-births.ensures (sym (without-none xs b (absent xs b place h point none)))
 
 pub returns : goal.returns
 returns c rising =

@@ -1,6 +1,6 @@
 use Rattle.std.proofs.Common.{◌++◌, [], ◌∷◌, cond, refl, ap, ◌∙◌}
 use Rattle.std.specs.Prelude.{◌==◌}
-use Rattle.space.specs.Births.{Entry}
+use Rattle.space.specs.Births.{BornTuple}
 use Rattle.space.specs.Filing.{page_number, value_count, first_key}
 use Rattle.space.specs.Keys.{tuple_key}
 use Rattle.space.proofs.Filing.{IsFiled-push, IsNumbered-push}
@@ -9,7 +9,7 @@ use Rattle.space.proofs.index.Index.insert.Goals as goal
 pub returns-clause-ok : goal.returns-clause-ok
 returns-clause-ok g c es h =
     let old = c.args.self.now in
-    let e : Entry = (c.args.birth, c.args.tuple.now) in
+    let e : BornTuple = (c.args.birth, c.args.tuple.now) in
     record {
       pages =
           IsNumbered-push page_number old.pages es h.pages c.add.new.self e c.page_of-2.result c.page_of-2.ensures

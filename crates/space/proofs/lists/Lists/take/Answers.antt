@@ -1,7 +1,7 @@
 use Rattle.std.proofs.Common.{◌≡◌, ◌<◌, [], Some, sym, ap, subst, ◌∙◌, rules}
 use Rattle.std.specs.Prelude.{AllPairs, if◌then◌else◌}
 use Rattle.std.specs.Str.{bytes_eq}
-use Rattle.space.specs.Ages.{without}
+use Rattle.space.specs.Ages.{births_without}
 use Rattle.space.specs.Filing.{births_at, births_or_none}
 use Rattle.space.specs.KeyBirths.{births_of}
 use Rattle.space.specs.declared.lists.Lists.{Lists}
@@ -26,4 +26,4 @@ pub returns-in-None-clause-taken : goal.returns-in-None-clause-taken
 returns-in-None-clause-taken c rising q =
     let m = c.args.self.now in
     let none : births_at m c.args.key.now ≡ [] = sym (ap births_or_none c.in-None.ensures.value) in
-    subst (λ s. births_at (record { alloc = c.args.self.now.alloc; lists = s }) q ≡ if bytes_eq c.args.key.now q then without c.args.birth (births_at m q) else births_at m q) (sym c.get_mut.follows.holds-at-none) (nothing_removed m c.args.key.now c.args.birth none q)
+    subst (λ s. births_at (record { alloc = c.args.self.now.alloc; lists = s }) q ≡ if bytes_eq c.args.key.now q then births_without c.args.birth (births_at m q) else births_at m q) (sym c.get_mut.follows.holds-at-none) (nothing_removed m c.args.key.now c.args.birth none q)

@@ -3,7 +3,7 @@ use Rattle.std.proofs.lemmas.Result.{IfOk-weaker}
 use Rattle.space.specs.Births.{SpaceState, page_count}
 use Rattle.space.specs.Filing.{births_on}
 use Rattle.space.specs.Found.{entries_at}
-use Rattle.space.specs.Pages.{entries_text, page_text, text_of_oldest}
+use Rattle.space.specs.Pages.{entries_text, tuple_page_text, text_of_oldest}
 use Rattle.space.proofs.Storing.{page_behind, length-births_on}
 use Rattle.space.proofs.tuples.Space.page_text_behind.Goals as goal
 
@@ -20,8 +20,8 @@ returns c =
     let births = c.on_page-births.ensures s.entries c.self.invariant.indexed in
     let front : c.args.front.now ≡ text_of_oldest s c.args.page c.args.count = c.requires.front ∙ sym (ap (λ (x : SpaceState). text_of_oldest x c.args.page c.args.count) c.self.view_is) in
     let others = c.split_at.ensures.back ∙ ap (drop c.args.count) births in
-    let same : c.args.front.now ++ entries_text s.version (entries_at s.entries c.split_at.result.1.now) ≡ page_text c.args.self.now c.args.page =
+    let same : c.args.front.now ++ entries_text s.version (entries_at s.entries c.split_at.result.1.now) ≡ tuple_page_text c.args.self.now c.args.page =
     ap (λ bs. c.args.front.now ++ entries_text s.version (entries_at s.entries bs)) others
     ∙ ap (λ bs. bs ++ entries_text s.version (entries_at s.entries (drop c.args.count (births_on c.args.page s.entries)))) front
-    ∙ page_behind s c.self.invariant.counts.state c.args.page c.args.count ∙ ap (λ (x : SpaceState). page_text x c.args.page) c.self.view_is in
-    IfOk-weaker c.text_behind.result (λ text. text.items ≡ c.args.front.now ++ entries_text s.version (entries_at s.entries c.split_at.result.1.now)) (λ text. text.items ≡ page_text c.args.self.now c.args.page) (λ text e. e ∙ same) c.text_behind.ensures
+    ∙ page_behind s c.self.invariant.counts.state c.args.page c.args.count ∙ ap (λ (x : SpaceState). tuple_page_text x c.args.page) c.self.view_is in
+    IfOk-weaker c.text_behind.result (λ text. text.items ≡ c.args.front.now ++ entries_text s.version (entries_at s.entries c.split_at.result.1.now)) (λ text. text.items ≡ tuple_page_text c.args.self.now c.args.page) (λ text e. e ∙ same) c.text_behind.ensures

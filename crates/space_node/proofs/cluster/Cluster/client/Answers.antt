@@ -2,7 +2,7 @@ use Rattle.std.proofs.Common.{rules, ◌≡◌, ◌∙◌, ◌+◌, ap, subst, s
 use Rattle.std.specs.Prelude.{Some, slice_get}
 use Rattle.std.specs.List.{remove}
 use Rattle.std.proofs.lemmas.Option.{get_or_from_slice_get}
-use Rattle.space_node.specs.Places.{HandleAt, Takes, parties_of}
+use Rattle.space_node.specs.Places.{HandleAt, PartyTakesHandle, parties_of}
 use Rattle.space_node.proofs.Handing.{handed}
 use Rattle.space_node.proofs.cluster.Cluster.client.Goals as goal
 
@@ -17,4 +17,4 @@ returns g c =
     let h = handed handles at p c.remove.result c.self.inside.are_new there is in
     let left : remove handles at ≡ c.remove.new.self.items = search rules in
     let old : parties_of handles ≡ c.args.self.now = search rules in
-    (h.0, subst (λ ps. Takes ps p (parties_of c.remove.new.self.items)) old (subst (λ hs. Takes (parties_of handles) p (parties_of hs)) left h.1))
+    (h.0, subst (λ ps. PartyTakesHandle ps p (parties_of c.remove.new.self.items)) old (subst (λ hs. PartyTakesHandle (parties_of handles) p (parties_of hs)) left h.1))
