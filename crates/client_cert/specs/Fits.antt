@@ -7,7 +7,8 @@ use Rattle.protocol.specs.Client.RightClient.{last_call, open_call, went_ordered
 use Rattle.client_cert.specs.State.{CallState, ClientState, me_of, held, ballots_of, ballot_of}
 
 -- the state of the open call with this timestamp
-pub record FitsCall (c : Configuration) (me : ℕ) (history : List Entry) (timestamp : ℕ) (call : CallState) : Type 0 where
+pub record FitsCall (c : Configuration) (me : ℕ) (history : List Entry) (timestamp : ℕ) (call : CallState) : Type 0
+  where
   pub open_is : open_call history ≡ Some (record { timestamp = timestamp; op = call.op })
   pub ordered_is : went_ordered history timestamp ≡ call.ordered
   pub ballots_are : (mode : Mode) (s : ℕ)
@@ -18,7 +19,8 @@ FitsOpenCall c me history timestamp None = open_call history ≡ None
 FitsOpenCall c me history timestamp (Some call) = FitsCall c me history timestamp call
 
 -- at each entry, also within an event
-pub record FitsWithinEvents (c : Configuration) (me : ℕ) (history : List Entry) (timestamp : ℕ) (call : Option CallState) : Type 0 where
+pub record FitsWithinEvents (c : Configuration) (me : ℕ) (history : List Entry) (timestamp : ℕ)
+    (call : Option CallState) : Type 0 where
   pub last_is : last_call history ≡ timestamp
   pub call_is : FitsOpenCall c me history timestamp call
 

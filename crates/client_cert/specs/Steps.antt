@@ -73,7 +73,8 @@ reaction_of timestamp call (turned.Accept answer) = accepts timestamp (outcome_o
 abbrev pub CallWeighsBytes : Membership → ℕ → ℕ → CallState → List ℕ → CallState → Reaction → Type 0
 CallWeighsBytes m me timestamp old bytes new given =
     (c : Configuration) (history : List Entry) → members c ≡ m → FitsWithinEvents c me history timestamp (Some old)
-    → FitsWithinEvents c me (Got me bytes ∷ history) timestamp (Some new) × (reaction c me (Got me bytes ∷ history) ≡ given)
+    → FitsWithinEvents c me (Got me bytes ∷ history) timestamp (Some new)
+    × (reaction c me (Got me bytes ∷ history) ≡ given)
 
 -- the same, of the client with this number, for Rust values
 abbrev pub TurnsTo :

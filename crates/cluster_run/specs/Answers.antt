@@ -10,7 +10,8 @@ use Rattle.protocol.specs.System.Trace.Entry.{Invoke, Accepted}
 use Rattle.protocol.specs.Space.Linear.{points, IsLinear}
 
 -- The client invoked the operation at this timestamp, and accepted this answer to it.
-pub record CallIsAnswered (entries : List Entry) (client timestamp : ℕ) (op : Operation) (answer : Outcome) : Type 0 where
+pub record CallIsAnswered (entries : List Entry) (client timestamp : ℕ) (op : Operation) (answer : Outcome) : Type 0
+  where
   pub invoked : Contains entries (Invoke client timestamp op)
   pub accepted : Contains entries (Accepted client timestamp answer)
 

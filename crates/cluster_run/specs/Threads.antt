@@ -15,7 +15,8 @@ abbrev pub promises_of : {T : Type 0} → List (PromisedHandle T CallsHand) → 
 promises_of threads = map (λ t. t.promise) threads
 
 -- one more thread promises to call this hand
-pub record StartsThread (old : List CallsHand) (number : ℕ) (hand : Vec (Op Global) Global) (new : List CallsHand) : Type 0 where
+pub record StartsThread (old : List CallsHand) (number : ℕ) (hand : Vec (Op Global) Global)
+    (new : List CallsHand) : Type 0 where
   pub promise : CallsHand
   pub number_is : promise.number ≡ number
   pub hand_is : promise.ops.value ≡ hand
@@ -36,7 +37,8 @@ AddsCalled old called new =
     (λ fault. ⊥)
 
 -- the result of each thread is its client, and the answers that the client got to its hand
-pub record AreJoined (promises : List CallsHand) (clients : List Seated) (answers : Hands (Answer Global)) : Type 0 where
+pub record AreJoined (promises : List CallsHand) (clients : List Seated) (answers : Hands (Answer Global)) : Type 0
+  where
   pub clients_count : length clients ≡ length promises
   pub answers_count : length answers ≡ length promises
   pub each : (h : ℕ) (p : CallsHand) (s : Seated) (v : Vec (Answer Global) Global) → slice_get promises h ≡ Some p

@@ -115,8 +115,8 @@ fn start_client<N: Naming + Send + Sync + 'static, R: Threads + Wait + Copy + Se
         promise,
         move ||
             requires { client.history ≡ [] }
-            ensures { IfOk result.answers
-                (λ answers. HasCalled client (map operation_of ops.items) (map outcome_of answers.items) result.client) }
+            ensures { IfOk result.answers (λ answers.
+                HasCalled client (map operation_of ops.items) (map outcome_of answers.items) result.client) }
         { call_in_thread(&rt, alloc, client, ops, &progress) },
     ) {
         Ok(thread) => {

@@ -157,7 +157,8 @@ impl Desk {
     /// transfer. Returns its checkpoint. None if the fetched pages are no state of that number, or if some client's
     /// timestamp would fall. NoMemory if memory runs out.
     pub fn install(&mut self) -> Result<Option<CheckpointEntry>, NoMemory>
-        ensures ok { IfOk result (λ entry. InstallsHeldPages self.old self.new (option_map checkpoint_entry_data entry)) }
+        ensures ok { IfOk result (λ entry. InstallsHeldPages self.old self.new
+            (option_map checkpoint_entry_data entry)) }
         ensures me { self.new.me ≡ self.old.me }
         ensures membership { self.new.membership ≡ self.old.membership }
         ensures period { self.new.period ≡ self.old.period }

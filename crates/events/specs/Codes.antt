@@ -8,7 +8,8 @@ use Rattle.protocol.specs.System.Trace.{Entry}
 use Rattle.protocol.specs.System.Trace.Entry.{Invoke, Got, Tick, Executed, Installed, Sent, Accepted}
 
 abbrev pub EntryParts : Type 0
-EntryParts = (ℕ × (ℕ × Operation)) ⊎ ((ℕ × List ℕ) ⊎ (ℕ ⊎ ((ℕ × (ℕ × List ℕ)) ⊎ ((ℕ × (ℕ × List ℕ)) ⊎ ((ℕ × List ℕ) ⊎ (ℕ × (ℕ × Outcome)))))))
+EntryParts = (ℕ × (ℕ × Operation))
+    ⊎ ((ℕ × List ℕ) ⊎ (ℕ ⊎ ((ℕ × (ℕ × List ℕ)) ⊎ ((ℕ × (ℕ × List ℕ)) ⊎ ((ℕ × List ℕ) ⊎ (ℕ × (ℕ × Outcome)))))))
 
 abbrev pub entry_parts : Entry → EntryParts
 entry_parts (Invoke k t op) = inl (k, (t, op))

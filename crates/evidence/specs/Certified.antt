@@ -47,7 +47,8 @@ TakesLater =
 -- So it is above those of the new views that were taken before, and none is taken twice.
 abbrev pub TakesInOrder : Type 0
 TakesInOrder =
-    (c : Configuration) (past : List Entry) (e : Entry) (earlier new : NewViewData) → Once (TakesOrSendsNewView c earlier) past
+    (c : Configuration) (past : List Entry) (e : Entry) (earlier new : NewViewData)
+    → Once (TakesOrSendsNewView c earlier) past
     → taken c past e ≡ Some new → earlier.view < new.view
 
 -- ---- the log

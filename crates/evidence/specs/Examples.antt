@@ -42,8 +42,8 @@ pub record IsFirstBatch (c : Configuration)
       → IsSealed c frame × (receivers_of frame.authenticator ≡ others c 1)
 
 -- its history, the newest first, up to the quorum of commits
-abbrev pub history_of_first_batch : (pre_prepare own_prepare other_prepare own_commit first_commit second_commit : List ℕ)
-    → List Entry
+abbrev pub history_of_first_batch :
+    (pre_prepare own_prepare other_prepare own_commit first_commit second_commit : List ℕ) → List Entry
 history_of_first_batch pre_prepare own_prepare other_prepare own_commit first_commit second_commit =
     Got 1 second_commit ∷ Got 1 first_commit ∷ Sent 1 own_commit ∷ Got 1 other_prepare ∷ Sent 1 own_prepare
     ∷ Got 1 pre_prepare ∷ []
@@ -56,7 +56,8 @@ FirstBatchExecutes =
     → Committed (four clients seed) 1
     (history_of_first_batch pre_prepare own_prepare other_prepare own_commit first_commit second_commit) 0 1 batch
     × SafeReplica (four clients seed) 1
-    (Executed 1 1 batch ∷ history_of_first_batch pre_prepare own_prepare other_prepare own_commit first_commit second_commit)
+    (Executed 1 1 batch
+    ∷ history_of_first_batch pre_prepare own_prepare other_prepare own_commit first_commit second_commit)
 
 -- A trace in which a correct client has invoked an operation and asked all replicas for it, and nothing has come yet,
 -- is a run.

@@ -29,7 +29,8 @@ FirstReadIsAnswered =
     (clients : ℕ) (seed : List ℕ) (me client timestamp : ℕ) (op : Operation) (read reply : List ℕ)
     → heard (members (four clients seed)) me read
     ≡ Some (record { sender = client; message = Request timestamp modes.ReadOnly op }) → is_read_only op ≡ true
-    → IsAnswer (four clients seed) me client (Reply client timestamp modes.ReadOnly 0 (outcome no_tuples (client_number client) op)) reply
+    → IsAnswer (four clients seed) me client
+    (Reply client timestamp modes.ReadOnly 0 (outcome no_tuples (client_number client) op)) reply
     → IsReplica (four clients seed) me (Sent me reply ∷ Got me read ∷ [])
 
 -- So is one that gets a fetch of the root of the opening state, and answers it with the digests below.

@@ -40,8 +40,8 @@ abbrev pub beginning_view : List ℕ → List ℕ → List ℕ → List ℕ → 
 beginning_view root a b d =
     record { view = 1; changes = a ∷ b ∷ d ∷ []; start = 0; root = root; batches = [] }
 
--- The primary of view 1 gets the view changes of two others for that view in the beginning. It is a right one if it sends
--- its own at the second, and then the new view over all three, signed by another of its keys.
+-- The primary of view 1 gets the view changes of two others for that view in the beginning. It is a right one if it
+-- sends its own at the second, and then the new view over all three, signed by another of its keys.
 abbrev pub ItsViewIsBegun : Type 0
 ItsViewIsBegun =
     (clients : ℕ) (seed first second own new_view : List ℕ)

@@ -19,7 +19,8 @@ pub record AreReadFrames (c : Configuration) (op : Operation) (number : ℕ) (an
   pub operation : IsOperation op
   pub reads : is_read_only op ≡ true
   pub asks : IsFrameFrom c 256 (Request 1 modes.ReadOnly op) (range_with_len 0 (replicas c)) request
-  pub replies : (r : ℕ) → r < replicas c → IsFrameFrom c r (Reply 256 1 modes.ReadOnly number answer) (256 ∷ []) (reply r)
+  pub replies : (r : ℕ) → r < replicas c
+      → IsFrameFrom c r (Reply 256 1 modes.ReadOnly number answer) (256 ∷ []) (reply r)
 
 -- the client's history, the oldest first: it accepts at the third reply
 abbrev pub first_read : Operation → Outcome → List ℕ → (ℕ → List ℕ) → List Entry

@@ -14,8 +14,8 @@ use Rattle.protocol.specs.Replica.Owed.{IsReplica}
 use Rattle.evidence.specs.Examples.{four}
 use Rattle.evidence.specs.FirstOperation.{IsFrameFrom}
 
--- What there is to fetch: the text of page 0, the digest of page 1, those of the other pages of inner part 0, and those of
--- the other inner parts.
+-- What there is to fetch: the text of page 0, the digest of page 1, those of the other pages of inner part 0, and those
+-- of the other inner parts.
 pub record Parts : Type 0 where
   pub text : List ℕ
   pub next_digest : List ℕ

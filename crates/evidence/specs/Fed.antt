@@ -17,7 +17,8 @@ use Rattle.wire_format.specs.Lists.{Each}
 abbrev pub CallsAreFed : Type 0
 CallsAreFed =
     (c : Configuration) (steps : List Step) (k timestamp : ℕ) (op : Operation) (outputs trace : List Entry)
-    → Feeds c steps trace → is_correct_client c (client_party k) ≡ true → open_call (history_of (client_party k) trace) ≡ None
+    → Feeds c steps trace → is_correct_client c (client_party k) ≡ true
+    → open_call (history_of (client_party k) trace) ≡ None
     → IsOperation op → AreOutputs outputs
     → Feeds c (steps ++ calls k op ∷ []) (outputs ++ Invoke k timestamp op ∷ trace)
 
@@ -91,7 +92,8 @@ with_delivery c w frame party bytes =
 abbrev pub FlushDeliversNext : Type 0
 FlushDeliversNext =
     (c : Configuration) (w v : World) (frame party : ℕ) (made : Made) (steps : List Step) (entries : List Entry)
-    → IsNextDelivery c w frame party made → StepsLead c (with_delivery c w frame party made.bytes) (flush ∷ steps) entries v
+    → IsNextDelivery c w frame party made
+    → StepsLead c (with_delivery c w frame party made.bytes) (flush ∷ steps) entries v
     → StepsLead c w (flush ∷ steps) (Got party made.bytes ∷ entries) v
 
 -- It feeds no other input first.

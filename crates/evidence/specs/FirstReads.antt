@@ -42,7 +42,8 @@ answered k read =
 -- The trace: client 3 accepts first, then clients 1 and 2.
 abbrev pub reads_trace : Operation → List ℕ → FirstFrames → (ℕ → ReadCall) → List Entry
 reads_trace op batch w read =
-    reverse (entries_of_read_call 1 (read 1) ++ entries_of_read_call 2 (read 2) ++ first_operation op batch w ++ entries_of_read_call 3 (read 3)
+    reverse (entries_of_read_call 1 (read 1) ++ entries_of_read_call 2 (read 2) ++ first_operation op batch w
+    ++ entries_of_read_call 3 (read 3)
     ++ answered 3 (read 3) ++ answered 1 (read 1) ++ answered 2 (read 2))
 
 -- a client's read as an item at a position

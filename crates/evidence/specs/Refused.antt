@@ -147,7 +147,8 @@ newest_number (Executed r k batch ∷ past) = k
 newest_number (Installed r k root ∷ past) = k
 newest_number (_ ∷ past) = newest_number past
 
--- A pre-prepare of a number that has no batch in the view: above another one without a batch, itself above the low mark.
+-- A pre-prepare of a number that has no batch in the view: above another one without a batch, itself above the low
+-- mark.
 abbrev pub SkipsNoNumber : Type 0
 SkipsNoNumber =
     (c : Configuration) (me v i j : ℕ) (batch bytes : List ℕ) (past : List Entry)
@@ -184,7 +185,8 @@ ReadsWhatWasAsked =
     → SafeReplica c me (Sent me bytes ∷ past)
     → (op : Operation) × (is_read_only op ≡ true)
     × Once (Hears c me (record { sender = client; message = Request timestamp modes.ReadOnly op })) past
-    × (point : Point) × HistoryReaches c me past point × (answer ≡ outcome (tuples point.state) (client_number client) op)
+    × (point : Point) × HistoryReaches c me past point
+    × (answer ≡ outcome (tuples point.state) (client_number client) op)
 
 -- An execution that skips a number, or goes back.
 abbrev pub ExecutesNext : Type 0
@@ -275,8 +277,8 @@ RepliesWhatRan =
     → (Has (λ ran. (ran.call.client ≡ k) × (ran.kept ≡ kept)) point.ran → ⊥) × (kept_of point.state k ≢ Some kept))
     → SafeReplica c me (Sent me bytes ∷ past) → ⊥
 
--- An ordered reply in an event that executed no batch of its number, and whose input is no ordered request of its client
--- and timestamp.
+-- An ordered reply in an event that executed no batch of its number, and whose input is no ordered request of its
+-- client and timestamp.
 abbrev pub RepliesToWhoAsked : Type 0
 RepliesToWhoAsked =
     (c : Configuration) (me client timestamp number : ℕ) (answer : Outcome) (bytes : List ℕ) (input : Entry)
@@ -458,7 +460,8 @@ FetchesWhatDiffers =
 
 -- An event, an input with its outputs (the newest first), of a correct replica that goes on: it sends a frame after a
 -- later input, so it has not stopped.
-pub record ReplicaGoesOn (c : Configuration) (me : ℕ) (outputs : List Entry) (input : Entry) (past : List Entry) : Type 0 where
+pub record ReplicaGoesOn (c : Configuration) (me : ℕ) (outputs : List Entry) (input : Entry)
+    (past : List Entry) : Type 0 where
   pub is_input : is_output input ≡ false
   pub are_outputs : AreOutputs outputs
   pub next : Entry
@@ -529,8 +532,10 @@ InstallsFetched =
 abbrev pub AnswersAgain : Type 0
 AnswersAgain =
     (c : Configuration) (me k : ℕ) (op : Operation) (kept : Kept) (bytes : List ℕ) (outputs past : List Entry)
-    → heard (members c) me bytes ≡ Some (record { sender = client_party k; message = Request kept.timestamp modes.Ordered op })
-    → AtEachPoint c me past (λ point. kept_of point.state k ≡ Some kept) → ReplicaGoesOn c me outputs (Got me bytes) past
+    → heard (members c) me bytes
+    ≡ Some (record { sender = client_party k; message = Request kept.timestamp modes.Ordered op })
+    → AtEachPoint c me past (λ point. kept_of point.state k ≡ Some kept)
+    → ReplicaGoesOn c me outputs (Got me bytes) past
     → SendsMessage me (reply_of k kept) outputs
 
 -- A request that ran in the event, and gets no reply.
@@ -610,7 +615,8 @@ abbrev pub FetchesStarts : Type 0
 FetchesStarts =
     (c : Configuration) (me k : ℕ) (new : NewViewData) (input : Entry) (outputs past : List Entry)
     → Once (λ earlier e. (taken c earlier e ≡ Some new) × (fetching earlier < k)) (outputs ++ input ∷ past)
-    → new.start ≡ k → newest_number (outputs ++ input ∷ past) < k → fetching past < k → ReplicaGoesOn c me outputs input past
+    → new.start ≡ k → newest_number (outputs ++ input ∷ past) < k → fetching past < k
+    → ReplicaGoesOn c me outputs input past
     → SendsMessage me (Fetch k levels.Root 0) outputs
 
 -- A tick at which the replica does not send the last fetch of an open transfer again.

@@ -118,7 +118,8 @@ abbrev pub ChangesJoinEnough : Type 0
 ChangesJoinEnough =
     (c : Configuration) (me : ℕ) (vc : ViewChangeData) (bytes frame : List ℕ) (past : List Entry)
     → SendsNewChange c me vc bytes (Got me frame ∷ past)
-    → c.faults < count_above c me (Got me frame ∷ past) (max (view c (Got me frame ∷ past)) (target (Got me frame ∷ past)))
+    → c.faults < count_above c me (Got me frame ∷ past)
+    (max (view c (Got me frame ∷ past)) (target (Got me frame ∷ past)))
 
 abbrev pub ChangesJoinLeast : Type 0
 ChangesJoinLeast =
@@ -280,7 +281,8 @@ GotChange c s vc past _ = ⊥
 abbrev pub DropsPassedChanges : Type 0
 DropsPassedChanges =
     (c : Configuration) (me s : ℕ) (vc earlier : ViewChangeData) (bytes : List ℕ) (past : List Entry)
-    → Once (GotChange c s earlier) past → vc.view ≤ earlier.view → FrameAnswersInput c me s (ViewChange vc) bytes past → ⊥
+    → Once (GotChange c s earlier) past → vc.view ≤ earlier.view → FrameAnswersInput c me s (ViewChange vc) bytes past
+    → ⊥
 
 -- A new view that is not taken.
 abbrev pub DropsNewViews : Type 0
@@ -320,7 +322,8 @@ GotDigests c me past level index digests =
 abbrev pub DropsOtherRoots : Type 0
 DropsOtherRoots =
     (c : Configuration) (me s k index : ℕ) (digests : List (List ℕ)) (bytes : List ℕ) (past : List Entry)
-    → IsNoRoot c past k (digest_of_children digests) → FrameAnswersInput c me s (Meta k levels.Root index digests) bytes past → ⊥
+    → IsNoRoot c past k (digest_of_children digests)
+    → FrameAnswersInput c me s (Meta k levels.Root index digests) bytes past → ⊥
 
 -- Digests of an inner part that no root's got digests say.
 abbrev pub DropsOtherDigests : Type 0
@@ -347,7 +350,8 @@ DropsOtherPages =
 abbrev pub WaitsOnceGot : Type 0
 WaitsOnceGot =
     (c : Configuration) (me k timestamp : ℕ) (op : Operation) (bytes : List ℕ) (past : List Entry)
-    → heard (members c) me bytes ≡ Some (record { sender = client_party k; message = Request timestamp modes.Ordered op })
+    → heard (members c) me bytes
+    ≡ Some (record { sender = client_party k; message = Request timestamp modes.Ordered op })
     → k < c.clients
     → AtEachPoint c me past
     (λ point. (last_time point.state k < timestamp)

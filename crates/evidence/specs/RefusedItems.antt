@@ -104,7 +104,8 @@ LinearIsAllThree =
 abbrev pub WritesAreSeen : Type 0
 WritesAreSeen =
     (c : Configuration) (writer reader : ℕ) (t : TupleTree) (p : TemplateTree) → writer ≢ reader
-    → is_correct_client c (client_party writer) ≡ true → is_correct_client c (client_party reader) ≡ true → is_match p t ≡ true
+    → is_correct_client c (client_party writer) ≡ true → is_correct_client c (client_party reader) ≡ true
+    → is_match p t ≡ true
     → Linear c (Accepted reader 1 absent ∷ Invoke reader 1 (rdp p) ∷ Accepted writer 1 done ∷ Invoke writer 1 (out t)
     ∷ []) → ⊥
 

@@ -80,7 +80,8 @@ FirstOperationIsReported =
 -- limits.
 abbrev pub MayBeFed : Configuration → List Entry → Entry → Type 0
 MayBeFed c past (Invoke k timestamp op) =
-    (is_correct_client c (client_party k) ≡ true) × (open_call (history_of (client_party k) past) ≡ None) × IsOperation op
+    (is_correct_client c (client_party k) ≡ true) × (open_call (history_of (client_party k) past) ≡ None)
+    × IsOperation op
 MayBeFed c past (Got p bytes) = is_correct c p ≡ true
 MayBeFed c past (Tick p) = is_correct c p ≡ true
 MayBeFed c past _ = ⊤
@@ -149,7 +150,8 @@ SignedIsNewest =
 -- a step that may come after the trace, with these frames made
 abbrev pub MayCome : Configuration → List Made → List Entry → Step → Type 0
 MayCome c frames trace (calls k op) =
-    (is_correct_client c (client_party k) ≡ true) × (open_call (history_of (client_party k) trace) ≡ None) × IsOperation op
+    (is_correct_client c (client_party k) ≡ true) × (open_call (history_of (client_party k) trace) ≡ None)
+    × IsOperation op
 MayCome c frames trace (deliver frame party) = (frame < length frames) × (is_correct c party ≡ true)
 MayCome c frames trace (feed party text) = is_correct c party ≡ true
 MayCome c frames trace (ticks party) = is_correct c party ≡ true

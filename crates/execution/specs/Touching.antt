@@ -32,7 +32,8 @@ TouchesReplies old new =
     → (is_touched old client ≡ false) × (reply_page new.replies client ≡ reply_page old.replies client)
 
 -- How requests change both: they touch what they change, and leave a space and replies.
-pub record ChangesAreTouched (w : WatchedState) (r : RepliesState) (w' : WatchedState) (r' : RepliesState) : Type 0 where
+pub record ChangesAreTouched (w : WatchedState) (r : RepliesState) (w' : WatchedState) (r' : RepliesState) : Type 0
+  where
   pub space : KeepsWritten w w'
   pub replies : TouchesReplies r r'
   pub is_space : IsSpace w.state → IsSpace w'.state

@@ -132,7 +132,8 @@ fn is_absent(acceptance: &Acceptance) -> bool {
     acceptance.client.number == 1 && matches!(acceptance.answer, Answer::Absent)
 }
 
-// There is room before the step is read: else what refuses it would have to be dropped too, and each drop costs a proof.
+// There is room before the step is read: else what refuses it would have to be dropped too, and each drop costs a
+// proof.
 fn is_line_put(alloc: Global, line: &str, steps: &mut Vec<Step>) -> bool {
     let Ok(()) = steps.reserve(1) else {
         return false;

@@ -18,7 +18,8 @@ AddsResults initial bytes ending old new pending =
     (done : List ℕ) × RunsLines 1 initial (lines bytes) (done ++ pending) ending × Appends old new done
 
 abbrev pub StopsBy : LocalFault → Contents → List ℕ → Option (List ℕ) → Option (List ℕ) → List ℕ → Type 0
-StopsBy (Refused line fault) initial bytes old new pending = AddsResults initial bytes (refused_at line fault) old new pending
+StopsBy (Refused line fault) initial bytes old new pending =
+    AddsResults initial bytes (refused_at line fault) old new pending
 StopsBy NoMemory initial bytes old new pending = AddsResults initial bytes cut_short old new pending
 StopsBy (Read error) initial bytes old new pending = AddsResults initial bytes cut_short old new pending
 StopsBy (Write error) initial bytes old new pending = Unit {0}

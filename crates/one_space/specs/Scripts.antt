@@ -61,7 +61,8 @@ pub record ReadSoFar (bytes : List ℕ) (known : Option (List ℕ)) (n : ℕ) (o
       → LinesSay 1 (lines bytes) (os ++ more) ending
 
 -- The same, if only the first operations are kept, at most so many.
-pub record KeptSoFar (most : ℕ) (bytes : List ℕ) (known : Option (List ℕ)) (n : ℕ) (ops : Vec (Op Global) Global) : Type 0 where
+pub record KeptSoFar (most : ℕ) (bytes : List ℕ) (known : Option (List ℕ)) (n : ℕ) (ops : Vec (Op Global) Global)
+    : Type 0 where
   pub all : List Operation
   pub so_far : ReadSoFar bytes known n all
   pub first : operations_of ops ≡ take most all
@@ -69,7 +70,8 @@ pub record KeptSoFar (most : ℕ) (bytes : List ℕ) (known : Option (List ℕ))
 -- One more operation, after those of which the first are kept, at most so many.
 abbrev pub KeepsFirst : ℕ → Vec (Op Global) Global → Op Global → Vec (Op Global) Global → Type 0
 KeepsFirst most old op new =
-    (all : List Operation) → operations_of old ≡ take most all → operations_of new ≡ take most (all ++ operation_of op ∷ [])
+    (all : List Operation) → operations_of old ≡ take most all
+    → operations_of new ≡ take most (all ++ operation_of op ∷ [])
 
 -- The line of this number was read, or there is none, or the fault says why not.
 abbrev pub ReadsScriptLine : ℕ → Result Bool LocalFault → ℕ

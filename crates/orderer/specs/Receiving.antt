@@ -9,10 +9,12 @@ use Rattle.orderer.specs.State.{OrdererData}
 -- The orderer stores it if nothing refuses it; else nothing changes.
 abbrev pub ReceivesViewChange : HeldData → OrdererData → OrdererData → Bool → Type 0
 ReceivesViewChange h old new true =
-    (view_change_refusal (judging_configuration old.received) old.log.view old.received.held (h.sender, h.change) ≡ None)
+    (view_change_refusal (judging_configuration old.received) old.log.view old.received.held (h.sender, h.change)
+    ≡ None)
     × (new ≡ record old { received = record old.received { held = with_held h old.received.held } })
 ReceivesViewChange h old new false =
-    (view_change_refusal (judging_configuration old.received) old.log.view old.received.held (h.sender, h.change) ≢ None)
+    (view_change_refusal (judging_configuration old.received) old.log.view old.received.held (h.sender, h.change)
+    ≢ None)
     × (new ≡ old)
 
 -- The orderer judges view changes as in each configuration of the members, with the same period of checkpoints.

@@ -19,7 +19,8 @@ pub fn escape(text: &str, out: &mut String) -> Result<(), NoMemory>
 }
 
 fn put_character(character: char, out: &mut String) -> Result<(), NoMemory>
-    ensures { WritesText result (string_bytes out.old) (encode_utf8_all (escaped_character character)) (string_bytes out.new) }
+    ensures { WritesText result (string_bytes out.old) (encode_utf8_all (escaped_character character))
+        (string_bytes out.new) }
 {
     match character {
         '&' => put_entity("&amp;", out),

@@ -26,4 +26,5 @@ pub record CollectsBatches (past : List Entry) (xs : List Numbered) : Type 0 whe
 
 -- an entry leads from the earlier numbers to the later ones
 abbrev pub NotesBatch : Entry → List (ℕ × Bor (List ℕ)) → List (ℕ × Bor (List ℕ)) → Type 0
-NotesBatch e old new = (past : List Entry) → CollectsBatches past (numbered_of old) → CollectsBatches (e ∷ past) (numbered_of new)
+NotesBatch e old new = (past : List Entry) → CollectsBatches past (numbered_of old)
+    → CollectsBatches (e ∷ past) (numbered_of new)

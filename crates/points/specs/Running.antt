@@ -31,7 +31,8 @@ abbrev pub frame_placed : Configuration → ℕ → State → List ℕ → List 
 frame_placed c number st frame = option_map_or (ran_by st number) (call_of c frame) []
 
 -- A frame, and frames one after another, lead from the earlier data to the later ones, in the batch of a number.
-pub record PlacesFrame (c : Configuration) (place : Option ℕ) (number before : ℕ) (frame : List ℕ) (old new : PlacedSoFar)
+pub record PlacesFrame (c : Configuration) (place : Option ℕ) (number before : ℕ) (frame : List ℕ)
+    (old new : PlacedSoFar)
     : Type 0 where
   pub state : state_of before new ≡ run_frame c number (state_of before old) frame
   pub points : new.points ≡ old.points ++ points_at place number (frame_placed c number (state_of before old) frame)

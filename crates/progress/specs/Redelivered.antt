@@ -38,7 +38,8 @@ redelivery c w = deliveries c 0 w.frames ++ flush ∷ []
 -- From any world that is reached, this delivers all that was ever sent.
 abbrev pub RedeliveriesDeliverAll : Type 0
 RedeliveriesDeliverAll =
-    (c : Configuration) (w v : World) (entries : List Entry) → WorldIsReached c w → StepsLead c w (redelivery c w) entries v
+    (c : Configuration) (w v : World) (entries : List Entry) → WorldIsReached c w
+    → StepsLead c w (redelivery c w) entries v
     → AllRedelivered c (reverse entries) w.past
 
 -- ---- the law

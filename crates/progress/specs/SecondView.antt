@@ -33,7 +33,8 @@ pub record SecondHasRoom (c : Configuration) (later start : List Entry) : Type 0
 -- The first view is silent. The second one's primary is correct, began it with no batch, and has room for numbers.
 pub record SecondGoesOn (c : Configuration) (later start : List Entry) : Type 0 where
   pub next : SecondIsNext c (later ++ start)
-  pub bare : (new : NewViewData) → Once (TakesOrSendsNewView c new) (history_of (primary c 1) (later ++ start)) → new.batches ≡ []
+  pub bare : (new : NewViewData) → Once (TakesOrSendsNewView c new) (history_of (primary c 1) (later ++ start))
+      → new.batches ≡ []
   pub room : SecondHasRoom c later start
 
 -- Nobody has stopped, each correct replica stays active in the second view, and that goes on. A correct client with an
@@ -80,7 +81,8 @@ CallsOutliveSilence =
     → (k : ℕ) (call : OpenCall) → is_correct_client c (client_party k) ≡ true
     → open_call (history_of (client_party k) start) ≡ Some call
     → HasEntry (Tick (client_party k)) asks → AllDelivered c asks
-    → ((q : ℕ) → is_correct_replica c q ≡ true → TicksOrLeft q ticks (asks ++ start)) → AllDelivered c (ticks ++ (asks ++ start))
+    → ((q : ℕ) → is_correct_replica c q ≡ true → TicksOrLeft q ticks (asks ++ start))
+    → AllDelivered c (ticks ++ (asks ++ start))
     → HasEntry (Tick (client_party k)) later → AllRedelivered c later (ticks ++ (asks ++ start))
     → HasEntry (Tick (client_party k)) again → AllDelivered c again
     → (answer : Outcome) × HasEntry (Accepted k call.timestamp answer) (again ++ (later ++ (ticks ++ asks)))

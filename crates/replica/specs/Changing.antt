@@ -36,8 +36,8 @@ HasReason c s old v =
 
 -- The replica leaves its view and multicasts a view change for this one. If it has a reason, what stood still stands,
 -- and the log asks for nothing more.
-pub record LeavesView (v : ℕ) (old : JoinedData) (before : List Output) (new : JoinedData) (after : List Output) : Type 0
-  where
+pub record LeavesView (v : ℕ) (old : JoinedData) (before : List Output) (new : JoinedData) (after : List Output)
+    : Type 0 where
     pub stands : (c : Configuration) (s : Start) → members c ≡ old.desk.membership → IsVotedAll old.orderer.log
         → HasReason c s old v → PartsFitEvent c s old.orderer old.desk [] before
         → PartsFitEvent c s new.orderer new.desk [] after

@@ -96,8 +96,8 @@ impl Joined {
         entry: &CheckpointEntry,
         outputs: &mut Outputs,
     ) -> Result<(), Stop>
-        ensures ok { OnOk result (StartsTransferIfBehind (checkpoint_entry_data entry.now) self.old outputs.old.items self.new
-            outputs.new.items) }
+        ensures ok { OnOk result (StartsTransferIfBehind (checkpoint_entry_data entry.now)
+            self.old outputs.old.items self.new outputs.new.items) }
         ensures endpoint { self.new.orderer.endpoint ≡ self.old.orderer.endpoint }
     {
         if !self.orderer.has_quorum(entry) || !self.desk.set_target(alloc, entry)? {

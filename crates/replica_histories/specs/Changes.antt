@@ -116,7 +116,8 @@ pub record FitsChanges (c : Configuration) (me : ℕ) (log : LogData) (x : Chang
 -- ---- one entry more
 
 -- The logs fit the histories before and after the entry, and the replica came to both.
-pub record LogPassesEntry (c : Configuration) (me : ℕ) (past : List Entry) (e : Entry) (log after : LogData) : Type 0 where
+pub record LogPassesEntry (c : Configuration) (me : ℕ) (past : List Entry) (e : Entry) (log after : LogData) : Type 0
+  where
   pub old : Point
   pub new : Point
   pub leaves : HistoryReaches c me past old
@@ -260,7 +261,8 @@ texts_in_marks log i (batch ∷ batches) =
 pub record AddsBatches (log : LogData) (view first : ℕ) (batches : List (List ℕ)) (old new : ClaimsData) : Type 0 where
   pub prepared : new.prepared ≡ old.prepared
   pub logged : new.logged ≡ with_all with_logged (claims_from log view first batches) old.logged
-  pub texts : Each (λ text. IsAmongTexts old.texts text ⊎ IsAmongTexts (texts_in_marks log first batches) text) new.texts
+  pub texts : Each (λ text. IsAmongTexts old.texts text
+      ⊎ IsAmongTexts (texts_in_marks log first batches) text) new.texts
 
 -- the claims when a new view begins: those above the new low mark, and its batches
 pub record BeginsClaims (log : LogData) (new : NewViewData) (old after : ClaimsData) : Type 0 where

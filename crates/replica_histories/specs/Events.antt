@@ -182,7 +182,8 @@ EventsEnd =
     (c : Configuration) (me : ℕ) (desk new : Desk) (log after : LogData) (past outputs : List Entry) (input : Entry)
     (held : Holds c me desk log past)
     → Fits c me (start_at c me desk log past held input) new after [] outputs
-    → IsSettled c me new after (outputs ++ input ∷ past) → AnswersInput c me past input outputs held.of_desk.point new.state.number
+    → IsSettled c me new after (outputs ++ input ∷ past)
+    → AnswersInput c me past input outputs held.of_desk.point new.state.number
     → LeavesNoView c me (outputs ++ input ∷ past)
     → is_output input ≡ false
     → (outputs ≡ []) ⊎ IsTaken c me (start_at c me desk log past held input)

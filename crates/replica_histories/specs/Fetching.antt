@@ -33,7 +33,8 @@ abbrev pub FetchesFit : Type 0
 FetchesFit =
     (c : Configuration) (me : ℕ) (s : Start) (desk : Desk) (log : LogData) (due : List Message) (outputs : List Entry)
     (t : TransferData) (bytes : List ℕ)
-    → TransferMayAsk c me t desk.state.number (after_outputs s outputs) → AsksNext c me t desk.state (after_outputs s outputs)
+    → TransferMayAsk c me t desk.state.number (after_outputs s outputs)
+    → AsksNext c me t desk.state (after_outputs s outputs)
     → IsPosted c me (Fetch t.number t.asked.level t.asked.index) (others c me) bytes
     → Fits c me s desk log due outputs
     → Fits c me s (record desk { transfer = Some t }) log due (Sent me bytes ∷ outputs)
@@ -42,7 +43,8 @@ abbrev pub DueFetchesFit : Type 0
 DueFetchesFit =
     (c : Configuration) (me : ℕ) (s : Start) (desk : Desk) (log : LogData) (rest : List Message) (outputs : List Entry)
     (t : TransferData) (bytes : List ℕ)
-    → TransferMayAsk c me t desk.state.number (after_outputs s outputs) → AsksNext c me t desk.state (after_outputs s outputs)
+    → TransferMayAsk c me t desk.state.number (after_outputs s outputs)
+    → AsksNext c me t desk.state (after_outputs s outputs)
     → IsPosted c me (Fetch t.number t.asked.level t.asked.index) (others c me) bytes
     → Fits c me s desk log (Fetch t.number t.asked.level t.asked.index ∷ rest) outputs
     → Fits c me s (record desk { transfer = Some t }) log rest (Sent me bytes ∷ outputs)
@@ -56,7 +58,8 @@ QuorumsMayAsk =
     → 2 * log.faults + 1 ≤ logs.count_checkpoints log entry → log.low < entry.number
     → open_number desk.state.number desk.transfer < entry.number
     → Fits c me s desk log due outputs
-    → TransferMayAsk c me (transfer_to desk.transfer entry.number entry.digest pages) desk.state.number (after_outputs s outputs)
+    → TransferMayAsk c me (transfer_to desk.transfer entry.number entry.digest pages) desk.state.number
+    (after_outputs s outputs)
     × AsksNext c me (transfer_to desk.transfer entry.number entry.digest pages) desk.state (after_outputs s outputs)
 
 -- Between events no fetch is due.
@@ -154,7 +157,8 @@ FetchedSuffice =
     (c : Configuration) (me : ℕ) (desk : Desk) (log : LogData) (past : List Entry) (t new : TransferData) (body : Body)
     (bytes : List ℕ) (outputs : List Entry) (executed : ℕ) (held : Holds c me desk log past)
     → desk.transfer ≡ Some t → heard (members c) me bytes ≡ Some body → is_part body ≡ true
-    → new.number ≡ t.number → TransferMayAsk c me new desk.state.number (Got me bytes ∷ past) → RestsOnState new desk.state
+    → new.number ≡ t.number → TransferMayAsk c me new desk.state.number (Got me bytes ∷ past)
+    → RestsOnState new desk.state
     → length new.held ≡ PAGES → root_of_pages new.held ≡ new.root → TransferReachesState desk.state new executed
     → AnswersInput c me past (Got me bytes) outputs held.of_desk.point executed
 

@@ -40,7 +40,8 @@ again_for k timestamp kept = option_map_or (λ x. if x.timestamp == timestamp th
 
 abbrev pub asked_in : State → ℕ → ℕ → Mode → List Message
 asked_in st sender timestamp modes.Ordered =
-    if nat_le FIRST_CLIENT sender then again_for (client_number sender) timestamp (kept_of st (client_number sender)) else []
+    if nat_le FIRST_CLIENT sender then again_for (client_number sender) timestamp
+    (kept_of st (client_number sender)) else []
 asked_in st sender timestamp modes.ReadOnly = []
 
 -- what is due at once after a received message: an ordered request of its client's last timestamp gets the kept reply
@@ -185,7 +186,8 @@ CheckpointsDrop =
     (c : Configuration) (me : ℕ) (log : LogData) (past : List Entry) (s : ℕ) (entry : CheckpointEntry) (bytes : List ℕ)
     (fault : Dropped) → FitsLog c me log past
     → heard (members c) me bytes ≡ Some (record { sender = s; message = Checkpoint entry.number entry.digest })
-    → checkpoint_fault log s entry.number entry.digest ≡ Some fault → LogTakesBody c me (heard (members c) me bytes) log log
+    → checkpoint_fault log s entry.number entry.digest ≡ Some fault
+    → LogTakesBody c me (heard (members c) me bytes) log log
 
 -- A checkpoint that isn't one of its sender's latest leaves the log as it is.
 abbrev pub EarlyCheckpointsDrop : Type 0

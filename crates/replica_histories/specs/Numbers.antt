@@ -84,7 +84,8 @@ CallHasNoNumber c me v history call = CallHasNumber c me v history call → ⊥
 
 -- the request has a number exactly if its flag says so
 abbrev pub IsRightly : Configuration → ℕ → ℕ → List Entry → Waiting → Type 0
-IsRightly c me v history w = either w.numbered (CallHasNumber c me v history w.call) (CallHasNoNumber c me v history w.call)
+IsRightly c me v history w = either w.numbered (CallHasNumber c me v history w.call)
+    (CallHasNoNumber c me v history w.call)
 
 -- In the view v each number above the low mark has a batch, up to the greatest assigned one, and none above has one.
 -- The waiting requests are of different clients, and each has the right flag. The calls that began the view have

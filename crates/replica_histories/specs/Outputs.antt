@@ -149,7 +149,8 @@ abbrev pub InstallationsFit : Type 0
 InstallationsFit =
     (c : Configuration) (me : ℕ) (s : Start) (desk : Desk) (log : LogData) (outputs : List Entry) (t : TransferData)
     (st : State) (frames : List (List ℕ))
-    → TransferMayAsk c me t desk.state.number (after_outputs s outputs) → RestsOnState t desk.state → root_of_pages t.held ≡ t.root
+    → TransferMayAsk c me t desk.state.number (after_outputs s outputs) → RestsOnState t desk.state
+    → root_of_pages t.held ≡ t.root
     → IsReplicatedState st → st.number ≡ t.number → pages_of st ≡ t.held → t.number < 2 ^ 48
     → ((client : ℕ) → last_time desk.state client ≤ last_time st client)
     → ((i : ℕ) → logs.due_prepare log i ≡ None)

@@ -26,7 +26,8 @@ use Rattle.replica_histories.specs.TransfersAnswers.{AnswersFetches}
 
 -- the reply to a read: the outcome in a state, with that state's number
 abbrev pub read_reply : State → ℕ → ℕ → Operation → Message
-read_reply st client timestamp op = Reply client timestamp modes.ReadOnly st.number (outcome (tuples st) (client_number client) op)
+read_reply st client timestamp op = Reply client timestamp modes.ReadOnly st.number
+    (outcome (tuples st) (client_number client) op)
 
 -- the read-only request of a client
 abbrev pub read_from : ℕ → ℕ → Operation → Body

@@ -33,7 +33,8 @@ pub record RowGoes (me : ℕ) (log : LogData) (begun i : ℕ) (outputs : List En
 pub record ViewGoes (me : ℕ) (log : LogData) (x : Changes) (executed : ℕ) (outputs : List Entry) : Type 0 where
   pub new_view : (frame : List ℕ) → x.new_view ≡ Some frame → FrameGoes me frame outputs
   pub rows : (i : ℕ) → executed < i → i ≤ log.low + log.span → RowGoes me log x.begun i outputs
-  pub checkpoint : (m : CheckpointEntry) → x.last_checkpoint ≡ Some m → SendsMessage me (Checkpoint m.number m.digest) outputs
+  pub checkpoint : (m : CheckpointEntry) → x.last_checkpoint ≡ Some m
+      → SendsMessage me (Checkpoint m.number m.digest) outputs
 
 -- An active replica does so, and an inactive one sends its own view change.
 pub record AllGoes (me : ℕ) (log : LogData) (x : Changes) (executed : ℕ) (outputs : List Entry) : Type 0 where

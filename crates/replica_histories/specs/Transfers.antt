@@ -67,7 +67,8 @@ pub record FitsTransfer (c : Configuration) (me : ℕ) (t : TransferData) (histo
 
 -- The transfer is above the executed number, and nothing above it was fetched. An event that goes on for its number
 -- takes the fetched pages. So its next place may be asked for, or its state installed.
-pub record TransferMayAsk (c : Configuration) (me : ℕ) (t : TransferData) (number : ℕ) (history : List Entry) : Type 0 where
+pub record TransferMayAsk (c : Configuration) (me : ℕ) (t : TransferData) (number : ℕ) (history : List Entry) : Type 0
+  where
   pub aims : TransferAims c me t history
   pub newest : fetching history ≤ t.number
   pub ahead : number < t.number
@@ -120,7 +121,8 @@ abbrev pub WantedByHistory : Type 0
 WantedByHistory =
     (c : Configuration) (me : ℕ) (t : TransferData) (history : List Entry) (level : Level) (index : ℕ)
     (digest : List ℕ)
-    → TransferAims c me t history → wanted_at t level index ≡ Some digest → IsWanted c me history t.number level index digest
+    → TransferAims c me t history → wanted_at t level index ≡ Some digest
+    → IsWanted c me history t.number level index digest
 
 -- Digests, and a page, count if the place was asked for and they have the digest that it has to have.
 abbrev pub DigestsCount : Type 0
@@ -269,7 +271,8 @@ QuorumsOpen =
 abbrev pub LowerAreFetched : Type 0
 LowerAreFetched =
     (c : Configuration) (me : ℕ) (open_one : Option TransferData) (number k : ℕ) (history : List Entry)
-    → number < k → k ≤ open_number number open_one → FitsOpenTransfer c me open_one number history → k ≤ fetching history
+    → number < k → k ≤ open_number number open_one → FitsOpenTransfer c me open_one number history
+    → k ≤ fetching history
 
 -- A transfer that may ask may ask for any place.
 abbrev pub MayAskAny : Type 0

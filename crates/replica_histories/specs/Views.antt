@@ -151,7 +151,8 @@ StartsMayAsk =
     → Once (λ past e. taken c past e ≡ Some new) (after_outputs s outputs)
     → open_number desk.state.number desk.transfer < new.start
     → Fits c me s desk log due outputs
-    → TransferMayAsk c me (transfer_to desk.transfer new.start new.root pages) desk.state.number (after_outputs s outputs)
+    → TransferMayAsk c me (transfer_to desk.transfer new.start new.root pages) desk.state.number
+    (after_outputs s outputs)
     × AsksNext c me (transfer_to desk.transfer new.start new.root pages) desk.state (after_outputs s outputs)
 
 -- ---- which messages count

@@ -184,8 +184,8 @@ fn gives_tables(replica: &mut Replica, alloc: Global, tables: &[&[Row<'_>]]) -> 
     Ok(true)
 }
 
-/// Whether the replica of this number, in the configuration of this period, gives the expected outputs for each frame of
-/// each table.
+/// Whether the replica of this number, in the configuration of this period, gives the expected outputs for each frame
+/// of each table.
 pub fn runs(alloc: Global, me: u8, period: u8, tables: &[&[Row<'_>]]) -> Verdict {
     match replica_of_period(alloc, period, me) {
         Ok(mut replica) => {

@@ -67,7 +67,8 @@ fn is_empty(state: State, page: u16) -> bool {
     (page & 0xff) as u8 >= count || matches!((state, page), (State::Forgetful, FIRST_REPLY))
 }
 
-// Puts the tuple of a page, or the reply. Tuple `(n)` has birth n - 1, and client n - 1 was answered by done at number n.
+// Puts the tuple of a page, or the reply. Tuple `(n)` has birth n - 1, and client n - 1 was answered by done at number
+// n.
 fn put_entry(page: u16, out: &mut Buffer) {
     let birth = (page & 0xff) as u8;
     let number = birth.wrapping_add(1);

@@ -42,7 +42,8 @@ EndsCluster c ops result old new =
     MatchResult result (λ _. PrintsResults c ops old new) (λ fault. PrintsNone fault old new)
 
 -- the same for given answers
-abbrev pub WritesResults : Result (Unit {0}) RunFault → List (Answer Global) → Option (List ℕ) → Option (List ℕ) → Type 0
+abbrev pub WritesResults : Result (Unit {0}) RunFault → List (Answer Global) → Option (List ℕ) → Option (List ℕ)
+    → Type 0
 WritesResults result answers old new =
     MatchResult result (λ _. Appends old new (results_text answers)) (λ fault. PrintsNone fault old new)
 

@@ -9,7 +9,8 @@
 //!
 //! # What is not
 //!
-//! It is tested (`command_tests`) what a [`Display`] shows on a terminal while the run lasts, and what `end_run` prints.
+//! It is tested (`command_tests`) what a [`Display`] shows on a terminal while the run lasts, and what `end_run`
+//! prints.
 #![tactic(auto)]
 
 mod display;

@@ -14,5 +14,6 @@ use Rattle.schedule_world.specs.Reports.{StopsHere, numbers_of}
 abbrev pub FirstFrameMayCome : Type 0
 FirstFrameMayCome =
     (c : Configuration) (steps : List Step) (k p : ℕ) (op : Operation) (before : Report)
-    → is_correct_client c (client_party k) ≡ true → is_correct c p ≡ true → map step_of steps ≡ calls k op ∷ deliver 0 p ∷ []
+    → is_correct_client c (client_party k) ≡ true → is_correct c p ≡ true → map step_of steps ≡ calls k op ∷ deliver 0 p
+    ∷ []
     → numbers_of before.stopped ≡ [] → StopsHere c steps 1 before → ⊥

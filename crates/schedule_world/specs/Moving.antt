@@ -190,7 +190,8 @@ sign_of signer leaf receivers body = sign (party_number signer) leaf (map party_
 
 -- the step leads from the old stage to the new one
 abbrev pub LeadsBy : Configuration → Step → Stage → Stage → Type 0
-LeadsBy c step old new = (done : List Step) → StageIsAfterSteps c done [] old → StageIsAfterSteps c (done ++ step ∷ []) [] new
+LeadsBy c step old new = (done : List Step) → StageIsAfterSteps c done [] old
+    → StageIsAfterSteps c (done ++ step ∷ []) [] new
 
 -- the step was taken; or it is not allowed, and nothing happened
 abbrev pub StepIsTaken : Configuration → Step → Stage → Stage → Bool → Type 0

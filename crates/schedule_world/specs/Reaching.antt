@@ -19,5 +19,6 @@ StepsReachWithin c done left w =
 -- Between events: an input comes next, or nothing.
 abbrev pub StepsReach : Configuration → List Step → List Step → World → Type 0
 StepsReach c done left w =
-    (rest : List Step) (entries : List Entry) (v : World) → NoOutputIsNext entries → StepsLead c w (left ++ rest) entries v
+    (rest : List Step) (entries : List Entry) (v : World) → NoOutputIsNext entries
+    → StepsLead c w (left ++ rest) entries v
     → StepsLead c new_world (done ++ (left ++ rest)) (onto w.past entries) v

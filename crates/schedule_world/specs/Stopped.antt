@@ -18,7 +18,8 @@ is_stopped_replica c rs p = is_correct_replica c p && option_map_or has_stopped 
 -- the party is a correct client that has stopped
 abbrev pub is_stopped_client : Configuration → List Seat → ℕ → Bool
 is_stopped_client c seats p =
-    is_correct_client c p && option_map_or (λ (seat : Seat). seat.client.stopped) (slice_get seats (client_number p)) false
+    is_correct_client c p
+    && option_map_or (λ (seat : Seat). seat.client.stopped) (slice_get seats (client_number p)) false
 
 -- all of them, by number
 abbrev pub stopped_replicas : Configuration → Stage → List ℕ

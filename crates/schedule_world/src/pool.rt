@@ -76,7 +76,8 @@ impl Pool {
     /// The first frame that a party waits for, and the first party that does.
     pub(crate) fn next(&mut self) -> Option<(usize, Party)>
         ensures kept { self.new ≡ self.old }
-        ensures next { MatchOption result (All IsServed self.old) (λ n. IsFirstWaiting self.old n.0 (party_number n.1)) }
+        ensures next { MatchOption result (All IsServed self.old)
+            (λ n. IsFirstWaiting self.old n.0 (party_number n.1)) }
     {
         while self.first < self.frames.len() {
             if let Some(party) = self.frames[self.first].waiting.first() {
@@ -89,7 +90,8 @@ impl Pool {
 }
 
 fn forget(waiting: &mut Vec<Party>, party: Party)
-    ensures { map party_number waiting.new.items ≡ numbers_without (party_number party) (map party_number waiting.old.items) }
+    ensures { map party_number waiting.new.items
+        ≡ numbers_without (party_number party) (map party_number waiting.old.items) }
 {
     let number = party.number();
     waiting.retain(|other| other.number() != number);

@@ -171,7 +171,8 @@ fn call(
 ) -> Result<bool, NoMemory>
     requires seated { IsSeated config.now stage.old }
     ensures seated { OnOk result (IsSeated config.now stage.new) }
-    ensures takes { IfOk result (StepIsTaken config.now (calls client.number (operation_of op.now)) stage.old stage.new) }
+    ensures takes { IfOk result (StepIsTaken config.now
+        (calls client.number (operation_of op.now)) stage.old stage.new) }
 {
     if !config.is_correct_client(Party::Client(client).number()) || stage.is_open(client) {
         return Ok(false);
@@ -211,7 +212,8 @@ fn feed(
 ) -> Result<bool, NoMemory>
     requires seated { IsSeated config.now stage.old }
     ensures seated { OnOk result (IsSeated config.now stage.new) }
-    ensures takes { IfOk result (StepIsTaken config.now (feed_step (party_number party) bytes.now) stage.old stage.new) }
+    ensures takes { IfOk result (StepIsTaken config.now
+        (feed_step (party_number party) bytes.now) stage.old stage.new) }
 {
     if !is_correct(config, party) {
         return Ok(false);
@@ -253,7 +255,8 @@ fn sign(
 ) -> Result<bool, NoMemory>
     requires seated { IsSeated config.now stage.old }
     ensures seated { OnOk result (IsSeated config.now stage.new) }
-    ensures takes { IfOk result (StepIsTaken config.now (sign_of signer leaf receivers.now body.now) stage.old stage.new) }
+    ensures takes { IfOk result (StepIsTaken config.now
+        (sign_of signer leaf receivers.now body.now) stage.old stage.new) }
 {
     if !is_replica(config, signer) || is_correct(config, signer) {
         return Ok(false);

@@ -293,7 +293,8 @@ impl Stage {
         parties: &mut Vec<Party>,
     ) -> Result<(), NoMemory>
         requires known { client.number < length self.now.seats.items }
-        ensures { AddsParties (filter (is_stopped_client config.now self.now.seats.items) (client_party client.number ∷ []))
+        ensures { AddsParties
+            (filter (is_stopped_client config.now self.now.seats.items) (client_party client.number ∷ []))
             parties.old parties.new result }
     {
         if self.is_stopped_client(config, client) {

@@ -122,5 +122,6 @@ pub record IsNextBirth (s : SpaceState) (birth : ℕ) : Type 0 where
 -- a state as its fields
 abbrev pub space_code : Coded SpaceState
 space_code =
-    code_by (Version × (List BornTuple × ℕ)) (coded× version_code (coded× (coded_list (coded× coded_ℕ tuple_code)) coded_ℕ))
+    code_by (Version × (List BornTuple
+    × ℕ)) (coded× version_code (coded× (coded_list (coded× coded_ℕ tuple_code)) coded_ℕ))
     (λ s. (s.version, (s.entries, s.next))) (λ p. record { version = p.0; entries = p.1.0; next = p.1.1 }) (λ _. refl)

@@ -11,7 +11,8 @@ abbrev pub has_counted_room : List ℕ → ℕ → Bool
 has_counted_room page_counts birth = nat_lt (slice_index page_counts (birth % PAGES)) MAX_ON_PAGE
 
 -- The tuples and the next number are a state, and the table has how many tuples lie on each page.
-pub record PagesAreCounted (version : Version) (entries : List BornTuple) (next : ℕ) (page_counts : List ℕ) : Type 0 where
+pub record PagesAreCounted (version : Version) (entries : List BornTuple) (next : ℕ) (page_counts : List ℕ) : Type 0
+  where
   pub state : let s : SpaceState = record { version = version; entries = entries; next = next } in IsState s
   pub counted : (page : ℕ) → page < PAGES → slice_index page_counts page ≡ page_count entries page
 

@@ -74,7 +74,8 @@ AddsBirth key birth old new =
 abbrev pub TakesBirth : List ℕ → ℕ → Lists → Lists → Type 0
 TakesBirth key birth old new =
     AreRising (births_at old key)
-    → (q : List ℕ) → births_at new q ≡ (if bytes_eq key q then births_without birth (births_at old q) else births_at old q)
+    → (q : List ℕ)
+    → births_at new q ≡ (if bytes_eq key q then births_without birth (births_at old q) else births_at old q)
 
 -- under each key stands what stood there
 abbrev pub KeepsBirths : Lists → Lists → Type 0

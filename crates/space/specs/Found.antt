@@ -65,5 +65,6 @@ abbrev pub AreOldestAt : {E : Type 0} → ℕ → TemplateTree → List BornTupl
 AreOldestAt n p es births result = AreOldest n p (entries_at es births) result
 
 -- They are seen where they lie.
-abbrev pub AreOldestSeen : {A E : Type 0} → ℕ → TemplateTree → List BornTuple → List ℕ → Result (Vec (Bor TupleTree) A) E → Type 0
+abbrev pub AreOldestSeen : {A E : Type 0} → ℕ → TemplateTree → List BornTuple → List ℕ
+    → Result (Vec (Bor TupleTree) A) E → Type 0
 AreOldestSeen n p es births result = IfOk result (λ seen. lent_tuples seen.items ≡ take n (matches_at p es births))

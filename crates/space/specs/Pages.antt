@@ -1,7 +1,7 @@
 -- The pages of a space. Page i, 0 to 255, has the tuples whose birth number has the remainder i by 256, in the order of
 -- births: each as its birth number in 8 bytes, high byte first, in version 2 the length of its spelling in 2 bytes, and
--- its spelling. What else a state has stands in a header: a byte for the version, the number of executed batches and the
--- next birth number, both in 8 bytes.
+-- its spelling. What else a state has stands in a header: a byte for the version, the number of executed batches and
+-- the next birth number, both in 8 bytes.
 use Rattle.std.specs.Prelude.{◌≡◌, ℕ, ◌*◌, ◌^◌, ◌≤◌, ◌<◌, ◌%◌, List, [], ◌∷◌, ◌++◌, length, take, map, filter, flat_map, slice_index_or, ◌==◌, Result, MatchResult}
 use Rattle.std.specs.Borrow.{Bor}
 use Rattle.std.specs.Int.{w64, to_be_bytes}

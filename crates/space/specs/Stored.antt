@@ -22,7 +22,8 @@ pub record StoredTuples : Type 0 where
 
 -- stored tuples as the list of their entries
 abbrev pub stored_code : Coded StoredTuples
-stored_code = code_by (List BornTuple) (coded_list (coded× coded_ℕ tuple_code)) (λ s. s.entries) (λ es. record { entries = es }) (λ _. refl)
+stored_code = code_by (List BornTuple) (coded_list (coded× coded_ℕ tuple_code)) (λ s. s.entries)
+    (λ es. record { entries = es }) (λ _. refl)
 
 -- The entry at this place has this birth.
 pub record LiesAt (es : List BornTuple) (birth place : ℕ) : Type 0 where

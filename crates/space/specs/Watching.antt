@@ -8,7 +8,8 @@ use Rattle.space.specs.Applying.{refuses}
 use Rattle.space.specs.Births.{SpaceState, space_code, birth_of, oldest_births, page_count}
 use Rattle.space.specs.Pages.{tuple_page_text, text_of_oldest}
 
--- a space, which pages may have changed otherwise than by new tuples, and how many tuples lay on each when it was written
+-- a space, which pages may have changed otherwise than by new tuples, and how many tuples lay on each when it was
+-- written
 pub record WatchedState : Type 0 where
   pub state : SpaceState
   pub changed : List Bool
@@ -86,10 +87,12 @@ KeepsWritten old new =
 
 -- On a page that isn't changed lie at least the tuples that lay there when it was written.
 abbrev pub IsWatched : WatchedState → Type 0
-IsWatched w = (page : ℕ) → page < PAGES → is_changed w page ≡ false → written_on w page ≤ page_count w.state.entries page
+IsWatched w = (page : ℕ) → page < PAGES → is_changed w page ≡ false
+    → written_on w page ≤ page_count w.state.entries page
 
 -- a watched space as its fields
 abbrev pub watched_code : Coded WatchedState
 watched_code =
-    code_by (SpaceState × (List Bool × List ℕ)) (coded× space_code (coded× (coded_list coded_bool) (coded_list coded_ℕ)))
+    code_by (SpaceState × (List Bool × List ℕ))
+    (coded× space_code (coded× (coded_list coded_bool) (coded_list coded_ℕ)))
     (λ w. (w.state, (w.changed, w.written))) (λ p. record { state = p.0; changed = p.1.0; written = p.1.1 }) (λ _. refl)

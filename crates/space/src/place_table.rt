@@ -13,8 +13,8 @@ const MOST: usize = 32768;
 /// Where the tuple of a birth probably lies. Who asks for a place has to look whether the tuple lies there.
 #[derive(Drop)]
 pub struct PlaceTable {
-    // By the remainder of a birth, the place that was noted last. So a look-up reads one line of memory. Their number is
-    // a power of two, which grows if two births have one remainder.
+    // By the remainder of a birth, the place that was noted last. So a look-up reads one line of memory. Their number
+    // is a power of two, which grows if two births have one remainder.
     near: Vec<u16>,
     // The places of births that lost their remainder to another one when there were as many as may be.
     others: HashMap<u64, usize>,

@@ -47,4 +47,5 @@ pub record IsStale (m : Membership) (me : ℕ) (bytes : List ℕ) (output : Outp
   pub op : Operation
   pub hears : heard m me bytes ≡ Some (read_only_request (client_party client) timestamp op)
   pub read : is_read_only op ≡ true
-  pub answers : IsSealedPost m me (read_reply client timestamp 0 (outcome no_tuples client op)) (client_party client ∷ []) output
+  pub answers : IsSealedPost m me (read_reply client timestamp 0 (outcome no_tuples client op))
+      (client_party client ∷ []) output

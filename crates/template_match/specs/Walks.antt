@@ -1,4 +1,5 @@
--- What the private walks along the bytes of values, and of a template at once, give: the bytes after them, if they match.
+-- What the private walks along the bytes of values, and of a template at once, give: the bytes after them, if they
+-- match.
 use Rattle.std.specs.Prelude.{ℕ, ◌==◌, if◌then◌else◌, List, [], ◌∷◌, Option, Some, None}
 use Rattle.tuple_tree.specs.Items.{TreeItem, leaf, inner, none, item, with_last, how_many}
 use Rattle.tuple_tree.specs.Values.{Slot, actual, any, formal, TemplateTree}
@@ -48,7 +49,8 @@ abbrev mutual
 -- the bytes after so many fields, and after values that they match
 unfoldable pub behind_both : ℕ → ℕ → List ℕ → List ℕ → Option (List ℕ × List ℕ)
 behind_both levels count fs bs =
-    more (item_at loose_slot_at levels) with_last count none fs >>= λ p. behind_fields p.0 bs >>= λ rest. Some (p.1, rest)
+    more (item_at loose_slot_at levels) with_last count none fs >>= λ p. behind_fields p.0 bs >>= λ rest. Some
+    (p.1, rest)
 
 -- the bytes after one field, and after a value that it matches
 unfoldable pub behind_one : ℕ → List ℕ → List ℕ → Option (List ℕ × List ℕ)

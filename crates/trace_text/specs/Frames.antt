@@ -90,7 +90,8 @@ shown_batch_entries es = separated_or (codes ",") (codes "-") shown_batch_entry 
 -- the words before the checkpoints
 abbrev pub changed : List ℕ → ℕ → ℕ → List ℕ
 changed sender view low =
-    codes "view-change " ++ sender ++ codes " view " ++ decimal view ++ codes " low " ++ decimal low ++ codes " checkpoints "
+    codes "view-change " ++ sender ++ codes " view " ++ decimal view ++ codes " low " ++ decimal low
+    ++ codes " checkpoints "
 
 abbrev pub shown_view_change : List ℕ → ViewChangeData → List ℕ
 shown_view_change sender c =
@@ -136,7 +137,8 @@ part_text word sender number level index = sender_and_number word sender number 
 
 abbrev pub page_part_text : List ℕ → ℕ → ℕ → List ℕ → List ℕ
 page_part_text sender number index text =
-    sender_and_number (codes "page") sender number ++ codes "page " ++ decimal index ++ codes " bytes " ++ decimal (length text)
+    sender_and_number (codes "page") sender number ++ codes "page " ++ decimal index ++ codes " bytes "
+    ++ decimal (length text)
 
 abbrev pub message_text : List ℕ → MessageData → List ℕ
 message_text s (request timestamp mode operation) = request_text s timestamp mode operation

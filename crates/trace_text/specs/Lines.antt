@@ -22,13 +22,15 @@ tick_line party = codes "tick " ++ party_text party
 
 -- a word, a replica and a number
 abbrev pub replica_and_number : List ℕ → ℕ → ℕ → List ℕ
-replica_and_number word replica number = word ++ codes " r" ++ decimal replica ++ codes " number " ++ decimal number ++ codes " "
+replica_and_number word replica number = word ++ codes " r" ++ decimal replica ++ codes " number " ++ decimal number
+    ++ codes " "
 
 abbrev pub executed_line : ℕ → ℕ → List ℕ → List ℕ
 executed_line replica number batch = replica_and_number (codes "executed") replica number ++ calls_text batch
 
 abbrev pub installed_line : ℕ → ℕ → List ℕ → List ℕ
-installed_line replica number root = replica_and_number (codes "installed") replica number ++ codes "root " ++ short root
+installed_line replica number root = replica_and_number (codes "installed") replica number ++ codes "root "
+    ++ short root
 
 abbrev pub sent_line : ℕ → List ℕ → List ℕ
 sent_line party bytes =

@@ -33,7 +33,8 @@ abbrev pub calls_shown : List (Bor (List ℕ)) → List ℕ
 calls_shown requests = separated_or (codes " ") (codes "null") (λ frame. frames.call_text frame.now) requests
 
 abbrev pub receivers_shown : List ReceiverMac → List ℕ
-receivers_shown macs = separated_or (codes ",") (codes "all") (λ mac. frames.party_text (party_number mac.receiver)) macs
+receivers_shown macs = separated_or (codes ",") (codes "all")
+    (λ mac. frames.party_text (party_number mac.receiver)) macs
 
 abbrev pub checkpoint_entry_shown : CheckpointEntry → List ℕ
 checkpoint_entry_shown entry = frames.shown_checkpoint_entry (checkpoint_entry_data entry)
@@ -53,7 +54,8 @@ abbrev pub senders_shown : List (Vec ℕ Global) → List ℕ
 senders_shown changes = separated_or (codes ",") (codes "-") (λ frame. frames.sender_text frame.items) changes
 
 abbrev pub batches_shown : List Batch → List ℕ
-batches_shown batches = separated_or (codes " ") (codes "-") (λ batch. frames.batch_in_brackets (batch_text batch)) batches
+batches_shown batches =
+    separated_or (codes " ") (codes "-") (λ batch. frames.batch_in_brackets (batch_text batch)) batches
 
 -- ---- messages of a sender
 
@@ -78,7 +80,8 @@ new_view_shown sender m = frames.shown_new_view (name_text sender) (new_view_dat
 -- the words before the root of a new view
 abbrev pub started_shown : Party → NewView → List ℕ
 started_shown sender m =
-    frames.new_view_words (name_text sender) m.view.0 ++ senders_shown m.changes.items ++ codes " start " ++ decimal m.start.0 ++ codes " root "
+    frames.new_view_words (name_text sender) m.view.0 ++ senders_shown m.changes.items ++ codes " start "
+    ++ decimal m.start.0 ++ codes " root "
 
 abbrev pub replied_shown : Party → Reply → List ℕ
 replied_shown sender m =
@@ -86,7 +89,8 @@ replied_shown sender m =
 
 abbrev pub reply_shown : Party → Reply → List ℕ
 reply_shown sender m =
-    frames.shown_reply (name_text sender) (client_party m.client.number) m.timestamp.0 m.kind m.number.0 (outcome_of m.answer)
+    frames.shown_reply (name_text sender) (client_party m.client.number) m.timestamp.0 m.kind m.number.0
+    (outcome_of m.answer)
 
 abbrev pub page_shown : Party → Page → List ℕ
 page_shown sender m = frames.page_part_text (name_text sender) m.number.0 m.index m.text.items

@@ -115,7 +115,8 @@ fn put_invoke(
     op: &Op<Global>,
     out: &mut Vec<u8>,
 ) -> Result<(), NoMemory>
-    ensures { WritesText result out.old.items (invoke_line client.number timestamp.0 (operation_of op.now)) out.new.items }
+    ensures { WritesText result out.old.items
+        (invoke_line client.number timestamp.0 (operation_of op.now)) out.new.items }
 {
     put_call(alloc, "invoke", client, timestamp, out)?;
     put_op(op, out)
@@ -134,7 +135,8 @@ fn put_accepted(
     answer: &Answer<Global>,
     out: &mut Vec<u8>,
 ) -> Result<(), NoMemory>
-    ensures { WritesText result out.old.items (accepted_line client.number timestamp.0 (outcome_of answer.now)) out.new.items }
+    ensures { WritesText result out.old.items
+        (accepted_line client.number timestamp.0 (outcome_of answer.now)) out.new.items }
 {
     put_call(alloc, "accepted", client, timestamp, out)?;
     put_answer(answer, out)

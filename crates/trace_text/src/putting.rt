@@ -18,7 +18,8 @@ pub(crate) fn append(text: &[u8], out: &mut Vec<u8>) -> Result<(), NoMemory>
 
 // Appends a text, if there was memory for it.
 pub(crate) fn put(text: Result<String, AllocError>, out: &mut Vec<u8>) -> Result<(), NoMemory>
-    ensures { (line : List ℕ) → IfOk text (λ t. string_bytes t ≡ line) → WritesText result out.old.items line out.new.items }
+    ensures { (line : List ℕ) → IfOk text (λ t. string_bytes t ≡ line)
+        → WritesText result out.old.items line out.new.items }
 {
     match text {
         Ok(text) => append(text.as_bytes(), out),

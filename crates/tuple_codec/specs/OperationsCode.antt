@@ -7,7 +7,8 @@ use Rattle.tuple_tree.specs.ValuesCode.{tuple_code, template_code}
 use Rattle.tuple_codec.specs.Operations.{Operation, out, rdp, inp, cas, rd_all, in_all, upgrade, Outcome, done, found, absent, swapped, all, full, refused}
 
 abbrev pub OperationParts : Type 0
-OperationParts = TupleTree ⊎ (TemplateTree ⊎ (TemplateTree ⊎ ((TemplateTree × TupleTree) ⊎ ((ℕ × TemplateTree) ⊎ ((ℕ × TemplateTree) ⊎ ℕ)))))
+OperationParts = TupleTree
+    ⊎ (TemplateTree ⊎ (TemplateTree ⊎ ((TemplateTree × TupleTree) ⊎ ((ℕ × TemplateTree) ⊎ ((ℕ × TemplateTree) ⊎ ℕ)))))
 
 abbrev pub operation_parts : Operation → OperationParts
 operation_parts (out t) = inl t
@@ -38,7 +39,9 @@ operation_from-parts upgrade = refl
 
 abbrev pub operation_code : Coded Operation
 operation_code =
-    code_by OperationParts (coded⊎ tuple_code (coded⊎ template_code (coded⊎ template_code (coded⊎ (coded× template_code tuple_code) (coded⊎ (coded× coded_ℕ template_code) (coded⊎ (coded× coded_ℕ template_code) coded_ℕ))))))
+    code_by OperationParts
+    (coded⊎ tuple_code (coded⊎ template_code (coded⊎ template_code (coded⊎ (coded× template_code tuple_code)
+    (coded⊎ (coded× coded_ℕ template_code) (coded⊎ (coded× coded_ℕ template_code) coded_ℕ))))))
     operation_parts operation_from operation_from-parts
 
 abbrev pub OutcomeParts : Type 0

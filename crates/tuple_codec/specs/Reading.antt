@@ -10,7 +10,8 @@ cas_at bs = template_at bs >>= λ p. read_as (cas p.0) tuple_at p.1
 
 -- a count of 1 to 64, and a template
 unfoldable pub counted_template_at : Reader (ℕ × TemplateTree)
-counted_template_at bs = byte_at bs >>= λ n. if nat_le 1 n.0 && nat_le n.0 64 then read_as (λ p. (n.0, p)) template_at n.1 else None
+counted_template_at bs = byte_at bs >>= λ n. if nat_le 1 n.0
+    && nat_le n.0 64 then read_as (λ p. (n.0, p)) template_at n.1 else None
 
 abbrev pub operation_rows : List (TaggedReader Operation)
 operation_rows =

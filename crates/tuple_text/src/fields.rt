@@ -1,5 +1,5 @@
-//! From the bytes that spell fields to their text. A value of a tuple is spelled as the field that asks for it, so tuples
-//! are written as templates are.
+//! From the bytes that spell fields to their text. A value of a tuple is spelled as the field that asks for it, so
+//! tuples are written as templates are.
 
 ghost use Rattle.std.specs.Prelude.{◌≡◌, ◌<◌, length, IfOk, Some};
 ghost use Rattle.tuple_tree.specs.Reading.{rest_of, byte_at};
@@ -23,7 +23,8 @@ pub(crate) fn put_list<'b, B: Allocator>(
     out: &mut Vec<u8, B>,
 ) -> Result<&'b [u8], NoMemory>
     requires { IsThere (spelled_fields_at levels count bytes.now) }
-    ensures text { WritesText result out.old.items (text_of template_written (spelled_fields_at levels count bytes.now)) out.new.items }
+    ensures text { WritesText result out.old.items
+        (text_of template_written (spelled_fields_at levels count bytes.now)) out.new.items }
     ensures rest { IfOk result (λ rest. rest_of (spelled_fields_at levels count bytes.now) ≡ Some rest.now) }
 {
     put_byte(b'(', out)?;
@@ -41,7 +42,8 @@ fn put_fields<'b, B: Allocator>(
     out: &mut Vec<u8, B>,
 ) -> Result<&'b [u8], NoMemory>
     requires { IsThere (spelled_fields_at levels count bytes.now) }
-    ensures text { WritesText result out.old.items (text_of fields_written (spelled_fields_at levels count bytes.now)) out.new.items }
+    ensures text { WritesText result out.old.items
+        (text_of fields_written (spelled_fields_at levels count bytes.now)) out.new.items }
     ensures rest { IfOk result (λ rest. rest_of (spelled_fields_at levels count bytes.now) ≡ Some rest.now) }
 {
     if count == 0 {
@@ -60,7 +62,8 @@ fn put_others<'b, B: Allocator>(
     out: &mut Vec<u8, B>,
 ) -> Result<&'b [u8], NoMemory>
     requires { IsThere (spelled_fields_at levels count bytes.now) }
-    ensures text { WritesText result out.old.items (text_of others_written (spelled_fields_at levels count bytes.now)) out.new.items }
+    ensures text { WritesText result out.old.items
+        (text_of others_written (spelled_fields_at levels count bytes.now)) out.new.items }
     ensures rest { IfOk result (λ rest. rest_of (spelled_fields_at levels count bytes.now) ≡ Some rest.now) }
 {
     let mut rest = bytes;
@@ -78,7 +81,8 @@ fn put_field<'b, B: Allocator>(
     out: &mut Vec<u8, B>,
 ) -> Result<&'b [u8], NoMemory>
     requires { IsThere (spelled_field_at levels bytes.now) }
-    ensures text { WritesText result out.old.items (text_of field_written (spelled_field_at levels bytes.now)) out.new.items }
+    ensures text { WritesText result out.old.items
+        (text_of field_written (spelled_field_at levels bytes.now)) out.new.items }
     ensures rest { IfOk result (λ rest. rest_of (spelled_field_at levels bytes.now) ≡ Some rest.now) }
 {
     let (tag, rest) = first_byte(bytes);

@@ -68,7 +68,8 @@ pub(crate) fn add_actual<A: Allocator>(
     atom: AtomRef<'_>,
 ) -> Result<(), Stop>
     requires { IsUtf8IfText (seen_datum atom) }
-    ensures { ListBecomes result (template_with template.old (Some (leaf (actual (seen_datum atom.entry))))) template.new }
+    ensures { ListBecomes result
+        (template_with template.old (Some (leaf (actual (seen_datum atom.entry))))) template.new }
 {
     let Some(kept) = template else {
         return Ok(());

@@ -356,8 +356,8 @@ impl<'a> Reader<'a> {
         Err(Stop::BadByte)
     }
 
-    /// Reads a text literal without escapes and characters of several bytes, and gives its text where it lies. If no such
-    /// literal stands there, nothing is passed.
+    /// Reads a text literal without escapes and characters of several bytes, and gives its text where it lies. If no
+    /// such literal stands there, nothing is passed.
     #[inline(always)]
     pub(crate) fn plain_text(&mut self) -> Option<&'a [u8]>
         ensures some { IfSome result (λ s. datum self.old.rest.now ≡ got (text s.now) self.new.rest.now) }

@@ -18,7 +18,8 @@ IsLonger old len item_depth item_len item_wide new =
     (len < 32) × (new.depth ≤ 8) × (new.encoded_len ≤ 1024) × (new.depth ≡ max old.depth (1 + item_depth))
     × (new.encoded_len ≡ old.encoded_len + item_len) × (new.has_wide ≡ (old.has_wide || item_wide))
 
--- The list with one more item, of so many levels and bytes, passes the limit that the refusal names, and none before it.
+-- The list with one more item, of so many levels and bytes, passes the limit that the refusal names, and none before
+-- it.
 abbrev pub RefusesItem : Extent → ℕ → ℕ → ℕ → Refusal → Type 0
 RefusesItem old len item_depth item_len refusal =
     RefusesSize refusal (len + 1) (max old.depth (1 + item_depth)) (old.encoded_len + item_len)

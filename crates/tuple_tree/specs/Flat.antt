@@ -23,7 +23,8 @@ module _ {L : Type 0} (leaf_at : ℕ → Reader L) where
   HasItems levels count bs = IsTrue (is_some (more (item_at leaf_at levels) with_last count none bs))
 
 -- The bytes spell the items, which are within the limits, and the numbers beside them are theirs.
-pub record IsFlat {L : Type 0} (IsLeaf : L → Type 0) (length_of : L → ℕ) (is_wide : L → Bool) (spelling : L → List ℕ) (count : ℕ) (bs : List ℕ) (extent : Extent) (t : Items L) : Type 0 where
+pub record IsFlat {L : Type 0} (IsLeaf : L → Type 0) (length_of : L → ℕ) (is_wide : L → Bool)
+    (spelling : L → List ℕ) (count : ℕ) (bs : List ℕ) (extent : Extent) (t : Items L) : Type 0 where
   pub measured : IsMeasured IsLeaf length_of is_wide t extent
   pub counted : count ≡ how_many t
   pub spelled : bs ≡ items_spelling spelling t

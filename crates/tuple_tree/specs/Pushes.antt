@@ -11,11 +11,14 @@ abbrev pub JudgesTuple : {U T : Type 0} → Result U (Refused T) → TupleTree �
 JudgesTuple result new longer = MatchResult result (λ _. IsTuple new) (λ e. RefusesItems datum_length e.refusal longer)
 
 abbrev pub JudgesTemplate : {U T : Type 0} → Result U (Refused T) → TemplateTree → TemplateTree → Type 0
-JudgesTemplate result new longer = MatchResult result (λ _. IsTemplate new) (λ e. RefusesItems slot_length e.refusal longer)
+JudgesTemplate result new longer = MatchResult result (λ _. IsTemplate new)
+    (λ e. RefusesItems slot_length e.refusal longer)
 
 -- the same of the refusal alone
 abbrev pub AddsValue : {U : Type 0} → Result U Refusal → TupleTree → TupleTree → Type 0
-AddsValue result new longer = MatchResult result (λ _. IsTuple new) (λ refusal. RefusesItems datum_length refusal longer)
+AddsValue result new longer = MatchResult result (λ _. IsTuple new)
+    (λ refusal. RefusesItems datum_length refusal longer)
 
 abbrev pub AddsField : {U : Type 0} → Result U Refusal → TemplateTree → TemplateTree → Type 0
-AddsField result new longer = MatchResult result (λ _. IsTemplate new) (λ refusal. RefusesItems slot_length refusal longer)
+AddsField result new longer = MatchResult result (λ _. IsTemplate new)
+    (λ refusal. RefusesItems slot_length refusal longer)

@@ -33,7 +33,8 @@ datum_from-parts (wide n) = refl
 
 abbrev pub datum_code : Coded Datum
 datum_code =
-    code_by DatumParts (coded⊎ coded_ℤ (coded⊎ (coded_list coded_ℕ) (coded⊎ (coded_list coded_ℕ) (coded⊎ coded_bool coded_ℤ))))
+    code_by DatumParts
+    (coded⊎ coded_ℤ (coded⊎ (coded_list coded_ℕ) (coded⊎ (coded_list coded_ℕ) (coded⊎ coded_bool coded_ℤ))))
     datum_parts datum_from datum_from-parts
 
 abbrev pub kind_number : Kind → ℕ

@@ -1,5 +1,5 @@
-//! How many bytes of a template's spelling stand before its first open field, at any level. Each tuple that the template
-//! matches begins with them.
+//! How many bytes of a template's spelling stand before its first open field, at any level. Each tuple that the
+//! template matches begins with them.
 
 ghost use Rattle.std.specs.Prelude.{◌≡◌, ◌+◌, ◌*◌, ◌≤◌, ◌==◌, if◌then◌else◌, length};
 ghost use Rattle.tuple_tree.specs.Flat.{items_in, HasItems};

@@ -106,7 +106,8 @@ pub fn judge_template(bytes: &[u8], levels: u8) -> Option<(u8, bool, &[u8])>
 // So many fields with at most so many levels in each.
 #[cycle(judge_template)]
 fn judge_fields(count: u8, bytes: &[u8], levels: u8) -> Option<(u8, bool, &[u8])>
-    ensures gives { Yields (λ x. (x.0, x.1, x.2.now)) result (items_judged is_wide_slot slot_at levels count bytes.now) }
+    ensures gives { Yields (λ x. (x.0, x.1, x.2.now)) result
+        (items_judged is_wide_slot slot_at levels count bytes.now) }
     ensures bound { IfSome result (λ x. x.0 ≤ levels) }
 {
     let mut below: u8 = 0;
@@ -125,7 +126,8 @@ fn judge_fields(count: u8, bytes: &[u8], levels: u8) -> Option<(u8, bool, &[u8])
 
 #[cycle(judge_template)]
 fn judge_field(bytes: &[u8], levels: u8) -> Option<(u8, bool, &[u8])>
-    ensures gives { Yields (λ x. (x.0, x.1, x.2.now)) result (judged_one is_wide_slot (item_at slot_at levels bytes.now)) }
+    ensures gives { Yields (λ x. (x.0, x.1, x.2.now)) result
+        (judged_one is_wide_slot (item_at slot_at levels bytes.now)) }
     ensures bound { IfSome result (λ x. x.0 ≤ levels) }
 {
     let Some((tag, rest)) = read_byte(bytes) else {

@@ -61,7 +61,8 @@ impl<A: Allocator> Model for Template<A> {
 
     ghost view = { λ a. items_in slot_at 7 a.count a.fields.items };
 
-    ghost invariant = { λ a. IsFlatTemplate a.count a.fields.items a.extent a.fixed (items_in slot_at 7 a.count a.fields.items) };
+    ghost invariant = { λ a.
+        IsFlatTemplate a.count a.fields.items a.extent a.fixed (items_in slot_at 7 a.count a.fields.items) };
 }
 
 /// A field that was not added, and why.
@@ -179,7 +180,8 @@ impl<A: Allocator> Template<A> {
         &self.fields
     }
 
-    /// The bytes of these that stand before the first open field, at any level: each tuple that matches begins with them.
+    /// The bytes of these that stand before the first open field, at any level: each tuple that matches begins with
+    /// them.
     pub fn fixed_bytes(&self) -> &[u8]
         ensures value { result.now ≡ front_of self.now }
         ensures valid { IsTemplate self.now }

@@ -22,7 +22,8 @@ NoneStandsAt c view set texts number =
 -- ---- all numbers
 
 -- All batches after a start.
-pub record FillsAfterStart (c : Configuration) (view : ℕ) (set : List (ℕ × ViewChangeData)) (texts : List (List ℕ)) (start : ℕ)
+pub record FillsAfterStart (c : Configuration) (view : ℕ) (set : List (ℕ × ViewChangeData)) (texts : List (List ℕ))
+    (start : ℕ)
     (batches : List (List ℕ)) : Type 0 where
   pub long : length batches ≡ how_many_from c set start
   pub stand : may_all_stand c view set (suc start) batches ≡ true

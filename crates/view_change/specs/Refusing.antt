@@ -10,7 +10,8 @@ use Rattle.view_change.specs.Selecting.{are_for, meets}
 -- the set is ascending, each of its view changes is for the view and within its bounds, and the start and the batches
 -- satisfy the rules
 abbrev pub satisfies_rules : Configuration → List (ℕ × ViewChangeData) → NewViewData → Bool
-satisfies_rules c set new = ascending set && (are_for new.view set c && meets c new.view set new.start new.root new.batches)
+satisfies_rules c set new = ascending set
+    && (are_for new.view set c && meets c new.view set new.start new.root new.batches)
 
 abbrev pub refusal_over : Configuration → List (ℕ × ViewChangeData) → NewViewData → Option NewViewFault
 refusal_over c set new =

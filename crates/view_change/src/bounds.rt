@@ -103,7 +103,8 @@ pub(crate) fn is_ascending(set: &[Change]) -> bool
 /// Whether a selection for the view may be made over the view changes: each sender is above the one before, and each
 /// view change is for the view and within its bounds.
 pub fn is_set(set: &[Change], sizes: Sizes, view: View) -> bool
-    ensures { result ≡ (selection.ascending (changes_by_sender set.now) && are_for view.0 (changes_by_sender set.now) (sized sizes)) }
+    ensures { result ≡ (selection.ascending (changes_by_sender set.now) && are_for view.0 (changes_by_sender set.now)
+        (sized sizes)) }
 {
     is_ascending(set) && are_for(set, sizes, view)
 }

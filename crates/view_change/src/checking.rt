@@ -32,7 +32,8 @@ fn is_null(text: &[u8]) -> bool
 // Whether the batch may stand at the number.
 fn may_stand(set: &[Change], sizes: Sizes, view: View, number: Number, batch: &Batch) -> bool
     requires { selecting.are_for view.0 (changes_by_sender set.now) (sized sizes) ≡ true }
-    ensures { result ≡ selection.may_stand (sized sizes) view.0 (changes_by_sender set.now) number.0 batch.now.text.items }
+    ensures { result ≡ selection.may_stand (sized sizes) view.0
+        (changes_by_sender set.now) number.0 batch.now.text.items }
 {
     let digest = Sha256::digest(&batch.text);
     let claimed = stands(set, sizes, number, &digest, set);
@@ -60,7 +61,8 @@ fn may_all_stand(set: &[Change], sizes: Sizes, view: View, number: u64, batches:
 // Whether the start and the batches satisfy the rules.
 fn meets(set: &[Change], sizes: Sizes, new: &NewView) -> bool
     requires { selecting.are_for new.now.view.0 (changes_by_sender set.now) (sized sizes) ≡ true }
-    ensures { result ≡ selecting.meets (sized sizes) new.now.view.0 (changes_by_sender set.now) new.now.start.0 new.now.root
+    ensures { result ≡ selecting.meets (sized sizes) new.now.view.0
+        (changes_by_sender set.now) new.now.start.0 new.now.root
         (map batch_text new.now.batches.items) }
 {
     if new.start.0 >= END {
@@ -106,7 +108,8 @@ fn open_changes(
     changes: &mut Vec<Change>,
 ) -> Result<bool, NoMemory>
     ensures all { IfOk result (λ all. all ≡ true → all_present (changes_by_sender changes.new.items)
-        ≡ all_present (changes_by_sender changes.old.items) ++ signed_changes (judging_configuration received.now) frames.now) }
+        ≡ all_present (changes_by_sender changes.old.items)
+        ++ signed_changes (judging_configuration received.now) frames.now) }
     ensures some { IfOk result (λ all. all ≡ false
         → Has (λ o. o ≡ None) (signed_changes (judging_configuration received.now) frames.now)) }
 {
@@ -128,7 +131,8 @@ fn refusal_by_rules(
     received: &Received,
     new: &NewView,
 ) -> Result<Option<NewViewFault>, NoMemory>
-    ensures { IfOk result (λ fault. fault ≡ refusal_by_rules (judging_configuration received.now) (new_view_data new.now)) }
+    ensures { IfOk result (λ fault. fault
+        ≡ refusal_by_rules (judging_configuration received.now) (new_view_data new.now)) }
 {
     let mut set = Vec::new(alloc);
     if !open_changes(alloc, received, &new.changes, &mut set)? {
@@ -169,7 +173,8 @@ pub fn check_new_view(
     ensures ok { OnOk result (new_view_refusal (judging_configuration received.now) view.0 target.0 sender.0
         (new_view_data new.now) ≡ None) }
     ensures refused { IfErr result (λ e. e ≢ NewViewFault.NoMemory
-        → new_view_refusal (judging_configuration received.now) view.0 target.0 sender.0 (new_view_data new.now) ≡ Some e) }
+        → new_view_refusal (judging_configuration received.now) view.0 target.0 sender.0 (new_view_data new.now)
+        ≡ Some e) }
 {
     if !is_from_primary(received.sizes(), sender, new.view) {
         return Err(NewViewFault::UnknownSender);

@@ -77,7 +77,8 @@ pub(crate) fn stands(
     digest: &Digest,
     some: &[Change],
 ) -> bool
-    ensures { result ≡ spec.stands_by_entry (sized sizes) (changes_by_sender set.now) number.0 digest.now (changes_by_sender some.now) }
+    ensures { result ≡ spec.stands_by_entry (sized sizes) (changes_by_sender set.now) number.0 digest.now
+        (changes_by_sender some.now) }
 {
     let [change, rest @ ..] = some else {
         return false;
@@ -111,7 +112,8 @@ fn latest_in(
 
 // The same over the entries of the view changes in `some`.
 fn latest_of(set: &[Change], sizes: Sizes, number: Number, digest: &Digest, some: &[Change]) -> u64
-    ensures { result ≡ spec.latest_of (sized sizes) (changes_by_sender set.now) number.0 digest.now (changes_by_sender some.now) }
+    ensures { result ≡ spec.latest_of (sized sizes) (changes_by_sender set.now) number.0 digest.now
+        (changes_by_sender some.now) }
 {
     let [change, rest @ ..] = some else {
         return 0;
@@ -200,9 +202,11 @@ pub(crate) fn choose<'a>(
 ) -> Option<&'a Arc<HashedBatch>>
     requires set { spec.are_for view.0 (changes_by_sender set.now) (sized sizes) ≡ true }
     requires null { arc_value null.now ≡ null_batch }
-    ensures some { IfSome result (λ b. StandsAt (sized sizes) view.0 (changes_by_sender set.now) (texts_of held.now) number.0
+    ensures some { IfSome result
+        (λ b. StandsAt (sized sizes) view.0 (changes_by_sender set.now) (texts_of held.now) number.0
         (arc_value b.now)) }
-    ensures none { IfNone result (NoneStandsAt (sized sizes) view.0 (changes_by_sender set.now) (texts_of held.now) number.0) }
+    ensures none { IfNone result
+        (NoneStandsAt (sized sizes) view.0 (changes_by_sender set.now) (texts_of held.now) number.0) }
 {
     let mut best = null;
     for batch in held {

@@ -93,7 +93,8 @@ impl Received {
         requires { selection.signed_change (judging_configuration self.old) bytes.now ≡ Some (change_pair change) }
         ensures ok { OnOk result (ViewChangeIsAdded self.old view.0 (held_as change bytes.now) self.new) }
         ensures refused { IfErr result (λ e. e ≢ ChangeFault.NoMemory
-            → spec.view_change_refusal (judging_configuration self.old) view.0 self.old.held (change_pair change) ≡ Some e) }
+            → spec.view_change_refusal (judging_configuration self.old) view.0 self.old.held (change_pair change)
+            ≡ Some e) }
         ensures err { OnErr result (self.new ≡ self.old) }
     {
         if let Some(fault) = self.refusal(view, &change) {
@@ -166,7 +167,8 @@ impl Received {
     pub fn changes_for(&self, alloc: Global, view: View) -> Result<Vec<Change>, NoMemory>
         ensures are { IfOk result (λ changes. changes_by_sender changes.items ≡ pairs_for view.0 self.now.held) }
         ensures order { IfOk result (λ changes. selection.ascending (changes_by_sender changes.items) ≡ true) }
-        ensures for_it { IfOk result (λ changes. are_for view.0 (changes_by_sender changes.items) (sized self.now.sizes) ≡ true) }
+        ensures for_it { IfOk result (λ changes. are_for view.0 (changes_by_sender changes.items) (sized self.now.sizes)
+            ≡ true) }
     {
         copy_changes(alloc, &self.held, view)
     }
@@ -182,7 +184,8 @@ impl Received {
     /// The reason for which a replica that was last active in the view refuses the view change, if there is one: the
     /// first that applies, in the order of [`ChangeFault`], never the signature.
     pub fn refusal(&self, view: View, change: &Change) -> Option<ChangeFault>
-        ensures { result ≡ spec.view_change_refusal (judging_configuration self.now) view.0 self.now.held (change_pair change.now) }
+        ensures { result ≡ spec.view_change_refusal (judging_configuration self.now) view.0 self.now.held
+            (change_pair change.now) }
     {
         if change.change.view.0 <= view.0 {
             return Some(ChangeFault::WrongView);

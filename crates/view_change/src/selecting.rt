@@ -63,7 +63,8 @@ fn fill(
     requires null { arc_value null.now ≡ selection.null_batch }
     ensures { IfOk result (λ o. MatchOption o
         (NothingFills (sized sizes) view.0 (changes_by_sender set.now) (texts_of held.now) start.0)
-        (λ batches. FillsAfterStart (sized sizes) view.0 (changes_by_sender set.now) (texts_of held.now) start.0 (texts_of batches.items))) }
+        (λ batches. FillsAfterStart (sized sizes) view.0 (changes_by_sender set.now) (texts_of held.now) start.0
+        (texts_of batches.items))) }
 {
     let largest = largest_of(set, start.0 + 2 * u64::from(sizes.period));
     let end = if largest < start.0 { start.0 } else { largest };

@@ -1,6 +1,6 @@
--- The marks of requests, of read-only requests and of replies to these: a byte or two of a frame. They tell these frames
--- from others before anything is decoded (Castro and Liskov, TOCS 2002, on read-only operations). Bytes that spell no frame may
--- have them too.
+-- The marks of requests, of read-only requests and of replies to these: a byte or two of a frame. They tell these
+-- frames from others before anything is decoded (Castro and Liskov, TOCS 2002, on read-only operations). Bytes that
+-- spell no frame may have them too.
 use Rattle.std.specs.Prelude.{ℕ, Bool, ◌&&◌, ◌==◌, List, slice_index}
 
 -- Of a request: byte 4 is the type of requests.

@@ -181,7 +181,8 @@ pub fn config_of(alloc: Global, world: &World<'_>) -> Option<Config> {
     .ok()
 }
 
-// There is room before the step is read: else what refuses it would have to be dropped too, and each drop costs a proof.
+// There is room before the step is read: else what refuses it would have to be dropped too, and each drop costs a
+// proof.
 fn is_line_put(alloc: Global, line: &str, steps: &mut Vec<Step>) -> bool {
     let Ok(()) = steps.reserve(1) else {
         return false;

@@ -98,7 +98,8 @@ PointsAreOne =
 -- States are equal if their pages are.
 abbrev pub PagesDetermine : Type 0
 PagesDetermine =
-    (st other : State) → IsReplicatedState st → IsReplicatedState other → ((i : ℕ) → i < PAGES → page_text st i ≡ page_text other i)
+    (st other : State) → IsReplicatedState st → IsReplicatedState other
+    → ((i : ℕ) → i < PAGES → page_text st i ≡ page_text other i)
     → st ≡ other
 
 -- Fewer than 2^48 batches leave a well-formed state.
@@ -207,7 +208,8 @@ abbrev pub NoneBegins : Type 0
 NoneBegins =
     (c : Configuration) → IsConfiguration c → (trace : List Entry) → AreReplicasSafe c trace → Unforged c trace
     → NoneChanges c trace
-    → (p : ℕ) (new : NewViewData) → is_correct_replica c p ≡ true → Once (TakesOrSendsNewView c new) (history_of p trace) → ⊥
+    → (p : ℕ) (new : NewViewData) → is_correct_replica c p ≡ true
+    → Once (TakesOrSendsNewView c new) (history_of p trace) → ⊥
 
 -- So each stays in the first view.
 abbrev pub FirstViewStays : Type 0

@@ -37,7 +37,8 @@ abbrev pub AtItsLevel : Configuration → List Entry → Entry → Type 0
 AtItsLevel c past (Accepted k timestamp answer) =
     (vote : Vote) × (newest_vote c (client_party k) (history_of (client_party k) past) timestamp ≡ Some vote)
     × (is_level c past vote.number ≡ true)
-    × (vote.mode ≡ modes.ReadOnly → (n : ℕ) → vote.number < n → is_level c (invoke_past (client_party k) past) n ≡ true → ⊥)
+    × (vote.mode ≡ modes.ReadOnly → (n : ℕ) → vote.number < n
+    → is_level c (invoke_past (client_party k) past) n ≡ true → ⊥)
 AtItsLevel c past _ = ⊤
 
 -- It is so at each acceptance of a run.

@@ -247,7 +247,8 @@ pub record CanBeginView (c : Configuration) (me : ℕ) (past : List Entry) (new 
 abbrev pub WaitsAlready : Configuration → ℕ → List Entry → Entry → Point → Type 0
 WaitsAlready c me before input old =
     (call : Call) × Has (λ x. x ≡ call) old.waiting
-    × Hears c me (record { sender = client_party call.client; message = Request call.timestamp modes.Ordered call.op }) before
+    × Hears c me (record { sender = client_party call.client; message = Request call.timestamp modes.Ordered call.op })
+    before
     input
 
 -- the new view that began view v, if one did, assigns only numbers below i
@@ -265,14 +266,17 @@ latest_checkpoint c me past = slice_get (checkpoints_of c past me) 0
 pub record SendsRow (c : Configuration) (me : ℕ) (past : List Entry) (v i : ℕ) (outputs : List Entry) : Type 0 where
   pub batch : (batch : List ℕ) → primary c v ≡ me → IsBegunBelow c v i past → logged c me past v i ≡ Some batch
       → SendsMessage me (PrePrepare v i batch) outputs
-  pub prepare : (digest : List ℕ) → prepare_of c me past v i me ≡ Some digest → SendsMessage me (Prepare v i digest) outputs
-  pub commit : (digest : List ℕ) → commit_of c me past v i me ≡ Some digest → SendsMessage me (Commit v i digest) outputs
+  pub prepare : (digest : List ℕ) → prepare_of c me past v i me ≡ Some digest
+      → SendsMessage me (Prepare v i digest) outputs
+  pub commit : (digest : List ℕ) → commit_of c me past v i me ≡ Some digest
+      → SendsMessage me (Commit v i digest) outputs
 
 -- A replica that is active in view v sends again what it sent for the numbers in the marks above the executed one. It
 -- also sends its own new view, by which it began the view, and its latest checkpoint.
 pub record SendsView (c : Configuration) (me : ℕ) (past : List Entry) (executed v : ℕ) (outputs : List Entry) : Type 0
   where
-    pub new_view : primary c v ≡ me → 0 < v → (new : NewViewData) × (new.view ≡ v) × SendsMessage me (NewView new) outputs
+    pub new_view : primary c v ≡ me → 0 < v → (new : NewViewData) × (new.view ≡ v)
+        × SendsMessage me (NewView new) outputs
     pub rows : (i : ℕ) → executed < i → is_in_marks c (low c me past) i ≡ true → SendsRow c me past v i outputs
     pub checkpoint : (m : CheckpointEntry) → latest_checkpoint c me past ≡ Some m
         → SendsMessage me (Checkpoint m.number m.digest) outputs
@@ -318,7 +322,9 @@ pub record Owes (c : Configuration) (me : ℕ) (before : List Entry) (input : En
   pub reads : (client timestamp : ℕ) (op : Operation)
       → Hears c me (record { sender = client; message = Request timestamp modes.ReadOnly op }) before input
       → is_read_only op ≡ true
-      → SendsMessage me (Reply client timestamp modes.ReadOnly old.state.number (outcome (tuples old.state) (client_number client) op)) outputs
+      → SendsMessage me
+      (Reply client timestamp modes.ReadOnly old.state.number (outcome (tuples old.state) (client_number client) op))
+      outputs
   pub fetched_digests : (s k index : ℕ) (level : Level) → has_children level ≡ true
       → Hears c me (record { sender = s; message = Fetch k level index }) before input
       → (st : State) → KeptState c me before old k (λ x. x ≡ st)

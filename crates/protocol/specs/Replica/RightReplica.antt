@@ -260,7 +260,8 @@ pub record MayFetch (c : Configuration) (me : ℕ) (past : List Entry) (point : 
   pub root : List ℕ
   pub may : MayInstall c past point k root
   pub newest : fetching past ≤ k
-  pub next : IsNextPart c me past (in_place c me k past point.state) k root level index ⊎ IsAskedAgain past k level index
+  pub next : IsNextPart c me past (in_place c me k past point.state) k root level index
+      ⊎ IsAskedAgain past k level index
 
 -- ---- what may be sent. Each clause covers sending again too.
 

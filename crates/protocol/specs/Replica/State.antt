@@ -68,7 +68,8 @@ runs st call = nat_lt (last_time st call.client) call.timestamp
 
 -- the reply that a request that runs leaves for its client
 abbrev pub kept_by : State → ℕ → Call → Kept
-kept_by st number call = record { timestamp = call.timestamp; number = number; outcome = outcome (tuples st) call.client call.op }
+kept_by st number call =
+    record { timestamp = call.timestamp; number = number; outcome = outcome (tuples st) call.client call.op }
 
 -- the state after a request that runs
 abbrev pub ran_call : State → ℕ → Call → State

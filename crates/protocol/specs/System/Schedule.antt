@@ -119,7 +119,8 @@ pub record AreReceivers (c : Configuration) (receivers : List ℕ) : Type 0 wher
 -- So it is for a client that stopped: its call stays open, and it makes no second one.
 abbrev pub IsAllowed : Configuration → World → Step → Type 0
 IsAllowed c w (calls k op) =
-    (is_correct_client c (client_party k) ≡ true) × (open_call (history_of (client_party k) w.past) ≡ None) × IsOperation op
+    (is_correct_client c (client_party k) ≡ true) × (open_call (history_of (client_party k) w.past) ≡ None)
+    × IsOperation op
 IsAllowed c w (deliver frame party) = (frame < length w.frames) × (is_correct c party ≡ true)
 IsAllowed c w (feed party text) = is_correct c party ≡ true
 IsAllowed c w (seal sender receivers body) =
@@ -168,7 +169,8 @@ pub data StepsLead (c : Configuration) : World → List Step → List Entry → 
       → pending c w ≡ Some (frame, party) → StepsLead c w (deliver frame party ∷ flush ∷ steps) entries v
       → StepsLead c w (flush ∷ steps) entries v
   flushed : {w v : World} {steps : List Step} {entries : List Entry}
-      → NoOutputIsNext entries → pending c w ≡ None → StepsLead c w steps entries v → StepsLead c w (flush ∷ steps) entries v
+      → NoOutputIsNext entries → pending c w ≡ None → StepsLead c w steps entries v
+      → StepsLead c w (flush ∷ steps) entries v
 
 -- the inputs of the trace are those that the steps feed, each of them allowed; the trace stands newest first
 abbrev pub Feeds : Configuration → List Step → List Entry → Type 0

@@ -36,7 +36,8 @@ EntryHasBatch text past _ = ⊥
 
 -- a party receives the page, or the text of digests, in this entry
 abbrev pub EntryHasPart : List ℕ → List Entry → Entry → Type 0
-EntryHasPart text past (Got p bytes) = (body : Body) × (said bytes ≡ Some body) × Has (λ x. x ≡ text) (parts_of body.message)
+EntryHasPart text past (Got p bytes) = (body : Body) × (said bytes ≡ Some body)
+    × Has (λ x. x ≡ text) (parts_of body.message)
 EntryHasPart text past _ = ⊥
 
 -- the batch that a correct replica executes in this entry for number k
@@ -52,7 +53,8 @@ first_batch c trace k = first_given (λ past e. batch_by c k e) trace
 -- length
 abbrev pub AreFirstBatches : Configuration → List Entry → ℕ → List (List ℕ) → Type 0
 AreFirstBatches c trace k [] = Unit {0}
-AreFirstBatches c trace k (batch ∷ batches) = (first_batch c trace k ≡ Some batch) × AreFirstBatches c trace (k + 1) batches
+AreFirstBatches c trace k (batch ∷ batches) = (first_batch c trace k ≡ Some batch)
+    × AreFirstBatches c trace (k + 1) batches
 
 -- the texts of digests in the partition tree over these pages: of an inner part's pages, and of all inner parts
 pub data IsUnder (page : ℕ → List ℕ) : List ℕ → Type 0 where
