@@ -59,10 +59,10 @@ IsLoggedAs c me past v i digest = (batch : List ℕ) × (logged c me past v i �
 -- after the entry, in the marks, exactly these claims hold beside what held before, and they are in the marks
 pub record AddsClaims (before after : ℕ → ℕ → List ℕ → Type 0) (in_marks : ℕ → Bool) (claims : List Claim) : Type 0
   where
-  pub stays : (v i : ℕ) (digest : List ℕ) → before v i digest → after v i digest
-  pub new : Each (λ claim. after claim.view claim.number claim.digest × (in_marks claim.number ≡ true)) claims
-  pub only : (v i : ℕ) (digest : List ℕ) → in_marks i ≡ true → after v i digest
-      → before v i digest ⊎ Has (λ claim. (claim.view ≡ v) × (claim.number ≡ i) × (claim.digest ≡ digest)) claims
+    pub stays : (v i : ℕ) (digest : List ℕ) → before v i digest → after v i digest
+    pub new : Each (λ claim. after claim.view claim.number claim.digest × (in_marks claim.number ≡ true)) claims
+    pub only : (v i : ℕ) (digest : List ℕ) → in_marks i ≡ true → after v i digest
+        → before v i digest ⊎ Has (λ claim. (claim.view ≡ v) × (claim.number ≡ i) × (claim.digest ≡ digest)) claims
 
 -- nothing is logged above the marks
 abbrev pub NothingAhead : Configuration → ℕ → List Entry → Type 0

@@ -9,10 +9,10 @@ use Rattle.client_cert.specs.State.{CallState, ClientState, me_of, held, ballots
 -- the state of the open call with this timestamp
 pub record FitsCall (c : Configuration) (me : ℕ) (history : List Entry) (timestamp : ℕ) (call : CallState) : Type 0
   where
-  pub open_is : open_call history ≡ Some (record { timestamp = timestamp; op = call.op })
-  pub ordered_is : went_ordered history timestamp ≡ call.ordered
-  pub ballots_are : (mode : Mode) (s : ℕ)
-      → held (ballots_of mode call) s ≡ option_map ballot_of (latest c me history timestamp mode s)
+    pub open_is : open_call history ≡ Some (record { timestamp = timestamp; op = call.op })
+    pub ordered_is : went_ordered history timestamp ≡ call.ordered
+    pub ballots_are : (mode : Mode) (s : ℕ)
+        → held (ballots_of mode call) s ≡ option_map ballot_of (latest c me history timestamp mode s)
 
 abbrev pub FitsOpenCall : Configuration → ℕ → List Entry → ℕ → Option CallState → Type 0
 FitsOpenCall c me history timestamp None = open_call history ≡ None

@@ -12,8 +12,8 @@ use Rattle.protocol.specs.Space.Linear.{points, IsLinear}
 -- The client invoked the operation at this timestamp, and accepted this answer to it.
 pub record CallIsAnswered (entries : List Entry) (client timestamp : ℕ) (op : Operation) (answer : Outcome) : Type 0
   where
-  pub invoked : Contains entries (Invoke client timestamp op)
-  pub accepted : Contains entries (Accepted client timestamp answer)
+    pub invoked : Contains entries (Invoke client timestamp op)
+    pub accepted : Contains entries (Accepted client timestamp answer)
 
 -- Each operation has an answer. Client i modulo their number calls operation i, counted from 0, and each client calls
 -- its own in their order. So operation i is call i / clients of its client, counted from 0.

@@ -39,7 +39,7 @@ AddsCalled old called new =
 -- the result of each thread is its client, and the answers that the client got to its hand
 pub record AreJoined (promises : List CallsHand) (clients : List Seated) (answers : Hands (Answer Global)) : Type 0
   where
-  pub clients_count : length clients ≡ length promises
-  pub answers_count : length answers ≡ length promises
-  pub each : (h : ℕ) (p : CallsHand) (s : Seated) (v : Vec (Answer Global) Global) → slice_get promises h ≡ Some p
-      → slice_get clients h ≡ Some s → slice_get answers h ≡ Some v → HasCalledHand p.ops.value p.number v s
+    pub clients_count : length clients ≡ length promises
+    pub answers_count : length answers ≡ length promises
+    pub each : (h : ℕ) (p : CallsHand) (s : Seated) (v : Vec (Answer Global) Global) → slice_get promises h ≡ Some p
+        → slice_get clients h ≡ Some s → slice_get answers h ≡ Some v → HasCalledHand p.ops.value p.number v s

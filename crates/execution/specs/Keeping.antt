@@ -9,6 +9,6 @@ use Rattle.execution.specs.Touching.{RepliesState, HasPages}
 -- It is a state, and its tree has the pages that no request touched.
 pub record IsExecutedState (number clients : ℕ) (tree : List (List ℕ)) (w : WatchedState) (r : RepliesState) : Type 0
   where
-  pub state : IsReplicatedState (state_with number w.state r.replies)
-  pub few : clients ≤ MAX_CLIENTS
-  pub pages : HasPages tree w r
+    pub state : IsReplicatedState (state_with number w.state r.replies)
+    pub few : clients ≤ MAX_CLIENTS
+    pub pages : HasPages tree w r

@@ -34,10 +34,10 @@ TouchesReplies old new =
 -- How requests change both: they touch what they change, and leave a space and replies.
 pub record ChangesAreTouched (w : WatchedState) (r : RepliesState) (w' : WatchedState) (r' : RepliesState) : Type 0
   where
-  pub space : KeepsWritten w w'
-  pub replies : TouchesReplies r r'
-  pub is_space : IsSpace w.state → IsSpace w'.state
-  pub are_replies : AreReplies r.replies → AreReplies r'.replies
+    pub space : KeepsWritten w w'
+    pub replies : TouchesReplies r r'
+    pub is_space : IsSpace w.state → IsSpace w'.state
+    pub are_replies : AreReplies r.replies → AreReplies r'.replies
 
 -- ---- the tree
 

@@ -370,7 +370,7 @@ all_said executed end a b d x y z whole p q = (
 -- ---- a batch
 
 -- the requests of the batch are authentic
-held_are_genuine : (c : Configuration) (me : ℕ) (s : Start) (desk : Desk) (log : LogData) (due : List Message) (outputs : List Entry) (number : ℕ) (text : List ℕ) → events.Fits c me s desk log due outputs
+held_are_genuine : (c : Configuration) (me : ℕ) (s : Start) (desk : Desk) (log : LogData) (due : List Message) (outputs : List Entry) (number : ℕ) (text : List ℕ) → events.BothFitWithinEvent c me s desk log due outputs
     → MayNumber c me desk log (after_outputs s outputs) number text → are_genuine c me text ≡ true
 held_are_genuine c me s desk log due outputs number text f may =
     all_of_each (λ frame. Has (λ x. x ≡ frame) desk.frames) (λ request. is_some (heard (members c) me request)) (λ frame k. (f.of_desk.frames frame k).1) (requests_of text) may.held

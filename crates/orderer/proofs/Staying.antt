@@ -117,7 +117,7 @@ said_on me last past e h entry is = inr (h entry is)
 
 -- If the low mark moves, the claims up to it are dropped.
 pub changes_cut : (c : Configuration) (me : ℕ) (s : Start) (old new : OrdererData) (desk later : Desk) (due rest : List Message) (outputs : List Entry) (e : Entry)
-    → events.Fits c me s desk old.log due outputs → events.Fits c me s later new.log rest (e ∷ outputs) → KeepsChanges c me (after_outputs s outputs) e → IsSameLog old.log new.log
+    → events.BothFitWithinEvent c me s desk old.log due outputs → events.BothFitWithinEvent c me s later new.log rest (e ∷ outputs) → KeepsChanges c me (after_outputs s outputs) e → IsSameLog old.log new.log
     → CutsClaims new.log.low old.claims new.claims → changes_held new ≡ record (changes_held old) { claims = new.claims }
     → FitsChanges c me old.log (changes_held old) (after_outputs s outputs) → FitsChanges c me new.log (changes_held new) (e ∷ after_outputs s outputs)
 changes_cut c me s old new desk later due rest outputs e f on keeps same cuts held x =
@@ -127,7 +127,7 @@ changes_cut c me s old new desk later due rest outputs e f on keeps same cuts he
 
 -- If it stays, nothing changes.
 pub changes_still : (c : Configuration) (me : ℕ) (s : Start) (old new : OrdererData) (desk later : Desk) (due rest : List Message) (outputs : List Entry) (e : Entry)
-    → events.Fits c me s desk old.log due outputs → events.Fits c me s later new.log rest (e ∷ outputs) → KeepsChanges c me (after_outputs s outputs) e → IsSameLog old.log new.log
+    → events.BothFitWithinEvent c me s desk old.log due outputs → events.BothFitWithinEvent c me s later new.log rest (e ∷ outputs) → KeepsChanges c me (after_outputs s outputs) e → IsSameLog old.log new.log
     → new.log.low ≡ old.log.low → changes_held new ≡ changes_held old
     → FitsChanges c me old.log (changes_held old) (after_outputs s outputs) → FitsChanges c me new.log (changes_held new) (e ∷ after_outputs s outputs)
 changes_still c me s old new desk later due rest outputs e f on keeps same low held x =
@@ -141,11 +141,11 @@ changes_still c me s old new desk later due rest outputs e f on keeps same low h
 -- If desk and log fit the history after one output more, and so do the numbers and the view-change data, all fits it.
 pub fits_behind : (c : Configuration) (me : ℕ) (s : Start) (old new : OrdererData) (desk later : Desk) (w more : WaitingData) (due rest : List Message) (before after : List Output) (e : Entry)
     → GivesOne c me before after e → new.last_checkpoint ≡ old.last_checkpoint → FitsEvent c me s old desk w due before
-    → events.Fits c me s later new.log rest (e ∷ given me before) → FitsWaiting c me new more later (e ∷ after_outputs s (given me before))
+    → events.BothFitWithinEvent c me s later new.log rest (e ∷ given me before) → FitsWaiting c me new more later (e ∷ after_outputs s (given me before))
     → FitsChanges c me new.log (changes_held new) (e ∷ after_outputs s (given me before))
     → FitsEvent c me s new later more rest after
 fits_behind c me s old new desk later w more due rest before after e gives last f on numbers changes = record {
-  fits = subst (λ (es : List Entry). events.Fits c me s later new.log rest es) (sym gives.is) on;
+  fits = subst (λ (es : List Entry). events.BothFitWithinEvent c me s later new.log rest es) (sym gives.is) on;
   numbers = subst (λ (es : List Entry). FitsWaiting c me new more later (after_outputs s es)) (sym gives.is) numbers;
   said = subst (λ (es : List Entry). WasSaid me new.last_checkpoint (after_outputs s es)) (sym gives.is)
       (subst (λ (x : Option CheckpointEntry). WasSaid me x (e ∷ after_outputs s (given me before))) (sym last) (said_on me old.last_checkpoint (after_outputs s (given me before)) e f.said));
@@ -158,7 +158,7 @@ pub fits_with : (c : Configuration) (me : ℕ) (s : Start) (old new : OrdererDat
     → GivesOne c me before after e → IsBeside c me (after_outputs s (given me before)) e
     → IsSameLog old.log new.log → new.used ≡ old.used → new.last_checkpoint ≡ old.last_checkpoint
     → FitsChanges c me new.log (changes_held new) (e ∷ after_outputs s (given me before))
-    → FitsEvent c me s old desk w due before → events.Fits c me s desk new.log rest (e ∷ given me before)
+    → FitsEvent c me s old desk w due before → events.BothFitWithinEvent c me s desk new.log rest (e ∷ given me before)
     → FitsEvent c me s new desk w rest after
 fits_with c me s old new desk w due rest before after e is beside same used last changes f on =
     fits_behind c me s old new desk desk w w due rest before after e is last f on
@@ -169,7 +169,7 @@ fits_with c me s old new desk w due rest before after e is beside same used last
 pub fits_on : (c : Configuration) (me : ℕ) (s : Start) (old new : OrdererData) (desk : Desk) (w : WaitingData) (due rest : List Message) (before after : List Output) (e : Entry)
     → GivesOne c me before after e → IsBeside c me (after_outputs s (given me before)) e → KeepsChanges c me (after_outputs s (given me before)) e
     → IsSameLog old.log new.log → new.log.low ≡ old.log.low → new.used ≡ old.used → new.last_checkpoint ≡ old.last_checkpoint → changes_held new ≡ changes_held old
-    → FitsEvent c me s old desk w due before → events.Fits c me s desk new.log rest (e ∷ given me before)
+    → FitsEvent c me s old desk w due before → events.BothFitWithinEvent c me s desk new.log rest (e ∷ given me before)
     → FitsEvent c me s new desk w rest after
 fits_on c me s old new desk w due rest before after e is beside keeps same low used last held f on =
     fits_with c me s old new desk w due rest before after e is beside same used last

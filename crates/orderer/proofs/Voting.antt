@@ -250,7 +250,7 @@ commit_goes number digest text vote o before after own due hashed sender same sa
     e : Entry
     e = Sent me k.bytes
 
-    on : events.Fits c me s desk log d (e ∷ given me before)
+    on : events.BothFitWithinEvent c me s desk log d (e ∷ given me before)
     on = commits_fit c me s desk o.log d (given me before) number digest k.bytes vote due (sender ∙ own) same k.posted f.fits
 
 claimed_commit : (number : ℕ) (digest text : List ℕ) (old new : OrdererData) (before after : List Output) → IsLog old.log → IsOrderer old → due_commit old.log number ≡ Some digest → sha256 text ≡ digest
@@ -319,7 +319,7 @@ module _ (c : Configuration) (s : Start) (o : OrdererData) (desk : Desk) (w : Wa
   with_it = record desk { transfer = Some t }
 
   -- the desk has the transfer after its fetch
-  behind_it : (due rest : List Message) → FitsEvent c me s o desk w due before → events.Fits c me s with_it o.log rest (Sent me said.bytes ∷ given me before)
+  behind_it : (due rest : List Message) → FitsEvent c me s o desk w due before → events.BothFitWithinEvent c me s with_it o.log rest (Sent me said.bytes ∷ given me before)
       → FitsEvent c me s o with_it w rest after
   behind_it due rest f on =
       fits_behind c me s o o desk with_it w w due rest before after (Sent me said.bytes) said.is refl f on

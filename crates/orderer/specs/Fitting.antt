@@ -46,7 +46,7 @@ WasSaid me last history =
 -- goes to the parties for whom it is.
 pub record FitsEvent (c : Configuration) (me : ℕ) (s : Start) (o : OrdererData) (desk : Desk)
     (w : WaitingData) (due : List Message) (outs : List Output) : Type 0 where
-  pub fits : events.Fits c me s desk o.log due (given me outs)
+  pub fits : events.BothFitWithinEvent c me s desk o.log due (given me outs)
   pub numbers : FitsWaiting c me o w desk (after_outputs s (given me outs))
   pub said : WasSaid me o.last_checkpoint (after_outputs s (given me outs))
   pub changes : FitsChanges c me o.log (changes_held o) (after_outputs s (given me outs))

@@ -136,7 +136,7 @@ module _ (r : JoinedData) (one : AreOne r.orderer r.desk) where
       free : taken c past (Got (me_of r) bytes) ≡ None
       free = none_taken c past (Got (me_of r) bytes) none.views
 
-      enters : histories.Fits c (me_of r) (event_of c r past runs bytes) (desk_of c r.desk) after [] []
+      enters : histories.BothFitWithinEvent c (me_of r) (event_of c r past runs bytes) (desk_of c r.desk) after [] []
       enters = inputs_fit c (me_of r) (desk_of c r.desk) (desk_of c r.desk) r.orderer.log after [] past bytes runs.holds free (record {
         takes = takes;
         state = refl;

@@ -47,7 +47,7 @@ module _ (r : JoinedData) (one : AreOne r.orderer r.desk) (c : Configuration) (p
   takes_none none = none_taken c past (Got (me_of r) bytes) (ap (option_and_then (new_view_from c)) heard_so ∙ none)
 
   -- The view-change data fit, if the log stays, whatever the desk does.
-  pub changes_beside : (later : Desk) (due : List Message) → new_view_from c body ≡ None → IsNoChange (Some body) → histories.Fits c (me_of r) (event_of c r past runs bytes) later r.orderer.log due []
+  pub changes_beside : (later : Desk) (due : List Message) → new_view_from c body ≡ None → IsNoChange (Some body) → histories.BothFitWithinEvent c (me_of r) (event_of c r past runs bytes) later r.orderer.log due []
       → FitsChanges c (me_of r) r.orderer.log (changes_held r.orderer) (Got (me_of r) bytes ∷ past)
   changes_beside later due none silent enters =
       changes_kept r one c past runs bytes r.orderer.log (same_log r.orderer.log) refl
@@ -66,7 +66,7 @@ module _ (r : JoinedData) (one : AreOne r.orderer r.desk) (c : Configuration) (p
     meant = tt;
   }
     where
-      enters : histories.Fits c (me_of r) (event_of c r past runs bytes) (desk_of c r.desk) r.orderer.log [] []
+      enters : histories.BothFitWithinEvent c (me_of r) (event_of c r past runs bytes) (desk_of c r.desk) r.orderer.log [] []
       enters = inputs_fit c (me_of r) (desk_of c r.desk) (desk_of c r.desk) r.orderer.log r.orderer.log [] past bytes runs.holds (takes_none beside.views) (record {
         takes = others_drop c (me_of r) r.orderer.log past bytes runs.holds.of_log.fits (subst IsBesideLog (sym heard_so) beside.log);
         state = refl;

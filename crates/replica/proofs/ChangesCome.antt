@@ -132,7 +132,7 @@ module _ (r : JoinedData) (one : AreOne r.orderer r.desk) (bytes : List ℕ) whe
     free : taken c past e ≡ None
     free = none_taken c past e beside.views
 
-    enters : histories.Fits c me (event_of c r past runs bytes) (desk_of c r.desk) r.orderer.log [] []
+    enters : histories.BothFitWithinEvent c me (event_of c r past runs bytes) (desk_of c r.desk) r.orderer.log [] []
     enters = inputs_fit c me (desk_of c r.desk) (desk_of c r.desk) r.orderer.log r.orderer.log [] past bytes runs.holds free (record {
       takes = others_drop c me r.orderer.log past bytes runs.holds.of_log.fits beside.log;
       state = refl;

@@ -114,7 +114,7 @@ module _ (view : ℕ) (old : JoinedData) (signed : OrdererData) (frame : List �
             claims_are_lists c me o.log past (point_of desk f.fits.of_desk.states f.fits.of_desk.ran) o.claims f.fits.of_log
             (steps_leave c me s (given me before) (point_of desk f.fits.of_desk.states f.fits.of_desk.ran) f.fits.of_desk.leaves f.fits.of_desk.steps) (λ i. (voted i).1) f.changes.claims
 
-    on : events.Fits c me s desk (left o.log) [] (Sent me frame ∷ given me before)
+    on : events.BothFitWithinEvent c me s desk (left o.log) [] (Sent me frame ∷ given me before)
     on = view_changes_fit c me s desk o.log [] (given me before) k.own.change frame (λ i. (voted i).1) change posted
         (next_leaf_is_own frame o.spent past k.by_leaf f.changes.leaves) f.fits
 

@@ -164,7 +164,7 @@ module _ (r : JoinedData) (one : AreOne r.orderer r.desk) (s : ℕ) (entry : Che
       free : taken c past e ≡ None
       free = none_taken c past e (no_call c known).views
 
-      fitting : histories.Fits c (me_of r) (event_of c r past runs bytes) (desk_from after.low (desk_of c r.desk)) after (fetch_due (desk_of c r.desk) counted entry) []
+      fitting : histories.BothFitWithinEvent c (me_of r) (event_of c r past runs bytes) (desk_from after.low (desk_of c r.desk)) after (fetch_due (desk_of c r.desk) counted entry) []
       fitting = checkpoints_enter c (me_of r) (desk_of c r.desk) r.orderer.log past s entry bytes runs.holds (hears c known) none
 
       keeps : KeepsChanges c (me_of r) past e

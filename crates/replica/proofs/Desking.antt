@@ -181,9 +181,9 @@ module _ (c : Configuration) (d : DeskData) (text : List ℕ) (ran : List Ran) (
     abbrev due : List Message
     due = replies_for ran ++ checkpoint_due c executed.state
 
-    run_on : events.Fits c d.me s (desk_of c later) o.log due (e ∷ given d.me before)
-    run_on = subst (λ (desk : Desk). events.Fits c d.me s desk o.log due (e ∷ given d.me before)) run_desk
-        (subst (λ (ms : List Message). events.Fits c d.me s (executed_desk c (desk_of c d) text (frames_waiting later.waiting)) o.log ms (e ∷ given d.me before)) run_due
+    run_on : events.BothFitWithinEvent c d.me s (desk_of c later) o.log due (e ∷ given d.me before)
+    run_on = subst (λ (desk : Desk). events.BothFitWithinEvent c d.me s desk o.log due (e ∷ given d.me before)) run_desk
+        (subst (λ (ms : List Message). events.BothFitWithinEvent c d.me s (executed_desk c (desk_of c d) text (frames_waiting later.waiting)) o.log ms (e ∷ given d.me before)) run_due
         (executes_fit c d.me s (desk_of c d) o.log (given d.me before) text (frames_waiting later.waiting) r.is_state r.few committed (frames_behind executed.state d) f.fits))
 
     -- which waiting requests have numbers

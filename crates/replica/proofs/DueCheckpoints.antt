@@ -128,8 +128,8 @@ module _ (c : Configuration) (s : Start) (o : OrdererData) (desk : Desk) (w : Wa
   said : SaidIn c o (Checkpoint entry.number entry.digest) before after
   said = said_in c o (Checkpoint entry.number entry.digest) before after known says
 
-  fitting : events.Fits c me s later (checking o entry claims).log [] (Sent me said.bytes ∷ given me before)
-  fitting = subst (λ (m : ℕ). events.Fits c me s (desk_from (checked_log o.log m entry).low desk) (checked_log o.log m entry) [] (Sent me said.bytes ∷ given me before)) (sym f.fits.of_log.own)
+  fitting : events.BothFitWithinEvent c me s later (checking o entry claims).log [] (Sent me said.bytes ∷ given me before)
+  fitting = subst (λ (m : ℕ). events.BothFitWithinEvent c me s (desk_from (checked_log o.log m entry).low desk) (checked_log o.log m entry) [] (Sent me said.bytes ∷ given me before)) (sym f.fits.of_log.own)
       (checkpoints_fit c me s desk o.log [] (given me before) entry said.bytes (λ i. (voted i).0) (λ i. (voted i).1) said.posted f.fits)
 
   numbering : FitsWaiting c me (checking o entry claims) w later (Sent me said.bytes ∷ past)
@@ -154,7 +154,7 @@ module _ (c : Configuration) (s : Start) (o : OrdererData) (desk : Desk) (w : Wa
 
   says_due : FitsEvent c me s (checking o entry claims) later w [] after
   says_due = record {
-    fits = subst (λ (es : List Entry). events.Fits c me s later (checking o entry claims).log [] es) (sym said.is.is) fitting;
+    fits = subst (λ (es : List Entry). events.BothFitWithinEvent c me s later (checking o entry claims).log [] es) (sym said.is.is) fitting;
     numbers = subst (λ (es : List Entry). FitsWaiting c me (checking o entry claims) w later (after_outputs s es)) (sym said.is.is) numbering;
     said = λ other is. subst (λ (es : List Entry). Once (λ earlier e. IsSaying me (Checkpoint other.number other.digest) e) (after_outputs s es)) (sym said.is.is)
         (inl (subst (λ (z : CheckpointEntry). IsSaying me (Checkpoint z.number z.digest) (Sent me said.bytes)) (some_injective entry other is) said.posted.says));

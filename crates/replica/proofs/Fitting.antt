@@ -20,7 +20,7 @@ module _ (c : Configuration) (me : ℕ) (valid : IsConfiguration c) (mine : me <
   few : span c ≤ 32
   few = let most = valid.period_most in omega (arith, most)
 
-  first : histories.Holds c me first_desk (new_log me c.faults (span c)) []
+  first : histories.BothFitBetweenEvents c me first_desk (new_log me c.faults (span c)) []
   first = first_hold c me valid.some_faults valid.most mine few
 
   pub fits_new : (r : JoinedData) → IsNewOrderer c me r.orderer → IsNewDesk c me r.desk → JoinedFitsHistory c r []

@@ -145,8 +145,8 @@ module _ (c : Configuration) (s : Start) (a : JoinedData) (m : OpenData) (before
       (ap (λ (n : ℕ). kept_from n (snapshot_of st ∷ a.desk.snapshots)) (sym low_is) ∙ kept_alone cut.low (snapshot_of st) a.desk.snapshots all_below)
       ∙ ap (λ (xs : List Call). record later { waiting = xs }) (calls_behind c st a.desk.waiting.requests)
 
-  fitting : events.Fits c me s later cut [] (e ∷ given me before)
-  fitting = subst (λ (desk : Desk). events.Fits c me s desk cut [] (e ∷ given me before)) desk_is
+  fitting : events.BothFitWithinEvent c me s later cut [] (e ∷ given me before)
+  fitting = subst (λ (desk : Desk). events.BothFitWithinEvent c me s desk cut [] (e ∷ given me before)) desk_is
       (installations_fit c me s open_desk a.orderer.log (given me before) m.transfer st (frames_waiting installed.waiting) g.may g.rests g.root has.state has.number has.pages small falls
       (λ i. (voted i).0) (λ i. (voted i).1) (frames_behind st a.desk) g.fits.fits)
 

@@ -121,7 +121,7 @@ module _ (judge : NewViewsAreJudged) (decide : SizesDecide) (r : JoinedData) (on
   -- ---- the replica refuses it
 
   module _ (c : Configuration) (past : List Entry) (runs : JoinedMatchesHistory c r past) (known : members c ≡ r.desk.membership) (free : taken c past e ≡ None) where
-    enters : histories.Fits c me (event_of c r past runs bytes) (desk_of c r.desk) r.orderer.log [] []
+    enters : histories.BothFitWithinEvent c me (event_of c r past runs bytes) (desk_of c r.desk) r.orderer.log [] []
     enters = inputs_fit c me (desk_of c r.desk) (desk_of c r.desk) r.orderer.log r.orderer.log [] past bytes runs.holds free (record {
       takes = others_drop c me r.orderer.log past bytes runs.holds.of_log.fits (subst IsBesideLog (sym (hears c known)) tt);
       state = refl;
@@ -164,7 +164,7 @@ module _ (judge : NewViewsAreJudged) (decide : SizesDecide) (r : JoinedData) (on
 
   module _ (clients : r.desk.executed.clients ≡ r.desk.membership.clients) (n : JoinedData) (outs : List Output) (x : Entered new None r [] n outs) (c : Configuration) (past : List Entry) (runs : JoinedMatchesHistory c r past)
       (known : members c ≡ r.desk.membership) (t : taken c past e ≡ Some new) where
-    begins_it : histories.Fits c me (event_of c r past runs bytes) (desk_from (begun_log r.orderer.log new).low (desk_of c r.desk)) (begun_log r.orderer.log new) (start_due (desk_of c r.desk) new) []
+    begins_it : histories.BothFitWithinEvent c me (event_of c r past runs bytes) (desk_from (begun_log r.orderer.log new).low (desk_of c r.desk)) (begun_log r.orderer.log new) (start_due (desk_of c r.desk) new) []
     begins_it = new_views_enter c me (desk_of c r.desk) r.orderer.log past sender new bytes runs.holds (hears c known) t
 
     passes : LogPassesEntry c me past e r.orderer.log (begun_log r.orderer.log new)

@@ -208,7 +208,7 @@ module _ (decide : SizesDecide) (r : JoinedData) (start : ℕ) (root frame : Lis
     seen : Each (λ bytes. Once (HasSeen bytes) past) (carried (NewView its))
     seen = is_seen decide o start root frame texts own sel signs c past to period f.fits.of_log.faults own.0 f.fits.of_log.view f.fits.of_log.active f.changes.target f.changes
 
-    on : events.Fits c mine s (desk_from low desk) (begun_log o.log its) (start_due desk its) (e ∷ given mine before)
+    on : events.BothFitWithinEvent c mine s (desk_from low desk) (begun_log o.log its) (start_due desk its) (e ∷ given mine before)
     on =
         new_views_fit c mine s desk o.log (given mine before) its frame (λ i. (rests.0 i).1) rests.1 leads takes seen signed
         (next_leaf_is_own frame o.spent past signs.by_leaf f.changes.leaves) f.fits

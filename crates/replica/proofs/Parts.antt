@@ -98,7 +98,7 @@ module _ (r : JoinedData) (one : AreOne r.orderer r.desk) (bytes : List ℕ) (se
     body = record { sender = sender; message = message }
 
     comes : is_part body ≡ true → t.number ≡ o.transfer.number → new_view_from c body ≡ None → IsNoChange (Some body) → (RestsOnState o.transfer r.desk.executed.state → RestsOnState t r.desk.executed.state) → Counts c me past runs.holds.of_desk.point bytes sender message
-        → (open_one : Option TransferData) → histories.Fits c me (event_of c r past runs bytes) (record (desk_of c r.desk) { transfer = open_one }) r.orderer.log [] []
+        → (open_one : Option TransferData) → histories.BothFitWithinEvent c me (event_of c r past runs bytes) (record (desk_of c r.desk) { transfer = open_one }) r.orderer.log [] []
         → TransferMayAsk c me t r.desk.executed.state.number (Got me bytes ∷ past) → IsTold t → Comes c r past runs bytes n
     comes part number views changes rests counts open_one fits may told = subst (Comes c r past runs bytes) (sym n_is) (record {
       is = record {

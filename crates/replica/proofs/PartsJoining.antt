@@ -372,7 +372,7 @@ module _ (c : Configuration) (o : OrdererData) (d : DeskData) (h : List Entry) (
   fits : FitsLog c me o.log h
   fits = log_joins c me (without_reads h) h p o.log ho.holds.fits
 
-  holds : histories.Holds c me (desk_of c d) o.log h
+  holds : histories.BothFitBetweenEvents c me (desk_of c d) o.log h
   holds = record {
     of_desk = hd.holds;
     of_log = record { fits = fits; prepares = ho.holds.prepares; commits = ho.holds.commits };

@@ -90,7 +90,7 @@ module _ (old new : JoinedData) (one : AreOne old.orderer old.desk) (party : IsO
       right = subst (λ (e : EndpointState). IsReplica c e.me now) (sym party.endpoint) (held_are_replicas c (me_of old) (desk_of c new.desk) new.orderer.log now held);
       runs = record {
         is_desk = st.is;
-        holds = subst (λ (x : EndpointState). histories.Holds c x.me (desk_of c new.desk) new.orderer.log now) (sym party.endpoint) held;
+        holds = subst (λ (x : EndpointState). histories.BothFitBetweenEvents c x.me (desk_of c new.desk) new.orderer.log now) (sym party.endpoint) held;
         numbers = subst (λ (x : EndpointState). FitsWaiting c x.me new.orderer new.desk.waiting (desk_of c new.desk) now) (sym party.endpoint) event.numbers;
         said = subst (λ (x : EndpointState). WasSaid x.me new.orderer.last_checkpoint now) (sym party.endpoint) event.said;
         changes = subst (λ (x : EndpointState). FitsChanges c x.me new.orderer.log (changes_held new.orderer) now) (sym party.endpoint) event.changes;
@@ -123,7 +123,7 @@ module _ (old new : JoinedData) (one : AreOne old.orderer old.desk) (party : IsO
           (steps_leave c (me_of old) s (given (me_of old) outs) (point_of (desk_of c new.desk) event.fits.of_desk.states event.fits.of_desk.ran) event.fits.of_desk.leaves event.fits.of_desk.steps)
           event.fits.of_log event.changes begun
 
-      held : histories.Holds c (me_of old) (desk_of c new.desk) new.orderer.log now
+      held : histories.BothFitBetweenEvents c (me_of old) (desk_of c new.desk) new.orderer.log now
       held = events_end c (me_of old) (desk_of c old.desk) (desk_of c new.desk) old.orderer.log new.orderer.log past (given (me_of old) outs) input runs.holds event.fits
           (settled c (me_of old) new now event.fits.of_log event.numbers rest all)
           answered none_left is (taken_so why)

@@ -187,7 +187,7 @@ module _ (old : JoinedData) (client : ClientId) (timestamp : Timestamp) (bytes :
       });
     }
       where
-        entered : histories.Fits c (me_of old) start (desk_of c d) old.orderer.log due []
+        entered : histories.BothFitWithinEvent c (me_of old) start (desk_of c d) old.orderer.log due []
         entered = inputs_fit c (me_of old) (desk_of c old.desk) (desk_of c d) old.orderer.log old.orderer.log due past bytes runs.holds free e
 
     -- nothing else changes, if it doesn't wait

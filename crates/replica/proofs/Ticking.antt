@@ -67,7 +67,7 @@ module _ (r : JoinedData) (one : AreOne r.orderer r.desk) where
     abbrev start : Start
     start = event_with c r past runs tick
 
-    entered : histories.Fits c me start (desk_of c r.desk) o.log (again_due (desk_of c r.desk).transfer) []
+    entered : histories.BothFitWithinEvent c me start (desk_of c r.desk) o.log (again_due (desk_of c r.desk).transfer) []
     entered = ticks_fit c me (desk_of c r.desk) o.log past runs.holds
 
     -- the view-change data stay

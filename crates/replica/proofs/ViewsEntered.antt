@@ -252,7 +252,7 @@ entered_active new own r before n after is small x =
 module _ (c : Configuration) (s : Start) (r : JoinedData) (new : NewViewData) (own : Option (List ℕ)) (before : List Output) (past : List Entry) (e : Entry) (sender : ℕ)
     (one : AreOne r.orderer r.desk) (clients : r.desk.executed.clients ≡ r.desk.membership.clients) (is : IsDeskOf c r.desk)
     (at : after_outputs s (given r.orderer.endpoint.me before) ≡ e ∷ past) (meant : AreSentAsMeant c r.orderer.endpoint.me before)
-    (fits : histories.Fits c r.orderer.endpoint.me s (desk_from (begun_log r.orderer.log new).low (desk_of c r.desk)) (begun_log r.orderer.log new) (start_due (desk_of c r.desk) new) (given r.orderer.endpoint.me before))
+    (fits : histories.BothFitWithinEvent c r.orderer.endpoint.me s (desk_from (begun_log r.orderer.log new).low (desk_of c r.desk)) (begun_log r.orderer.log new) (start_due (desk_of c r.desk) new) (given r.orderer.endpoint.me before))
     (passes : LogPassesEntry c r.orderer.endpoint.me past e r.orderer.log (begun_log r.orderer.log new)) (t : taken c past e ≡ Some new) (brings : brought c e ≡ Some (record { sender = sender; message = NewView new }))
     (frame : IsOwnFrame c r.orderer.endpoint.me e new own) (spends : SpendsLeaves r.orderer.spent r.orderer.spent past e) (was_said : WasSaid r.orderer.endpoint.me r.orderer.last_checkpoint past)
     (changes : FitsChanges c r.orderer.endpoint.me r.orderer.log (changes_held r.orderer) past) where

@@ -38,14 +38,14 @@ HasReason c s old v =
 -- and the log asks for nothing more.
 pub record LeavesView (v : ℕ) (old : JoinedData) (before : List Output) (new : JoinedData) (after : List Output)
     : Type 0 where
-    pub stands : (c : Configuration) (s : Start) → members c ≡ old.desk.membership → IsVotedAll old.orderer.log
-        → HasReason c s old v → PartsFitEvent c s old.orderer old.desk [] before
-        → PartsFitEvent c s new.orderer new.desk [] after
-    pub party : IsOneParty old new
-    pub target : new.orderer.target ≡ v
-    pub inactive : new.orderer.log.active ≡ false
-    pub voted : IsVotedAll new.orderer.log
-    pub executed : AllIsExecuted old.orderer.log old.desk → AllIsExecuted new.orderer.log new.desk
+  pub stands : (c : Configuration) (s : Start) → members c ≡ old.desk.membership → IsVotedAll old.orderer.log
+      → HasReason c s old v → PartsFitEvent c s old.orderer old.desk [] before
+      → PartsFitEvent c s new.orderer new.desk [] after
+  pub party : IsOneParty old new
+  pub target : new.orderer.target ≡ v
+  pub inactive : new.orderer.log.active ≡ false
+  pub voted : IsVotedAll new.orderer.log
+  pub executed : AllIsExecuted old.orderer.log old.desk → AllIsExecuted new.orderer.log new.desk
 
 -- It does so, or the view change can't be sent, and nothing changes.
 abbrev pub ChangesView : ℕ → JoinedData → List Output → JoinedData → List Output → Bool → Type 0

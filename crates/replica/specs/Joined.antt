@@ -28,7 +28,7 @@ me_of r = r.orderer.endpoint.me
 -- what the replica holds of its history
 pub record JoinedMatchesHistory (c : Configuration) (r : JoinedData) (history : List Entry) : Type 0 where
   pub is_desk : IsDeskOf c r.desk
-  pub holds : histories.Holds c (me_of r) (desk_of c r.desk) r.orderer.log history
+  pub holds : histories.BothFitBetweenEvents c (me_of r) (desk_of c r.desk) r.orderer.log history
   pub numbers : FitsWaiting c (me_of r) r.orderer r.desk.waiting (desk_of c r.desk) history
   pub said : WasSaid (me_of r) r.orderer.last_checkpoint history
   pub changes : FitsChanges c (me_of r) r.orderer.log (changes_held r.orderer) history

@@ -35,7 +35,7 @@ HasFlags c me d history = (used : ℕ)
 -- requests.
 pub record DeskMatchesHistory (c : Configuration) (me : ℕ) (d : DeskData) (history : List Entry) : Type 0 where
   pub is_desk : IsDeskOf c d
-  pub holds : histories.HoldsDesk c me (desk_of c d) history
+  pub holds : histories.DeskFitsBetweenEvents c me (desk_of c d) history
   pub low : histories.LowMarkIsReached c me (low c me history) d.executed.state.number [] history
   pub flags : primary c (view c history) ≡ me → HasFlags c me d history
 
@@ -46,7 +46,7 @@ pub record IsUsed (c : Configuration) (me v used : ℕ) (history : List Entry) :
 
 -- The orderer holds what the entries of ordering certify. It knows no point and no state.
 pub record OrdererMatchesHistory (c : Configuration) (me : ℕ) (o : OrdererData) (history : List Entry) : Type 0 where
-  pub holds : histories.HoldsLog c me o.log history
+  pub holds : histories.LogFitsBetweenEvents c me o.log history
   pub used : primary c (view c history) ≡ me → IsUsed c me (view c history) o.used history
   pub said : WasSaid me o.last_checkpoint history
   pub changes : FitsChanges c me o.log (changes_held o) history

@@ -21,7 +21,7 @@ use Rattle.protocol.proofs.Words.Elements.{each_weaker}
 use Rattle.protocol.proofs.Agreement.Voting.{RightAt, once_right, Logs, logged_stays, batch_is}
 use Rattle.replica_histories.specs.Desk.{Desk, point_of}
 use Rattle.replica_histories.specs.Logs.{checkpoints_above, LogTakesBody}
-use Rattle.replica_histories.specs.Events.{Start, after_outputs, Fits}
+use Rattle.replica_histories.specs.Events.{Start, after_outputs, BothFitWithinEvent}
 use Rattle.replica_histories.specs.Outputs.{PreparesGoAgain, CommitsGoAgain, BatchesGoAgain, CheckpointsGoAgain}
 use Rattle.replica_histories.proofs.Words.{passed, given_not, marks_are, primary_same}
 use Rattle.replica_histories.proofs.Certified.{active}
@@ -35,7 +35,7 @@ use Rattle.replica_histories.proofs.Logging.{beside_placed}
 use Rattle.replica_histories.proofs.SaidOnce.{unsent, pays_none, pays_alone, no_reply}
 use Rattle.replica_histories.proofs.Giving.{sent_fits, no_proposal, placed, never_rests, prepare_placed, commit_placed}
 
-leaves_now : (c : Configuration) (me : ℕ) (s : Start) (desk : Desk) (log : LogData) (due : List Message) (outputs : List Entry) (f : Fits c me s desk log due outputs)
+leaves_now : (c : Configuration) (me : ℕ) (s : Start) (desk : Desk) (log : LogData) (due : List Message) (outputs : List Entry) (f : BothFitWithinEvent c me s desk log due outputs)
     → HistoryReaches c me (after_outputs s outputs) (point_of desk f.of_desk.states f.of_desk.ran)
 leaves_now c me s desk log due outputs f = steps_leave c me s outputs (point_of desk f.of_desk.states f.of_desk.ran) f.of_desk.leaves f.of_desk.steps
 

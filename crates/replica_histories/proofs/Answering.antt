@@ -21,7 +21,7 @@ use Rattle.protocol.proofs.Words.Reacting.{proceeds_leaves}
 use Rattle.replica_histories.specs.Desk.{Desk, snapshot_of, point_of}
 use Rattle.replica_histories.specs.TransfersAnswers.{answer_by, KeptPages}
 use Rattle.replica_histories.specs.Questions.{read_from, read_reply}
-use Rattle.replica_histories.specs.Events.{Start, after_outputs, Fits, Holds}
+use Rattle.replica_histories.specs.Events.{Start, after_outputs, BothFitWithinEvent, BothFitBetweenEvents}
 use Rattle.replica_histories.specs.Answering.{PartsFit, KeptFetchesCount, PartsSuffice, OtherNumbersOweNone, ReadsFit, ReadsSuffice, OtherOperationsOweNone}
 use Rattle.replica_histories.proofs.Taking.{takes_nothing}
 use Rattle.replica_histories.proofs.Logging.{beside_placed}
@@ -37,9 +37,9 @@ is_part : (pages : List (List ℕ)) (k : ℕ) (level : Level) (index : ℕ) → 
 is_part pages k levels.Root index = tt
 is_part pages k _ index = tt
 
-part_goes : (c : Configuration) (me : ℕ) (s : Start) (desk : Desk) (log : LogData) (due : List Message) (outputs : List Entry) (receivers bytes : List ℕ) (message : Message) (f : Fits c me s desk log due outputs) → IsPart message
+part_goes : (c : Configuration) (me : ℕ) (s : Start) (desk : Desk) (log : LogData) (due : List Message) (outputs : List Entry) (receivers bytes : List ℕ) (message : Message) (f : BothFitWithinEvent c me s desk log due outputs) → IsPart message
     → IsPosted c me message receivers bytes → IsFor c me (after_outputs s outputs) message receivers → MaySay c me (after_outputs s outputs) (point_of desk f.of_desk.states f.of_desk.ran) (Sent me bytes) bytes message → (SendsMessage me message outputs → ⊥)
-    → Fits c me s desk log due (Sent me bytes ∷ outputs)
+    → BothFitWithinEvent c me s desk log due (Sent me bytes ∷ outputs)
 part_goes c me s desk log due outputs receivers bytes (Meta k level index digests) f is posted for say none =
     sent_fits c me s desk log log due due outputs bytes receivers (Meta k level index digests) f posted for tt say
     tt
@@ -74,7 +74,7 @@ kept_fetches_count c me desk log past bytes asker k index level held has =
     has_weaker (λ st. st.number ≡ k) (λ st. (st.number ≡ k) × ⊤) (λ st is. (is, tt)) (kept_states (low c me past) held.of_desk.point.snapshots)
     (has_map (λ x. x.number ≡ k) snapshot_of (kept_states (low c me past) held.of_desk.point.snapshots) (subst (λ xs. Has (λ x. x.number ≡ k) xs) (sym held.of_desk.kept) has))
 
-held_leaves : (c : Configuration) (me : ℕ) (desk : Desk) (log : LogData) (past : List Entry) (held : Holds c me desk log past) → HistoryReaches c me past held.of_desk.point
+held_leaves : (c : Configuration) (me : ℕ) (desk : Desk) (log : LogData) (past : List Entry) (held : BothFitBetweenEvents c me desk log past) → HistoryReaches c me past held.of_desk.point
 held_leaves c me desk log past held = proceeds_leaves c me past [] held.of_desk.point held.of_desk.point held.of_desk.proceeds
 
 pub parts_suffice : PartsSuffice

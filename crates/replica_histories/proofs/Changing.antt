@@ -25,7 +25,7 @@ use Rattle.protocol.proofs.Words.Posting.{leaf_signs_once}
 use Rattle.protocol.proofs.Words.Elements.{each_where}
 use Rattle.replica_histories.specs.Desk.{Desk, snapshot_of, point_of}
 use Rattle.replica_histories.specs.Logs.{checkpoints_above, FitsLog, IsVoted}
-use Rattle.replica_histories.specs.Events.{Start, after_outputs, LowMarkIsReached, IsFetchedOrDue, Fits}
+use Rattle.replica_histories.specs.Events.{Start, after_outputs, LowMarkIsReached, IsFetchedOrDue, BothFitWithinEvent}
 use Rattle.replica_histories.specs.Views.{checkpoint_entry_of, entries_of, ViewChangesFit, ViewChangesGoAgain, NewViewsGoAgain, ViewChangesCount}
 use Rattle.replica_histories.proofs.Certified.{active, prepared_there}
 use Rattle.replica_histories.proofs.Settling.{own_commit, voted_goes}
@@ -210,7 +210,7 @@ seen_again me message bytes past says before =
     seen frame has earlier _ h = absurd h
 
 -- a frame that was sent before still has its leaf
-leaf_again : (c : Configuration) (me : ℕ) (s : Start) (desk : Desk) (log : LogData) (due : List Message) (outputs : List Entry) (bytes : List ℕ) (f : Fits c me s desk log due outputs) → SentBefore bytes (after_outputs s outputs)
+leaf_again : (c : Configuration) (me : ℕ) (s : Start) (desk : Desk) (log : LogData) (due : List Message) (outputs : List Entry) (bytes : List ℕ) (f : BothFitWithinEvent c me s desk log due outputs) → SentBefore bytes (after_outputs s outputs)
     → HasOwnLeaf bytes (after_outputs s outputs)
 leaf_again c me s desk log due outputs bytes f before leaf sent is was earlier =
     leaf_signs_once c me leaf sent bytes was is (after_outputs s outputs) (point_of desk f.of_desk.states f.of_desk.ran)

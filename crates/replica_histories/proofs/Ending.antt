@@ -23,7 +23,7 @@ use Rattle.protocol.proofs.Words.Linking.{Speaks}
 use Rattle.protocol.proofs.Agreement.Voting.{preparing}
 use Rattle.protocol.proofs.Agreement.Commits.{committing, prepared_stays, prepared_remains}
 use Rattle.replica_histories.specs.Desk.{Desk, point_of}
-use Rattle.replica_histories.specs.Events.{Start, after_outputs, Steps, AtEach, IsOnItsWay, LowMarkIsReached, Fits, IsSettled, LeavesNoView, IsTaken, EventsEnd}
+use Rattle.replica_histories.specs.Events.{Start, after_outputs, Steps, AtEach, IsOnItsWay, LowMarkIsReached, BothFitWithinEvent, IsSettled, LeavesNoView, IsTaken, EventsEnd}
 use Rattle.replica_histories.specs.Logs.{IsVoted}
 use Rattle.replica_histories.specs.Questions.{AnswersInput, read_reply}
 use Rattle.replica_histories.specs.TransfersQuorums.{IsToFetch, QuorumsFetched}
@@ -48,7 +48,7 @@ steps_leave c me s (e ∷ outputs) point leaves steps = (steps.0, steps_leave c 
 
 -- ---- what the event owes
 
-module _ (c : Configuration) (me : ℕ) (s : Start) (desk : Desk) (log : LogData) (outputs : List Entry) (is : is_output s.input ≡ false) (f : Fits c me s desk log [] outputs) (settled : IsSettled c me desk log (after_outputs s outputs)) where
+module _ (c : Configuration) (me : ℕ) (s : Start) (desk : Desk) (log : LogData) (outputs : List Entry) (is : is_output s.input ≡ false) (f : BothFitWithinEvent c me s desk log [] outputs) (settled : IsSettled c me desk log (after_outputs s outputs)) where
   abbrev now : List Entry
   now = after_outputs s outputs
 

@@ -20,7 +20,7 @@ use Rattle.protocol.proofs.Words.Posting.{may_send}
 use Rattle.replica_histories.specs.Desk.{Desk, snapshot_of, point_of}
 use Rattle.replica_histories.specs.Logs.{FitsLog}
 use Rattle.replica_histories.specs.Transfers.{HasQuorum, TransferMayAsk, AsksNext, FitsOpenTransfer, open_number}
-use Rattle.replica_histories.specs.Events.{Start, after_outputs, Fits, Holds, start_at}
+use Rattle.replica_histories.specs.Events.{Start, after_outputs, BothFitWithinEvent, BothFitBetweenEvents, start_at}
 use Rattle.replica_histories.specs.Inputs.{replies_again, BytesEnter, IsBesideLog}
 use Rattle.replica_histories.specs.Fetching.{FetchesFit, DueFetchesFit, QuorumsMayAsk, HeldOweNoFetch, DigestsEnter, PagesEnter, AskedDigestsCount, AskedPagesCount, TransfersChange}
 use Rattle.replica_histories.proofs.Taking.{takes_nothing}
@@ -43,7 +43,7 @@ fetch_of t = Fetch t.number t.asked.level t.asked.index
 -- a fetch that the transfer may send, with due messages paid
 fetch_goes : (c : Configuration) (me : ℕ) (s : Start) (desk : Desk) (log : LogData) (due rest : List Message) (outputs : List Entry) (t : TransferData) (bytes : List ℕ) → TransferMayAsk c me t desk.state.number (after_outputs s outputs) → AsksNext c me t desk.state (after_outputs s outputs)
     → IsPosted c me (fetch_of t) (others c me) bytes → Pays me s desk.state due rest outputs bytes
-    → Fits c me s desk log due outputs → Fits c me s (record desk { transfer = Some t }) log rest (Sent me bytes ∷ outputs)
+    → BothFitWithinEvent c me s desk log due outputs → BothFitWithinEvent c me s (record desk { transfer = Some t }) log rest (Sent me bytes ∷ outputs)
 fetch_goes c me s desk log due rest outputs t bytes m next posted pays f =
     sent_goes c me s desk log log due rest outputs bytes desk.snapshots (Some t) f
     (may_send c me past (point_of desk f.of_desk.states f.of_desk.ran) (Sent me bytes) bytes (others c me) (fetch_of t) posted refl tt may (λ signed. absurd cc) (fetch_is_new c me past (point_of desk f.of_desk.states f.of_desk.ran) t.number t.asked.level t.asked.index bytes posted.says may)) fits
@@ -163,9 +163,9 @@ part_enters c me desk log past s message bytes f is h = record {
     none_asked _ p = absurd p
 
 -- so the event begins with the transfer that has the part
-enters : (c : Configuration) (me : ℕ) (desk : Desk) (log : LogData) (past : List Entry) (s : ℕ) (message : Message) (bytes : List ℕ) (open_one : Option TransferData) (held : Holds c me desk log past) → IsPart message
+enters : (c : Configuration) (me : ℕ) (desk : Desk) (log : LogData) (past : List Entry) (s : ℕ) (message : Message) (bytes : List ℕ) (open_one : Option TransferData) (held : BothFitBetweenEvents c me desk log past) → IsPart message
     → heard (members c) me bytes ≡ Some (record { sender = s; message = message }) → FitsOpenTransfer c me open_one desk.state.number (Got me bytes ∷ past)
-    → Fits c me (start_at c me desk log past held (Got me bytes)) (record desk { transfer = open_one }) log [] []
+    → BothFitWithinEvent c me (start_at c me desk log past held (Got me bytes)) (record desk { transfer = open_one }) log [] []
 enters c me desk log past s message bytes open_one held is h o =
     transfers_change c me (start_at c me desk log past held (Got me bytes)) desk log [] [] open_one o
     (inputs_fit c me desk desk log log [] past bytes held (none_taken c past (Got me bytes) (ap (option_and_then (new_view_from c)) h ∙ no_view message is))
@@ -193,7 +193,7 @@ pages_enter c me desk log past t s index text bytes held is asks h long known = 
 -- ---- which parts count
 
 -- the open transfer at the point of a history that fits
-open_there : (c : Configuration) (me : ℕ) (desk : Desk) (log : LogData) (past : List Entry) (t : TransferData) (held : Holds c me desk log past) → desk.transfer ≡ Some t → FitsOpenTransfer c me (Some t) held.of_desk.point.state.number past
+open_there : (c : Configuration) (me : ℕ) (desk : Desk) (log : LogData) (past : List Entry) (t : TransferData) (held : BothFitBetweenEvents c me desk log past) → desk.transfer ≡ Some t → FitsOpenTransfer c me (Some t) held.of_desk.point.state.number past
 open_there c me desk log past t held is =
     open_at c me desk t held.of_desk.point.state.number past is
     (subst (λ (st : State). FitsOpenTransfer c me desk.transfer st.number past) (sym (ap (λ (p : Point). p.state) held.of_desk.is)) held.of_desk.opened)

@@ -29,7 +29,7 @@ use Rattle.protocol.proofs.Words.Posting.{may_send}
 use Rattle.replica_histories.specs.Desk.{Desk, Snapshot, snapshot_of, kept_from, point_of}
 use Rattle.replica_histories.specs.Logs.{FitsLog, LogTakesBody}
 use Rattle.replica_histories.specs.Marks.{checked_log, BringsCheckpoint}
-use Rattle.replica_histories.specs.Events.{Start, after_outputs, IsOnItsWay, MaySayDue, FitsFrames, LowMarkIsReached, Fits, KeptAreAbove}
+use Rattle.replica_histories.specs.Events.{Start, after_outputs, IsOnItsWay, MaySayDue, FitsFrames, LowMarkIsReached, BothFitWithinEvent, KeptAreAbove}
 use Rattle.state_transfer.specs.Transfer.{TransferData}
 use Rattle.replica_histories.specs.Transfers.{FitsOpenTransfer}
 use Rattle.replica_histories.specs.TransfersQuorums.{BringsRoot}
@@ -88,7 +88,7 @@ signed_may_send c me past point e bytes message signed posted seen say leaf once
 
 -- A sent frame: the log changes, of the snapshots these stay, this transfer is open, and due messages may be paid.
 pub sent_goes : (c : Configuration) (me : ℕ) (s : Start) (desk : Desk) (log after : LogData) (due rest : List Message) (outputs : List Entry) (bytes : List ℕ) (snapshots : List Snapshot) (transfer : Option TransferData)
-    (f : Fits c me s desk log due outputs) → MaySend c me (after_outputs s outputs) (point_of desk f.of_desk.states f.of_desk.ran) (Sent me bytes) bytes
+    (f : BothFitWithinEvent c me s desk log due outputs) → MaySend c me (after_outputs s outputs) (point_of desk f.of_desk.states f.of_desk.ran) (Sent me bytes) bytes
     → FitsLog c me after (Sent me bytes ∷ after_outputs s outputs) → map snapshot_of (kept_states after.low f.of_desk.states) ≡ snapshots
     → LowMarkIsReached c me after.low desk.state.number rest (Sent me bytes ∷ after_outputs s outputs)
     → FitsOpenTransfer c me transfer desk.state.number (Sent me bytes ∷ after_outputs s outputs)
@@ -96,7 +96,7 @@ pub sent_goes : (c : Configuration) (me : ℕ) (s : Start) (desk : Desk) (log af
     → taken c (after_outputs s outputs) (Sent me bytes) ≡ None
     → Pays me s desk.state due rest outputs bytes
     → NumbersOnce c me (after_outputs s outputs) (Sent me bytes)
-    → Fits c me s (record desk { snapshots = snapshots; transfer = transfer }) after rest (Sent me bytes ∷ outputs)
+    → BothFitWithinEvent c me s (record desk { snapshots = snapshots; transfer = transfer }) after rest (Sent me bytes ∷ outputs)
 sent_goes c me s desk log after due rest outputs bytes snapshots transfer f may fits kept reached opened roots none pays once = record {
   of_desk = record {
     states = f.of_desk.states;
@@ -151,7 +151,7 @@ never_signed _ keeps h = absurd cc
 
 -- If the marks stay and no part is asked for, only the log and the due messages change.
 pub sent_fits : (c : Configuration) (me : ℕ) (s : Start) (desk : Desk) (log after : LogData) (due rest : List Message) (outputs : List Entry) (bytes receivers : List ℕ) (message : Message)
-    (f : Fits c me s desk log due outputs) → IsPosted c me message receivers bytes → IsFor c me (after_outputs s outputs) message receivers
+    (f : BothFitWithinEvent c me s desk log due outputs) → IsPosted c me message receivers bytes → IsFor c me (after_outputs s outputs) message receivers
     → Each (λ frame. Once (HasSeen frame) (after_outputs s outputs)) (carried message)
     → MaySay c me (after_outputs s outputs) (point_of desk f.of_desk.states f.of_desk.ran) (Sent me bytes) bytes message
     → KeepsView message → LogTakesBody c me (Some (record { sender = me; message = message })) log after → IsPlaced c me log (record { sender = me; message = message })
@@ -159,7 +159,7 @@ pub sent_fits : (c : Configuration) (me : ℕ) (s : Start) (desk : Desk) (log af
     → ((k : ℕ) (root : List ℕ) → BringsRoot c (after_outputs s outputs) (Sent me bytes) k root → k ≤ desk.state.number)
     → Pays me s desk.state due rest outputs bytes → (SentInEvent bytes (after_outputs s outputs) → ⊥)
     → NumbersOnce c me (after_outputs s outputs) (Sent me bytes)
-    → Fits c me s desk after rest (Sent me bytes ∷ outputs)
+    → BothFitWithinEvent c me s desk after rest (Sent me bytes ∷ outputs)
 sent_fits c me s desk log after due rest outputs bytes receivers message f posted for seen say keeps takes place none roots pays new once =
     sent_goes c me s desk log after due rest outputs bytes desk.snapshots desk.transfer f
     (may_send c me (after_outputs s outputs) (point_of desk f.of_desk.states f.of_desk.ran) (Sent me bytes) bytes receivers message posted for seen say (λ signed. never_signed message keeps signed) new)

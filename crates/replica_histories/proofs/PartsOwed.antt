@@ -23,7 +23,7 @@ use Rattle.state_transfer.specs.declared.place.Place.{Place}
 use Rattle.state_transfer.specs.Places.{page_place}
 use Rattle.state_transfer.specs.Transfer.{TransferData}
 use Rattle.replica_histories.specs.Desk.{Desk}
-use Rattle.replica_histories.specs.Events.{Holds}
+use Rattle.replica_histories.specs.Events.{BothFitBetweenEvents}
 use Rattle.replica_histories.specs.Fetching.{IsOther, OtherDigestsOweNone, OtherPagesOweNone, FetchesSuffice, FetchedSuffice}
 use Rattle.replica_histories.specs.Questions.{is_part, AnswersInput, OwesReadReply, AnswersWaiting, OwesViewChange}
 use Rattle.replica_histories.specs.Transfers.{FitsTransfer, FitsOpenTransfer, RestsOnState}
@@ -93,7 +93,7 @@ module _ (c : Configuration) (me : ℕ) (past : List Entry) (bytes : List ℕ) (
 
 -- ---- with the data of the desk
 
-module _ (c : Configuration) (me : ℕ) (desk : Desk) (log : LogData) (past : List Entry) (held : Holds c me desk log past) where
+module _ (c : Configuration) (me : ℕ) (desk : Desk) (log : LogData) (past : List Entry) (held : BothFitBetweenEvents c me desk log past) where
   abbrev point : Point
   point = held.of_desk.point
 

@@ -20,7 +20,7 @@ use Rattle.protocol.specs.Replica.Owed.{IsSaying, SendsMessage, IsBegunBelow, Se
 use Rattle.protocol.proofs.Words.Elements.{has_weaker, has_either, has_filter, has_reversed}
 use Rattle.replica_histories.specs.Desk.{Desk}
 use Rattle.replica_histories.specs.Logs.{FitsLog}
-use Rattle.replica_histories.specs.Events.{Holds}
+use Rattle.replica_histories.specs.Events.{BothFitBetweenEvents}
 use Rattle.replica_histories.specs.Changes.{Changes, FitsChanges, IsBegunUpTo}
 use Rattle.replica_histories.specs.Questions.{ordered_from}
 use Rattle.replica_histories.specs.Resending.{FrameGoes, RowGoes, ViewGoes, AllGoes, ResendingSuffices, WaitingAreNew}
@@ -52,7 +52,7 @@ sends_turned c me past executed outputs a = record {
 
 -- ---- from the replica's data
 
-module _ (c : Configuration) (me : ℕ) (desk : Desk) (log : LogData) (past outputs : List Entry) (x : Changes) (held : Holds c me desk log past) (fits : FitsChanges c me log x past) (all : AllGoes me log x desk.state.number outputs) where
+module _ (c : Configuration) (me : ℕ) (desk : Desk) (log : LogData) (past outputs : List Entry) (x : Changes) (held : BothFitBetweenEvents c me desk log past) (fits : FitsChanges c me log x past) (all : AllGoes me log x desk.state.number outputs) where
   f : FitsLog c me log past
   f = held.of_log.fits
 

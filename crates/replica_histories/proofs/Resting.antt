@@ -15,7 +15,7 @@ use Rattle.protocol.proofs.Words.Reacting.{one_of}
 use Rattle.protocol.proofs.Agreement.Voting.{logged_stays}
 use Rattle.replica_histories.specs.Logs.{FitsLog}
 use Rattle.replica_histories.specs.Desk.{Desk}
-use Rattle.replica_histories.specs.Events.{Fits, IsSettled, LeavesNoView, start_at, HeldAreSettled}
+use Rattle.replica_histories.specs.Events.{BothFitWithinEvent, IsSettled, LeavesNoView, start_at, HeldAreSettled}
 use Rattle.state_transfer.specs.Transfer.{TransferData}
 use Rattle.replica_histories.specs.Inputs.{again_due, InputsPass, TicksPass}
 use Rattle.replica_histories.proofs.Words.{given_not, marks_are, primary_same}
@@ -137,12 +137,12 @@ settled_goes c me desk log past e f g s = record {
 
 pub inputs_pass : InputsPass
 inputs_pass c me desk log past bytes held none e answered none_left =
-    let f : Fits c me (start_at c me desk log past held (Got me bytes)) desk log [] [] = inputs_fit c me desk desk log log [] past bytes held none e in
+    let f : BothFitWithinEvent c me (start_at c me desk log past held (Got me bytes)) desk log [] [] = inputs_fit c me desk desk log log [] past bytes held none e in
     events_end c me desk desk log log past [] (Got me bytes) held f (settled_goes c me desk log past (Got me bytes) held.of_log.fits f.of_log (held_are_settled c me desk log past held)) answered none_left refl (inl refl)
 
 pub ticks_pass : TicksPass
 ticks_pass c me desk log past held none answered none_left =
-    let f : Fits c me (start_at c me desk log past held (Tick me)) desk log [] [] =
-    subst (λ (o : Option TransferData). Fits c me (start_at c me desk log past held (Tick me)) desk log (again_due o) []) none (ticks_fit c me desk log past held) in
+    let f : BothFitWithinEvent c me (start_at c me desk log past held (Tick me)) desk log [] [] =
+    subst (λ (o : Option TransferData). BothFitWithinEvent c me (start_at c me desk log past held (Tick me)) desk log (again_due o) []) none (ticks_fit c me desk log past held) in
     events_end c me desk desk log log past [] (Tick me) held f (settled_goes c me desk log past (Tick me) held.of_log.fits f.of_log (held_are_settled c me desk log past held))
     answered none_left refl (inl refl)

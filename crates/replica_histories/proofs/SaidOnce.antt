@@ -28,7 +28,7 @@ use Rattle.protocol.proofs.Words.Temporal.{once_weaker, once_always, once_stays_
 use Rattle.protocol.proofs.Agreement.Voting.{RightAt, right_always}
 use Rattle.protocol.proofs.Agreement.Marks.{takes, view_grows}
 use Rattle.replica_histories.specs.Desk.{Desk, point_of}
-use Rattle.replica_histories.specs.Events.{Start, after_outputs, IsOnItsWay, MaySayDue, is_fetching, AreUnsaid, SaysOnce, Fits}
+use Rattle.replica_histories.specs.Events.{Start, after_outputs, IsOnItsWay, MaySayDue, is_fetching, AreUnsaid, SaysOnce, BothFitWithinEvent}
 use Rattle.replica_histories.specs.Outputs.{replies_to}
 use Rattle.replica_histories.proofs.Words.{apart, given_not}
 use Rattle.replica_histories.proofs.NumbersWaiting.{call_raises, frames_raise}
@@ -198,7 +198,7 @@ pub record Pays (me : ℕ) (s : Start) (st : State) (due rest : List Message) (o
 
 module _ (c : Configuration) (me : ℕ) (s : Start) (desk : Desk) (log : LogData) (outputs : List Entry) (message : Message) (bytes : List ℕ) (says : said bytes ≡ Some (record { sender = me; message = message })) where
   -- a frame of another kind pays nothing
-  pub pays_none : (due : List Message) → is_due_kind message ≡ false → Fits c me s desk log due outputs → Pays me s desk.state due due outputs bytes
+  pub pays_none : (due : List Message) → is_due_kind message ≡ false → BothFitWithinEvent c me s desk log due outputs → Pays me s desk.state due due outputs bytes
   pays_none due other f = record {
     paid = λ x h. inl h;
     fewer = λ x h. h;
@@ -217,7 +217,7 @@ module _ (c : Configuration) (me : ℕ) (s : Start) (desk : Desk) (log : LogData
       replies k kept (inr (inr before)) = f.says.replies k kept (inr before)
 
   -- its frame pays the first due message
-  pub pays_first : (rest : List Message) → Fits c me s desk log (message ∷ rest) outputs → Pays me s desk.state (message ∷ rest) rest outputs bytes
+  pub pays_first : (rest : List Message) → BothFitWithinEvent c me s desk log (message ∷ rest) outputs → Pays me s desk.state (message ∷ rest) rest outputs bytes
   pays_first rest f = record {
     paid = paid;
     fewer = λ x h. inr h;
@@ -241,7 +241,7 @@ module _ (c : Configuration) (me : ℕ) (s : Start) (desk : Desk) (log : LogData
       replies k kept (inr (inr before)) = f.says.replies k kept (inr before)
 
   -- a fetch that isn't due
-  pub pays_fetch : (due : List Message) → is_fetching message ≡ true → Fits c me s desk log due outputs → Pays me s desk.state due due outputs bytes
+  pub pays_fetch : (due : List Message) → is_fetching message ≡ true → BothFitWithinEvent c me s desk log due outputs → Pays me s desk.state due due outputs bytes
   pays_fetch due fetches f = record {
     paid = λ x h. inl h;
     fewer = λ x h. h;
@@ -259,7 +259,7 @@ module _ (c : Configuration) (me : ℕ) (s : Start) (desk : Desk) (log : LogData
       replies k kept (inr (inr before)) = f.says.replies k kept (inr before)
 
   -- if no message is due, a frame that is no reply to an ordered request
-  pub pays_alone : ((k : ℕ) (kept : Kept) → message ≡ reply_of k kept → ⊥) → Fits c me s desk log [] outputs → Pays me s desk.state [] [] outputs bytes
+  pub pays_alone : ((k : ℕ) (kept : Kept) → message ≡ reply_of k kept → ⊥) → BothFitWithinEvent c me s desk log [] outputs → Pays me s desk.state [] [] outputs bytes
   pays_alone none f = record {
     paid = λ x h. absurd h;
     fewer = λ x h. h;
@@ -272,7 +272,7 @@ module _ (c : Configuration) (me : ℕ) (s : Start) (desk : Desk) (log : LogData
       replies k kept (inr (inr before)) = f.says.replies k kept (inr before)
 
   -- the first due message, if it is no fetch, was not sent in the event
-  pub first_unsent : (rest : List Message) → is_fetching message ≡ false → Fits c me s desk log (message ∷ rest) outputs → SentInEvent bytes (after_outputs s outputs) → ⊥
+  pub first_unsent : (rest : List Message) → is_fetching message ≡ false → BothFitWithinEvent c me s desk log (message ∷ rest) outputs → SentInEvent bytes (after_outputs s outputs) → ⊥
   first_unsent rest other f = unsent me s message bytes outputs f.says.begins says (λ given. f.says.unsaid.0 other (inr given))
 
 -- a message that was sent in the event was said

@@ -15,7 +15,7 @@ use Rattle.protocol.specs.Replica.Owed.{SendsMessage, GivesTo, Counts}
 use Rattle.replica_histories.specs.Desk.{Desk, Snapshot}
 use Rattle.replica_histories.specs.TransfersAnswers.{answer_by}
 use Rattle.replica_histories.specs.Questions.{AnswersInput, read_from, read_reply}
-use Rattle.replica_histories.specs.Events.{Start, after_outputs, Fits, Holds}
+use Rattle.replica_histories.specs.Events.{Start, after_outputs, BothFitWithinEvent, BothFitBetweenEvents}
 
 -- The requested part of a kept snapshot may go to whoever asked, if the event has not sent it.
 abbrev pub PartsFit : Type 0
@@ -26,13 +26,13 @@ PartsFit =
     → WasAsked c me (after_outputs s outputs) asker snapshot.number level index
     → (SendsMessage me (answer_by snapshot.pages snapshot.number level index) outputs → ⊥)
     → IsPosted c me (answer_by snapshot.pages snapshot.number level index) (asker ∷ []) bytes
-    → Fits c me s desk log due outputs → Fits c me s desk log due (Sent me bytes ∷ outputs)
+    → BothFitWithinEvent c me s desk log due outputs → BothFitWithinEvent c me s desk log due (Sent me bytes ∷ outputs)
 
 -- A fetch of a kept snapshot's number counts.
 abbrev pub KeptFetchesCount : Type 0
 KeptFetchesCount =
     (c : Configuration) (me : ℕ) (desk : Desk) (log : LogData) (past : List Entry) (bytes : List ℕ) (asker k index : ℕ)
-    (level : Level) (held : Holds c me desk log past)
+    (level : Level) (held : BothFitBetweenEvents c me desk log past)
     → Has (λ x. x.number ≡ k) desk.snapshots → Counts c me past held.of_desk.point bytes asker (Fetch k level index)
 
 -- If the replica sends the snapshot's part, it owes nothing more to the fetch. If no snapshot has the number, it owes
@@ -41,7 +41,7 @@ abbrev pub PartsSuffice : Type 0
 PartsSuffice =
     (c : Configuration) (me : ℕ) (desk : Desk) (log : LogData) (past : List Entry) (input : Entry)
     (outputs : List Entry) (snapshot : Snapshot) (asker index executed : ℕ) (level : Level)
-    (held : Holds c me desk log past)
+    (held : BothFitBetweenEvents c me desk log past)
     → Has (λ x. x ≡ snapshot) desk.snapshots
     → Hears c me (record { sender = asker; message = Fetch snapshot.number level index }) past input
     → GivesTo me asker (answer_by snapshot.pages snapshot.number level index) outputs
@@ -50,7 +50,7 @@ PartsSuffice =
 abbrev pub OtherNumbersOweNone : Type 0
 OtherNumbersOweNone =
     (c : Configuration) (me : ℕ) (desk : Desk) (log : LogData) (past : List Entry) (input : Entry)
-    (outputs : List Entry) (asker k index executed : ℕ) (level : Level) (held : Holds c me desk log past)
+    (outputs : List Entry) (asker k index executed : ℕ) (level : Level) (held : BothFitBetweenEvents c me desk log past)
     → Hears c me (record { sender = asker; message = Fetch k level index }) past input
     → (Has (λ x. x.number ≡ k) desk.snapshots → ⊥)
     → AnswersInput c me past input outputs held.of_desk.point executed
@@ -63,13 +63,14 @@ ReadsFit =
     → Once (Hears c me (read_from client timestamp op)) (after_outputs s outputs) → is_read_only op ≡ true
     → (SendsMessage me (read_reply desk.state client timestamp op) outputs → ⊥)
     → IsPosted c me (read_reply desk.state client timestamp op) (client ∷ []) bytes
-    → Fits c me s desk log due outputs → Fits c me s desk log due (Sent me bytes ∷ outputs)
+    → BothFitWithinEvent c me s desk log due outputs → BothFitWithinEvent c me s desk log due (Sent me bytes ∷ outputs)
 
 -- If the replica sends it, it owes nothing more to the read. It owes nothing to an operation that is no read.
 abbrev pub ReadsSuffice : Type 0
 ReadsSuffice =
     (c : Configuration) (me : ℕ) (desk : Desk) (log : LogData) (past : List Entry) (input : Entry)
-    (outputs : List Entry) (client timestamp executed : ℕ) (op : Operation) (held : Holds c me desk log past)
+    (outputs : List Entry) (client timestamp executed : ℕ) (op : Operation)
+    (held : BothFitBetweenEvents c me desk log past)
     → Hears c me (read_from client timestamp op) past input
     → SendsMessage me (read_reply desk.state client timestamp op) outputs
     → AnswersInput c me past input outputs held.of_desk.point executed
@@ -77,6 +78,7 @@ ReadsSuffice =
 abbrev pub OtherOperationsOweNone : Type 0
 OtherOperationsOweNone =
     (c : Configuration) (me : ℕ) (desk : Desk) (log : LogData) (past : List Entry) (input : Entry)
-    (outputs : List Entry) (client timestamp executed : ℕ) (op : Operation) (held : Holds c me desk log past)
+    (outputs : List Entry) (client timestamp executed : ℕ) (op : Operation)
+    (held : BothFitBetweenEvents c me desk log past)
     → Hears c me (read_from client timestamp op) past input → is_read_only op ≡ false
     → AnswersInput c me past input outputs held.of_desk.point executed

@@ -21,7 +21,7 @@ use Rattle.claims.specs.Recording.{with_prepared, with_logged, with_all, above_m
 use Rattle.view_change.specs.ReceivedData.{HeldData, held_of, view_change_refusal, with_held}
 use Rattle.replica_histories.specs.Desk.{Desk}
 use Rattle.replica_histories.specs.Logs.{FitsLog}
-use Rattle.replica_histories.specs.Events.{Start, after_outputs, Fits, Holds, start_at}
+use Rattle.replica_histories.specs.Events.{Start, after_outputs, BothFitWithinEvent, BothFitBetweenEvents, start_at}
 use Rattle.replica_histories.specs.Claims.{FitsClaims}
 use Rattle.replica_histories.specs.Received.{FitsReceived}
 use Rattle.replica_histories.specs.Views.{begun_log}
@@ -118,26 +118,27 @@ pub record FitsChanges (c : Configuration) (me : ℕ) (log : LogData) (x : Chang
 -- The logs fit the histories before and after the entry, and the replica came to both.
 pub record LogPassesEntry (c : Configuration) (me : ℕ) (past : List Entry) (e : Entry) (log after : LogData) : Type 0
   where
-  pub old : Point
-  pub new : Point
-  pub leaves : HistoryReaches c me past old
-  pub goes : HistoryReaches c me (e ∷ past) new
-  pub fits : FitsLog c me log past
-  pub fits_behind : FitsLog c me after (e ∷ past)
+    pub old : Point
+    pub new : Point
+    pub leaves : HistoryReaches c me past old
+    pub goes : HistoryReaches c me (e ∷ past) new
+    pub fits : FitsLog c me log past
+    pub fits_behind : FitsLog c me after (e ∷ past)
 
 -- The same at each output of an event, and at its input.
 abbrev pub OutputsPass : Type 0
 OutputsPass =
     (c : Configuration) (me : ℕ) (s : Start) (desk later : Desk) (log after : LogData) (due rest : List Message)
     (outputs : List Entry) (e : Entry)
-    → Fits c me s desk log due outputs → Fits c me s later after rest (e ∷ outputs)
+    → BothFitWithinEvent c me s desk log due outputs → BothFitWithinEvent c me s later after rest (e ∷ outputs)
     → LogPassesEntry c me (after_outputs s outputs) e log after
 
 abbrev pub InputsEnter : Type 0
 InputsEnter =
     (c : Configuration) (me : ℕ) (desk later : Desk) (log after : LogData) (due : List Message) (past : List Entry)
-    (input : Entry) (held : Holds c me desk log past)
-    → Fits c me (start_at c me desk log past held input) later after due [] → LogPassesEntry c me past input log after
+    (input : Entry) (held : BothFitBetweenEvents c me desk log past)
+    → BothFitWithinEvent c me (start_at c me desk log past held input) later after due []
+    → LogPassesEntry c me past input log after
 
 -- the log is in the same view, and active or inactive as before
 pub record IsSameView (old new : LogData) : Type 0 where

@@ -77,7 +77,7 @@ FitsSnapshots c me desk states history = map snapshot_of (kept_states (low c me 
 
 -- The desk fits the history after the outputs. The points lead there, the open transfer has the parts that were
 -- received, and what the event owes was sent or is due.
-pub record FitsDesk (c : Configuration) (me : ℕ) (s : Start) (desk : Desk) (due : List Message)
+pub record DeskFitsWithinEvent (c : Configuration) (me : ℕ) (s : Start) (desk : Desk) (due : List Message)
     (outputs : List Entry) : Type 0 where
   pub states : List State
   pub ran : List Ran
@@ -110,9 +110,10 @@ LowMarkIsReached c me mark number due history =
 
 -- Desk and log fit the history after the outputs, each on its own. The low mark is reached, no request was numbered
 -- twice, and nothing is sent twice.
-pub record Fits (c : Configuration) (me : ℕ) (s : Start) (desk : Desk) (log : LogData) (due : List Message)
+pub record BothFitWithinEvent (c : Configuration) (me : ℕ) (s : Start) (desk : Desk) (log : LogData)
+    (due : List Message)
     (outputs : List Entry) : Type 0 where
-  pub of_desk : FitsDesk c me s desk due outputs
+  pub of_desk : DeskFitsWithinEvent c me s desk due outputs
   pub of_log : FitsLog c me log (after_outputs s outputs)
   pub low : LowMarkIsReached c me log.low desk.state.number due (after_outputs s outputs)
   pub once : AtEach (NumbersOnce c me) s outputs
@@ -147,7 +148,7 @@ IsTaken c me s = elim s.input [
 
 -- The desk fits a correct replica's history at the end of an event: its transfer has the parts that were received, and
 -- the state of each quorum of checkpoints above the executed number was fetched.
-pub record HoldsDesk (c : Configuration) (me : ℕ) (desk : Desk) (history : List Entry) : Type 0 where
+pub record DeskFitsBetweenEvents (c : Configuration) (me : ℕ) (desk : Desk) (history : List Entry) : Type 0 where
   pub point : Point
   pub proceeds : HistoryIsPrompt c me history [] point point
   pub is : point ≡ point_of desk point.snapshots point.ran
@@ -157,20 +158,21 @@ pub record HoldsDesk (c : Configuration) (me : ℕ) (desk : Desk) (history : Lis
   pub fetches : QuorumsFetched c desk.state.number history
 
 -- The log fits the same history, and asks for no vote. It knows no point and no state.
-pub record HoldsLog (c : Configuration) (me : ℕ) (log : LogData) (history : List Entry) : Type 0 where
+pub record LogFitsBetweenEvents (c : Configuration) (me : ℕ) (log : LogData) (history : List Entry) : Type 0 where
   pub fits : FitsLog c me log history
   pub prepares : (i : ℕ) → logs.due_prepare log i ≡ None
   pub commits : (i : ℕ) → logs.due_commit log i ≡ None
 
 -- Desk and log fit one history, and the low mark is reached.
-pub record Holds (c : Configuration) (me : ℕ) (desk : Desk) (log : LogData) (history : List Entry) : Type 0 where
-  pub of_desk : HoldsDesk c me desk history
-  pub of_log : HoldsLog c me log history
+pub record BothFitBetweenEvents (c : Configuration) (me : ℕ) (desk : Desk) (log : LogData)
+    (history : List Entry) : Type 0 where
+  pub of_desk : DeskFitsBetweenEvents c me desk history
+  pub of_log : LogFitsBetweenEvents c me log history
   pub low : LowMarkIsReached c me log.low desk.state.number [] history
 
 -- the start of an event after a history that they fit
 abbrev pub start_at : (c : Configuration) (me : ℕ) (desk : Desk) (log : LogData) (past : List Entry)
-    → Holds c me desk log past → Entry → Start
+    → BothFitBetweenEvents c me desk log past → Entry → Start
 start_at c me desk log past held input = record { before = past; input = input; old = held.of_desk.point }
 
 -- ---- laws
@@ -180,19 +182,20 @@ start_at c me desk log past held input = record { before = past; input = input; 
 abbrev pub EventsEnd : Type 0
 EventsEnd =
     (c : Configuration) (me : ℕ) (desk new : Desk) (log after : LogData) (past outputs : List Entry) (input : Entry)
-    (held : Holds c me desk log past)
-    → Fits c me (start_at c me desk log past held input) new after [] outputs
+    (held : BothFitBetweenEvents c me desk log past)
+    → BothFitWithinEvent c me (start_at c me desk log past held input) new after [] outputs
     → IsSettled c me new after (outputs ++ input ∷ past)
     → AnswersInput c me past input outputs held.of_desk.point new.state.number
     → LeavesNoView c me (outputs ++ input ∷ past)
     → is_output input ≡ false
     → (outputs ≡ []) ⊎ IsTaken c me (start_at c me desk log past held input)
-    → Holds c me new after (outputs ++ input ∷ past)
+    → BothFitBetweenEvents c me new after (outputs ++ input ∷ past)
 
 -- Between events the replica owes nothing.
 abbrev pub HeldAreSettled : Type 0
 HeldAreSettled =
-    (c : Configuration) (me : ℕ) (desk : Desk) (log : LogData) (history : List Entry) → Holds c me desk log history
+    (c : Configuration) (me : ℕ) (desk : Desk) (log : LogData) (history : List Entry)
+    → BothFitBetweenEvents c me desk log history
     → IsSettled c me desk log history
 
 -- No kept snapshot is below the low mark.

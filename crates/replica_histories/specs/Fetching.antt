@@ -22,7 +22,7 @@ use Rattle.state_transfer.specs.Transfer.{TransferData, wanted, with_digests, wi
 use Rattle.replica_histories.specs.Desk.{Desk}
 use Rattle.replica_histories.specs.Transfers.{TransferMayAsk, AsksNext, FitsOpenTransfer, RestsOnState, transfer_to, open_number}
 use Rattle.replica_histories.specs.Questions.{is_part, AnswersInput}
-use Rattle.replica_histories.specs.Events.{Start, after_outputs, Fits, Holds, start_at}
+use Rattle.replica_histories.specs.Events.{Start, after_outputs, BothFitWithinEvent, BothFitBetweenEvents, start_at}
 use Rattle.replica_histories.specs.Inputs.{fetch_due}
 
 -- ---- a fetch
@@ -36,8 +36,8 @@ FetchesFit =
     → TransferMayAsk c me t desk.state.number (after_outputs s outputs)
     → AsksNext c me t desk.state (after_outputs s outputs)
     → IsPosted c me (Fetch t.number t.asked.level t.asked.index) (others c me) bytes
-    → Fits c me s desk log due outputs
-    → Fits c me s (record desk { transfer = Some t }) log due (Sent me bytes ∷ outputs)
+    → BothFitWithinEvent c me s desk log due outputs
+    → BothFitWithinEvent c me s (record desk { transfer = Some t }) log due (Sent me bytes ∷ outputs)
 
 abbrev pub DueFetchesFit : Type 0
 DueFetchesFit =
@@ -46,8 +46,8 @@ DueFetchesFit =
     → TransferMayAsk c me t desk.state.number (after_outputs s outputs)
     → AsksNext c me t desk.state (after_outputs s outputs)
     → IsPosted c me (Fetch t.number t.asked.level t.asked.index) (others c me) bytes
-    → Fits c me s desk log (Fetch t.number t.asked.level t.asked.index ∷ rest) outputs
-    → Fits c me s (record desk { transfer = Some t }) log rest (Sent me bytes ∷ outputs)
+    → BothFitWithinEvent c me s desk log (Fetch t.number t.asked.level t.asked.index ∷ rest) outputs
+    → BothFitWithinEvent c me s (record desk { transfer = Some t }) log rest (Sent me bytes ∷ outputs)
 
 -- If a quorum of the log's checkpoints is above the executed state and the open transfer, a transfer to it may ask: a
 -- new one, or the open one, moved.
@@ -57,7 +57,7 @@ QuorumsMayAsk =
     (entry : CheckpointEntry) (pages : List (List ℕ))
     → 2 * log.faults + 1 ≤ logs.count_checkpoints log entry → log.low < entry.number
     → open_number desk.state.number desk.transfer < entry.number
-    → Fits c me s desk log due outputs
+    → BothFitWithinEvent c me s desk log due outputs
     → TransferMayAsk c me (transfer_to desk.transfer entry.number entry.digest pages) desk.state.number
     (after_outputs s outputs)
     × AsksNext c me (transfer_to desk.transfer entry.number entry.digest pages) desk.state (after_outputs s outputs)
@@ -66,7 +66,7 @@ QuorumsMayAsk =
 abbrev pub HeldOweNoFetch : Type 0
 HeldOweNoFetch =
     (c : Configuration) (me : ℕ) (desk : Desk) (log : LogData) (past : List Entry) (entry : CheckpointEntry)
-    → Holds c me desk log past → fetch_due desk log entry ≡ []
+    → BothFitBetweenEvents c me desk log past → fetch_due desk log entry ≡ []
 
 -- ---- a part arrives
 
@@ -75,12 +75,12 @@ HeldOweNoFetch =
 abbrev pub DigestsEnter : Type 0
 DigestsEnter =
     (c : Configuration) (me : ℕ) (desk : Desk) (log : LogData) (past : List Entry) (t : TransferData) (s : ℕ)
-    (place : Place) (digests : List (List ℕ)) (bytes : List ℕ) (held : Holds c me desk log past)
+    (place : Place) (digests : List (List ℕ)) (bytes : List ℕ) (held : BothFitBetweenEvents c me desk log past)
     → desk.transfer ≡ Some t
     → heard (members c) me bytes
     ≡ Some (record { sender = s; message = Meta t.number place.level place.index digests })
     → wanted t place ≡ Some (digest_of_children digests)
-    → Fits c me (start_at c me desk log past held (Got me bytes))
+    → BothFitWithinEvent c me (start_at c me desk log past held (Got me bytes))
     (record desk { transfer = Some (with_digests t place digests) }) log [] []
     × TransferMayAsk c me (with_digests t place digests) desk.state.number (Got me bytes ∷ past)
 
@@ -89,25 +89,25 @@ DigestsEnter =
 abbrev pub PagesEnter : Type 0
 PagesEnter =
     (c : Configuration) (me : ℕ) (desk : Desk) (log : LogData) (past : List Entry) (t : TransferData) (s index : ℕ)
-    (text bytes : List ℕ) (held : Holds c me desk log past)
+    (text bytes : List ℕ) (held : BothFitBetweenEvents c me desk log past)
     → desk.transfer ≡ Some t → t.asked ≡ page_place index
     → heard (members c) me bytes ≡ Some (record { sender = s; message = Page t.number index text })
     → length t.held ≡ PAGES → length t.fetched ≡ PAGES
-    → Fits c me (start_at c me desk log past held (Got me bytes)) desk log [] []
+    → BothFitWithinEvent c me (start_at c me desk log past held (Got me bytes)) desk log [] []
     × TransferMayAsk c me (with_page t index text) desk.state.number (Got me bytes ∷ past)
 
 -- Digests, or a page, count if the open transfer asked for them and they have the wanted digest.
 abbrev pub AskedDigestsCount : Type 0
 AskedDigestsCount =
     (c : Configuration) (me : ℕ) (desk : Desk) (log : LogData) (past : List Entry) (t : TransferData) (s : ℕ)
-    (place : Place) (digests : List (List ℕ)) (bytes : List ℕ) (held : Holds c me desk log past)
+    (place : Place) (digests : List (List ℕ)) (bytes : List ℕ) (held : BothFitBetweenEvents c me desk log past)
     → desk.transfer ≡ Some t → t.asked ≡ place → wanted t place ≡ Some (digest_of_children digests)
     → Counts c me past held.of_desk.point bytes s (Meta t.number place.level place.index digests)
 
 abbrev pub AskedPagesCount : Type 0
 AskedPagesCount =
     (c : Configuration) (me : ℕ) (desk : Desk) (log : LogData) (past : List Entry) (t : TransferData) (s index : ℕ)
-    (text bytes : List ℕ) (held : Holds c me desk log past)
+    (text bytes : List ℕ) (held : BothFitBetweenEvents c me desk log past)
     → desk.transfer ≡ Some t → t.asked ≡ page_place index → wanted t (page_place index) ≡ Some (sha256 text)
     → Counts c me past held.of_desk.point bytes s (Page t.number index text)
 
@@ -123,7 +123,7 @@ IsOther t number place digest =
 abbrev pub OtherDigestsOweNone : Type 0
 OtherDigestsOweNone =
     (c : Configuration) (me : ℕ) (desk : Desk) (log : LogData) (past : List Entry) (s k executed : ℕ) (place : Place)
-    (digests : List (List ℕ)) (bytes : List ℕ) (outputs : List Entry) (held : Holds c me desk log past)
+    (digests : List (List ℕ)) (bytes : List ℕ) (outputs : List Entry) (held : BothFitBetweenEvents c me desk log past)
     → heard (members c) me bytes ≡ Some (record { sender = s; message = Meta k place.level place.index digests })
     → ForSome desk.transfer (λ t. IsOther t k place (digest_of_children digests))
     → AnswersInput c me past (Got me bytes) outputs held.of_desk.point executed
@@ -131,7 +131,7 @@ OtherDigestsOweNone =
 abbrev pub OtherPagesOweNone : Type 0
 OtherPagesOweNone =
     (c : Configuration) (me : ℕ) (desk : Desk) (log : LogData) (past : List Entry) (s k index executed : ℕ)
-    (text bytes : List ℕ) (outputs : List Entry) (held : Holds c me desk log past)
+    (text bytes : List ℕ) (outputs : List Entry) (held : BothFitBetweenEvents c me desk log past)
     → heard (members c) me bytes ≡ Some (record { sender = s; message = Page k index text })
     → ForSome desk.transfer (λ t. IsOther t k (page_place index) (sha256 text))
     → AnswersInput c me past (Got me bytes) outputs held.of_desk.point executed
@@ -140,7 +140,7 @@ OtherPagesOweNone =
 abbrev pub FetchesSuffice : Type 0
 FetchesSuffice =
     (c : Configuration) (me : ℕ) (desk : Desk) (log : LogData) (past : List Entry) (t : TransferData) (body : Body)
-    (bytes : List ℕ) (outputs : List Entry) (executed : ℕ) (held : Holds c me desk log past)
+    (bytes : List ℕ) (outputs : List Entry) (executed : ℕ) (held : BothFitBetweenEvents c me desk log past)
     → desk.transfer ≡ Some t → heard (members c) me bytes ≡ Some body → is_part body ≡ true
     → Has (λ e. fetch_sent e ≡ t.number) outputs
     → AnswersInput c me past (Got me bytes) outputs held.of_desk.point executed
@@ -155,7 +155,7 @@ TransferReachesState old t executed =
 abbrev pub FetchedSuffice : Type 0
 FetchedSuffice =
     (c : Configuration) (me : ℕ) (desk : Desk) (log : LogData) (past : List Entry) (t new : TransferData) (body : Body)
-    (bytes : List ℕ) (outputs : List Entry) (executed : ℕ) (held : Holds c me desk log past)
+    (bytes : List ℕ) (outputs : List Entry) (executed : ℕ) (held : BothFitBetweenEvents c me desk log past)
     → desk.transfer ≡ Some t → heard (members c) me bytes ≡ Some body → is_part body ≡ true
     → new.number ≡ t.number → TransferMayAsk c me new desk.state.number (Got me bytes ∷ past)
     → RestsOnState new desk.state
@@ -170,4 +170,5 @@ TransfersChange =
     (c : Configuration) (me : ℕ) (s : Start) (desk : Desk) (log : LogData) (due : List Message) (outputs : List Entry)
     (open_one : Option TransferData)
     → FitsOpenTransfer c me open_one desk.state.number (after_outputs s outputs)
-    → Fits c me s desk log due outputs → Fits c me s (record desk { transfer = open_one }) log due outputs
+    → BothFitWithinEvent c me s desk log due outputs
+    → BothFitWithinEvent c me s (record desk { transfer = open_one }) log due outputs

@@ -6,7 +6,7 @@ use Rattle.protocol.specs.System.Trace.{Entry}
 use Rattle.protocol.specs.Replica.State.{opening}
 use Rattle.protocol.specs.Replica.Owed.{IsReplica}
 use Rattle.replica_histories.specs.Desk.{Desk, snapshot_of}
-use Rattle.replica_histories.specs.Events.{Holds}
+use Rattle.replica_histories.specs.Events.{BothFitBetweenEvents}
 
 -- the opening state alone
 abbrev pub first_desk : Desk
@@ -22,10 +22,11 @@ first_desk = record {
 abbrev pub FirstHold : Type 0
 FirstHold =
     (c : Configuration) (me : ℕ) → 1 ≤ c.faults → c.faults ≤ 3 → me < replicas c → span c ≤ 32
-    → Holds c me first_desk (new_log me c.faults (span c)) []
+    → BothFitBetweenEvents c me first_desk (new_log me c.faults (span c)) []
 
 -- A history that desk and log fit is that of a correct replica.
 abbrev pub HeldAreReplicas : Type 0
 HeldAreReplicas =
-    (c : Configuration) (me : ℕ) (desk : Desk) (log : LogData) (history : List Entry) → Holds c me desk log history
+    (c : Configuration) (me : ℕ) (desk : Desk) (log : LogData) (history : List Entry)
+    → BothFitBetweenEvents c me desk log history
     → IsReplica c me history

@@ -30,7 +30,7 @@ use Rattle.replica_histories.specs.Logs.{FitsLog, LogTakesBody}
 use Rattle.replica_histories.specs.Marks.{checked_log}
 use Rattle.replica_histories.specs.Transfers.{open_number}
 use Rattle.replica_histories.specs.Questions.{AnswersInput}
-use Rattle.replica_histories.specs.Events.{Fits, LeavesNoView, Holds, start_at}
+use Rattle.replica_histories.specs.Events.{BothFitWithinEvent, LeavesNoView, BothFitBetweenEvents, start_at}
 
 -- ---- what a request asks for
 
@@ -70,9 +70,9 @@ pub record BytesEnter (c : Configuration) (me : ℕ) (bytes : List ℕ) (desk ne
 abbrev pub InputsFit : Type 0
 InputsFit =
     (c : Configuration) (me : ℕ) (desk new : Desk) (log after : LogData) (due : List Message) (past : List Entry)
-    (bytes : List ℕ) (held : Holds c me desk log past)
+    (bytes : List ℕ) (held : BothFitBetweenEvents c me desk log past)
     → taken c past (Got me bytes) ≡ None → BytesEnter c me bytes desk new log after due
-    → Fits c me (start_at c me desk log past held (Got me bytes)) new after due []
+    → BothFitWithinEvent c me (start_at c me desk log past held (Got me bytes)) new after due []
 
 -- A fetch is due if a quorum without the replica itself has sent the checkpoint, and its number is above the executed
 -- state and the open transfer.
@@ -88,10 +88,11 @@ fetch_due desk log entry =
 abbrev pub CheckpointsEnter : Type 0
 CheckpointsEnter =
     (c : Configuration) (me : ℕ) (desk : Desk) (log : LogData) (past : List Entry) (s : ℕ) (entry : CheckpointEntry)
-    (bytes : List ℕ) (held : Holds c me desk log past)
+    (bytes : List ℕ) (held : BothFitBetweenEvents c me desk log past)
     → heard (members c) me bytes ≡ Some (record { sender = s; message = Checkpoint entry.number entry.digest })
     → checkpoint_fault log s entry.number entry.digest ≡ None
-    → Fits c me (start_at c me desk log past held (Got me bytes)) (desk_from (checked_log log s entry).low desk)
+    → BothFitWithinEvent c me (start_at c me desk log past held (Got me bytes))
+    (desk_from (checked_log log s entry).low desk)
     (checked_log log s entry) (fetch_due desk (logs.with_checkpoint_of log s entry) entry) []
 
 -- The fetch of an open transfer's place is due again.
@@ -101,8 +102,9 @@ again_due transfer = option_map_or (λ t. Fetch t.number t.asked.level t.asked.i
 -- A tick begins an event, and alone changes nothing. It makes the last fetch due again.
 abbrev pub TicksFit : Type 0
 TicksFit =
-    (c : Configuration) (me : ℕ) (desk : Desk) (log : LogData) (past : List Entry) (held : Holds c me desk log past)
-    → Fits c me (start_at c me desk log past held (Tick me)) desk log (again_due desk.transfer) []
+    (c : Configuration) (me : ℕ) (desk : Desk) (log : LogData) (past : List Entry)
+    (held : BothFitBetweenEvents c me desk log past)
+    → BothFitWithinEvent c me (start_at c me desk log past held (Tick me)) desk log (again_due desk.transfer) []
 
 -- ---- which messages count
 
@@ -151,7 +153,7 @@ CheckpointsCount =
 abbrev pub RequestsCount : Type 0
 RequestsCount =
     (c : Configuration) (me : ℕ) (desk : Desk) (log : LogData) (past : List Entry) (bytes : List ℕ) (k timestamp : ℕ)
-    (op : Operation) (held : Holds c me desk log past)
+    (op : Operation) (held : BothFitBetweenEvents c me desk log past)
     → ((kept : Kept) × (kept_of desk.state k ≡ Some kept) × (kept.timestamp ≡ timestamp))
     ⊎ ((last_time desk.state k < timestamp) × IsNoOlder desk.waiting k timestamp op)
     → Counts c me past held.of_desk.point bytes (client_party k) (Request timestamp modes.Ordered op)
@@ -222,15 +224,15 @@ OthersDrop =
 abbrev pub InputsPass : Type 0
 InputsPass =
     (c : Configuration) (me : ℕ) (desk : Desk) (log : LogData) (past : List Entry) (bytes : List ℕ)
-    (held : Holds c me desk log past)
+    (held : BothFitBetweenEvents c me desk log past)
     → taken c past (Got me bytes) ≡ None → BytesEnter c me bytes desk desk log log []
     → AnswersInput c me past (Got me bytes) [] held.of_desk.point desk.state.number
     → LeavesNoView c me (Got me bytes ∷ past)
-    → Holds c me desk log (Got me bytes ∷ past)
+    → BothFitBetweenEvents c me desk log (Got me bytes ∷ past)
 
 abbrev pub TicksPass : Type 0
 TicksPass =
     (c : Configuration) (me : ℕ) (desk : Desk) (log : LogData) (past : List Entry)
-    (held : Holds c me desk log past) → desk.transfer ≡ None
+    (held : BothFitBetweenEvents c me desk log past) → desk.transfer ≡ None
     → AnswersInput c me past (Tick me) [] held.of_desk.point desk.state.number → LeavesNoView c me (Tick me ∷ past)
-    → Holds c me desk log (Tick me ∷ past)
+    → BothFitBetweenEvents c me desk log (Tick me ∷ past)

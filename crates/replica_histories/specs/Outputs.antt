@@ -22,7 +22,7 @@ use Rattle.state_transfer.specs.Transfer.{TransferData}
 use Rattle.replica_histories.specs.Desk.{Desk, Snapshot, snapshot_of, kept_from, desk_from}
 use Rattle.replica_histories.specs.Marks.{checked_log}
 use Rattle.replica_histories.specs.Transfers.{RestsOnState, TransferMayAsk, still_open}
-use Rattle.replica_histories.specs.Events.{Start, after_outputs, Fits}
+use Rattle.replica_histories.specs.Events.{Start, after_outputs, BothFitWithinEvent}
 
 -- ---- votes
 
@@ -33,7 +33,8 @@ PreparesFit =
     (i : ℕ) (digest bytes : List ℕ) (vote : Vote)
     → logs.due_prepare log i ≡ Some digest → vote.sender.0 ≡ me → vote.digest ≡ digest
     → IsPosted c me (Prepare log.view i digest) (others c me) bytes
-    → Fits c me s desk log due outputs → Fits c me s desk (logs.with_prepare log i vote) due (Sent me bytes ∷ outputs)
+    → BothFitWithinEvent c me s desk log due outputs
+    → BothFitWithinEvent c me s desk (logs.with_prepare log i vote) due (Sent me bytes ∷ outputs)
 
 -- The commit that the log asks for.
 abbrev pub CommitsFit : Type 0
@@ -42,7 +43,8 @@ CommitsFit =
     (i : ℕ) (digest bytes : List ℕ) (vote : Vote)
     → logs.due_commit log i ≡ Some digest → vote.sender.0 ≡ me → vote.digest ≡ digest
     → IsPosted c me (Commit log.view i digest) (others c me) bytes
-    → Fits c me s desk log due outputs → Fits c me s desk (logs.with_commit log i vote) due (Sent me bytes ∷ outputs)
+    → BothFitWithinEvent c me s desk log due outputs
+    → BothFitWithinEvent c me s desk (logs.with_commit log i vote) due (Sent me bytes ∷ outputs)
 
 -- ---- a batch of the primary's own
 
@@ -66,7 +68,8 @@ BatchesFit =
     (i : ℕ) (batch bytes : List ℕ)
     → MayNumber c me desk log (after_outputs s outputs) i batch
     → IsPosted c me (PrePrepare log.view i batch) (others c me) bytes
-    → Fits c me s desk log due outputs → Fits c me s desk (logs.with_batch log i batch) due (Sent me bytes ∷ outputs)
+    → BothFitWithinEvent c me s desk log due outputs
+    → BothFitWithinEvent c me s desk (logs.with_batch log i batch) due (Sent me bytes ∷ outputs)
 
 -- ---- executions and replies
 
@@ -102,8 +105,8 @@ ExecutesFit =
     → IsReplicatedState desk.state → c.clients ≤ MAX_CLIENTS
     → logs.committed_batch log (suc desk.state.number) ≡ Some batch
     → ((frame : List ℕ) → Has (λ x. x ≡ frame) frames → Has (λ x. x ≡ frame) desk.frames)
-    → Fits c me s desk log [] outputs
-    → Fits c me s (executed_desk c desk batch frames) log
+    → BothFitWithinEvent c me s desk log [] outputs
+    → BothFitWithinEvent c me s (executed_desk c desk batch frames) log
     (replies_to (ran_in c (suc desk.state.number) desk.state (requests_of batch))
     ++ checkpoint_due c (execute c desk.state batch))
     (Executed me (suc desk.state.number) batch ∷ outputs)
@@ -114,7 +117,8 @@ RepliesFit =
     (c : Configuration) (me : ℕ) (s : Start) (desk : Desk) (log : LogData) (rest : List Message) (outputs : List Entry)
     (k : ℕ) (kept : Kept) (bytes : List ℕ)
     → IsPosted c me (reply_of k kept) (client_party k ∷ []) bytes
-    → Fits c me s desk log (reply_of k kept ∷ rest) outputs → Fits c me s desk log rest (Sent me bytes ∷ outputs)
+    → BothFitWithinEvent c me s desk log (reply_of k kept ∷ rest) outputs
+    → BothFitWithinEvent c me s desk log rest (Sent me bytes ∷ outputs)
 
 -- ---- checkpoints
 
@@ -126,8 +130,8 @@ CheckpointsFit =
     (entry : CheckpointEntry) (bytes : List ℕ)
     → ((i : ℕ) → logs.due_prepare log i ≡ None) → ((i : ℕ) → logs.due_commit log i ≡ None)
     → IsPosted c me (Checkpoint entry.number entry.digest) (others c me) bytes
-    → Fits c me s desk log (Checkpoint entry.number entry.digest ∷ rest) outputs
-    → Fits c me s (desk_from (checked_log log me entry).low desk) (checked_log log me entry) rest
+    → BothFitWithinEvent c me s desk log (Checkpoint entry.number entry.digest ∷ rest) outputs
+    → BothFitWithinEvent c me s (desk_from (checked_log log me entry).low desk) (checked_log log me entry) rest
     (Sent me bytes ∷ outputs)
 
 -- ---- installations
@@ -156,8 +160,8 @@ InstallationsFit =
     → ((i : ℕ) → logs.due_prepare log i ≡ None)
     → ((i : ℕ) → logs.due_commit log i ≡ None)
     → ((frame : List ℕ) → Has (λ x. x ≡ frame) frames → Has (λ x. x ≡ frame) desk.frames)
-    → Fits c me s desk log [] outputs
-    → Fits c me s (installed_desk desk st frames) (logs.cut_to log t.number) []
+    → BothFitWithinEvent c me s desk log [] outputs
+    → BothFitWithinEvent c me s (installed_desk desk st frames) (logs.cut_to log t.number) []
     (Installed me t.number t.root ∷ outputs)
 
 -- ---- what the replica sends again
@@ -172,7 +176,7 @@ PreparesGoAgain =
     → log.active ≡ true → logs.prepare_of log i me ≡ Some digest
     → (SendsMessage me (Prepare log.view i digest) outputs → ⊥)
     → IsPosted c me (Prepare log.view i digest) (others c me) bytes
-    → Fits c me s desk log due outputs → Fits c me s desk log due (Sent me bytes ∷ outputs)
+    → BothFitWithinEvent c me s desk log due outputs → BothFitWithinEvent c me s desk log due (Sent me bytes ∷ outputs)
 
 abbrev pub CommitsGoAgain : Type 0
 CommitsGoAgain =
@@ -181,7 +185,7 @@ CommitsGoAgain =
     → log.active ≡ true → logs.commit_of log i me ≡ Some digest
     → (SendsMessage me (Commit log.view i digest) outputs → ⊥)
     → IsPosted c me (Commit log.view i digest) (others c me) bytes
-    → Fits c me s desk log due outputs → Fits c me s desk log due (Sent me bytes ∷ outputs)
+    → BothFitWithinEvent c me s desk log due outputs → BothFitWithinEvent c me s desk log due (Sent me bytes ∷ outputs)
 
 abbrev pub BatchesGoAgain : Type 0
 BatchesGoAgain =
@@ -191,7 +195,7 @@ BatchesGoAgain =
     → IsBegunBelow c log.view i (after_outputs s outputs)
     → (SendsMessage me (PrePrepare log.view i batch) outputs → ⊥)
     → IsPosted c me (PrePrepare log.view i batch) (others c me) bytes
-    → Fits c me s desk log due outputs → Fits c me s desk log due (Sent me bytes ∷ outputs)
+    → BothFitWithinEvent c me s desk log due outputs → BothFitWithinEvent c me s desk log due (Sent me bytes ∷ outputs)
 
 abbrev pub CheckpointsGoAgain : Type 0
 CheckpointsGoAgain =
@@ -200,4 +204,4 @@ CheckpointsGoAgain =
     → Once (λ earlier e. IsSaying me (Checkpoint k root) e) (after_outputs s outputs)
     → (SendsMessage me (Checkpoint k root) outputs → ⊥)
     → IsPosted c me (Checkpoint k root) (others c me) bytes
-    → Fits c me s desk log [] outputs → Fits c me s desk log [] (Sent me bytes ∷ outputs)
+    → BothFitWithinEvent c me s desk log [] outputs → BothFitWithinEvent c me s desk log [] (Sent me bytes ∷ outputs)

@@ -11,7 +11,7 @@ use Rattle.protocol.specs.Replica.RightReplica.{Point, HistoryReaches}
 use Rattle.protocol.specs.Replica.Owed.{SendsMessage}
 use Rattle.view_change.specs.ReceivedData.{HeldData, held_of}
 use Rattle.replica_histories.specs.Desk.{Desk}
-use Rattle.replica_histories.specs.Events.{Holds}
+use Rattle.replica_histories.specs.Events.{BothFitBetweenEvents}
 use Rattle.replica_histories.specs.Questions.{AnswersInput, ordered_from}
 use Rattle.replica_histories.specs.Changes.{Changes, FitsChanges}
 
@@ -47,7 +47,7 @@ pub record AllGoes (me : ℕ) (log : LogData) (x : Changes) (executed : ℕ) (ou
 abbrev pub ResendingSuffices : Type 0
 ResendingSuffices =
     (c : Configuration) (me : ℕ) (desk : Desk) (log : LogData) (past : List Entry) (input : Entry)
-    (outputs : List Entry) (x : Changes) (call : Call) (executed : ℕ) (held : Holds c me desk log past)
+    (outputs : List Entry) (x : Changes) (call : Call) (executed : ℕ) (held : BothFitBetweenEvents c me desk log past)
     → FitsChanges c me log x past → Hears c me (ordered_from call) past input
     → AllGoes me log x desk.state.number outputs → AnswersInput c me past input outputs held.of_desk.point executed
 

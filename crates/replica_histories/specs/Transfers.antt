@@ -69,10 +69,10 @@ pub record FitsTransfer (c : Configuration) (me : ℕ) (t : TransferData) (histo
 -- takes the fetched pages. So its next place may be asked for, or its state installed.
 pub record TransferMayAsk (c : Configuration) (me : ℕ) (t : TransferData) (number : ℕ) (history : List Entry) : Type 0
   where
-  pub aims : TransferAims c me t history
-  pub newest : fetching history ≤ t.number
-  pub ahead : number < t.number
-  pub taken : AreTaken c me (Some t.number) t history
+    pub aims : TransferAims c me t history
+    pub newest : fetching history ≤ t.number
+    pub ahead : number < t.number
+    pub taken : AreTaken c me (Some t.number) t history
 
 -- The transfer's place is the next part, over the state st, or is asked for again.
 abbrev pub AsksNext : Configuration → ℕ → TransferData → State → List Entry → Type 0

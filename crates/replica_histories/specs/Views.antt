@@ -22,7 +22,7 @@ use Rattle.replica_histories.specs.Claims.{FitsClaims}
 use Rattle.replica_histories.specs.Desk.{Desk, Snapshot, desk_from, snapshot_of}
 use Rattle.replica_histories.specs.Logs.{FitsLog}
 use Rattle.replica_histories.specs.Transfers.{TransferMayAsk, AsksNext, transfer_to, open_number}
-use Rattle.replica_histories.specs.Events.{Start, after_outputs, Fits, Holds, start_at}
+use Rattle.replica_histories.specs.Events.{Start, after_outputs, BothFitWithinEvent, BothFitBetweenEvents, start_at}
 
 -- ---- leaving a view
 
@@ -51,7 +51,7 @@ abbrev pub TicksAreReasons : Type 0
 TicksAreReasons =
     (c : Configuration) (me v : ℕ) (s : Start) (desk : Desk) (log : LogData) (due : List Message) (outputs : List Entry)
     → s.input ≡ Tick me → (desk.waiting ≢ []) ⊎ (view c s.before < target s.before) → v ≡ suc (sought_view c s.before)
-    → Fits c me s desk log due outputs → TimesOut c me (after_outputs s outputs) desk.waiting v
+    → BothFitWithinEvent c me s desk log due outputs → TimesOut c me (after_outputs s outputs) desk.waiting v
 
 -- If the log asks for no commit, the replica may send such a view change, by a leaf of its own, and leaves its view.
 abbrev pub ViewChangesFit : Type 0
@@ -61,7 +61,8 @@ ViewChangesFit =
     → ((i : ℕ) → logs.due_commit log i ≡ None)
     → IsChange c me desk log (after_outputs s outputs) vc
     → IsPosted c me (ViewChange vc) [] bytes → HasOwnLeaf bytes (after_outputs s outputs)
-    → Fits c me s desk log due outputs → Fits c me s desk (logs.left log) due (Sent me bytes ∷ outputs)
+    → BothFitWithinEvent c me s desk log due outputs
+    → BothFitWithinEvent c me s desk (logs.left log) due (Sent me bytes ∷ outputs)
 
 -- A new view change that a frame spells has the replica's own data.
 abbrev pub NewChangesAreOne : Type 0
@@ -88,7 +89,7 @@ ViewChangesGoAgain =
     → log.view < target (after_outputs s outputs) → vc.view ≡ target (after_outputs s outputs)
     → SentBefore bytes (after_outputs s outputs) → (SendsMessage me (ViewChange vc) outputs → ⊥)
     → IsPosted c me (ViewChange vc) [] bytes
-    → Fits c me s desk log due outputs → Fits c me s desk log due (Sent me bytes ∷ outputs)
+    → BothFitWithinEvent c me s desk log due outputs → BothFitWithinEvent c me s desk log due (Sent me bytes ∷ outputs)
 
 -- ---- beginning a view
 
@@ -111,10 +112,10 @@ start_due desk new =
 abbrev pub NewViewsEnter : Type 0
 NewViewsEnter =
     (c : Configuration) (me : ℕ) (desk : Desk) (log : LogData) (past : List Entry) (s : ℕ) (new : NewViewData)
-    (bytes : List ℕ) (held : Holds c me desk log past)
+    (bytes : List ℕ) (held : BothFitBetweenEvents c me desk log past)
     → heard (members c) me bytes ≡ Some (record { sender = s; message = NewView new })
     → taken c past (Got me bytes) ≡ Some new
-    → Fits c me (start_at c me desk log past held (Got me bytes)) (desk_from (begun_log log new).low desk)
+    → BothFitWithinEvent c me (start_at c me desk log past held (Got me bytes)) (desk_from (begun_log log new).low desk)
     (begun_log log new) (start_due desk new) []
 
 -- The primary of a view may send a new view that it would take if it received it. The new view is over view changes and
@@ -129,8 +130,8 @@ NewViewsFit =
     → taken c (after_outputs s outputs) (Sent me bytes) ≡ Some new
     → Each (λ frame. Once (HasSeen frame) (after_outputs s outputs)) (carried (NewView new))
     → IsPosted c me (NewView new) [] bytes → HasOwnLeaf bytes (after_outputs s outputs)
-    → Fits c me s desk log [] outputs
-    → Fits c me s (desk_from (begun_log log new).low desk) (begun_log log new) (start_due desk new)
+    → BothFitWithinEvent c me s desk log [] outputs
+    → BothFitWithinEvent c me s (desk_from (begun_log log new).low desk) (begun_log log new) (start_due desk new)
     (Sent me bytes ∷ outputs)
 
 -- It may send it again while it is active in its view, if the event has not sent it.
@@ -141,7 +142,7 @@ NewViewsGoAgain =
     → log.active ≡ true → new.view ≡ log.view → primary c new.view ≡ me
     → SentBefore bytes (after_outputs s outputs) → (SendsMessage me (NewView new) outputs → ⊥)
     → IsPosted c me (NewView new) [] bytes
-    → Fits c me s desk log due outputs → Fits c me s desk log due (Sent me bytes ∷ outputs)
+    → BothFitWithinEvent c me s desk log due outputs → BothFitWithinEvent c me s desk log due (Sent me bytes ∷ outputs)
 
 -- Then a new transfer, or the open one, moved, may fetch the state at the start.
 abbrev pub StartsMayAsk : Type 0
@@ -150,7 +151,7 @@ StartsMayAsk =
     (new : NewViewData) (pages : List (List ℕ))
     → Once (λ past e. taken c past e ≡ Some new) (after_outputs s outputs)
     → open_number desk.state.number desk.transfer < new.start
-    → Fits c me s desk log due outputs
+    → BothFitWithinEvent c me s desk log due outputs
     → TransferMayAsk c me (transfer_to desk.transfer new.start new.root pages) desk.state.number
     (after_outputs s outputs)
     × AsksNext c me (transfer_to desk.transfer new.start new.root pages) desk.state (after_outputs s outputs)

@@ -46,16 +46,16 @@
 //!
 //! # How it is made
 //!
-//! - `HoldsDesk` and `HoldsLog` tie desk and log to one history, and neither speaks of the other. The premises of the
-//!   laws are answers of the log: `due_prepare`, `committed_batch`, a fault.
+//! - `DeskFitsBetweenEvents` and `LogFitsBetweenEvents` tie desk and log to one history, and neither speaks of the
+//!   other. The premises of the laws are answers of the log: `due_prepare`, `committed_batch`, a fault.
 //! - Rows up to the low mark, whose own votes were sent, are forgotten, and so are checkpoints up to it. Those above
 //!   the mark are the same in log and history. So the history tells which waiting requests have numbers
 //!   (`FitsNumbers`).
-//! - A transfer on the desk is the plain data of `state_transfer`, and `FitsOpen` ties it to the history. Its place was
-//!   asked for last, for the greatest number of all. The log may count a quorum of checkpoints above the executed state
-//!   and the open transfer. Then the fetch of its root is due in that event (`fetch_due`, `FetchesQuorums`). So between
-//!   events each such quorum was fetched (`QuorumsFetched`). The transfer that the fetch opens or moves is open after
-//!   it (`FetchesFit`).
+//! - A transfer on the desk is the plain data of `state_transfer`, and `FitsOpenTransfer` ties it to the history. Its
+//!   place was asked for last, for the greatest number of all. The log may count a quorum of checkpoints above the
+//!   executed state and the open transfer. Then the fetch of its root is due in that event (`fetch_due`,
+//!   `FetchesQuorums`). So between events each such quorum was fetched (`QuorumsFetched`). The transfer that the fetch
+//!   opens or moves is open after it (`FetchesFit`).
 //! - Parts that come change the transfer alone, and so does resting it on the pages of a newer state (`DigestsEnter`,
 //!   `PagesEnter`, `TransfersChange`). An execution that reaches its number closes it, and its installation cuts the
 //!   log there (`InstallationsFit`).

@@ -13,8 +13,8 @@ has_counted_room page_counts birth = nat_lt (slice_index page_counts (birth % PA
 -- The tuples and the next number are a state, and the table has how many tuples lie on each page.
 pub record PagesAreCounted (version : Version) (entries : List BornTuple) (next : ℕ) (page_counts : List ℕ) : Type 0
   where
-  pub state : let s : SpaceState = record { version = version; entries = entries; next = next } in IsState s
-  pub counted : (page : ℕ) → page < PAGES → slice_index page_counts page ≡ page_count entries page
+    pub state : let s : SpaceState = record { version = version; entries = entries; next = next } in IsState s
+    pub counted : (page : ℕ) → page < PAGES → slice_index page_counts page ≡ page_count entries page
 
 -- The tables and the index are those of the tuples.
 pub record IsIndexed
