@@ -12,7 +12,7 @@ use Rattle.wire.specs.Headers.{HeaderData, HasHeader}
 use Rattle.wire.specs.Requests.{mode_of_byte}
 use Rattle.wire.proofs.RequestFields.{mode_again}
 use Rattle.wire_format.specs.Messages.{BodyData as Body, MessageData, reply, FrameData}
-use Rattle.wire_format.specs.Spelling.{IsMessage, SpellsFrame, authenticator_is_signed, body_spelling, frame_spelling, is_signed, message_type, mode_byte}
+use Rattle.wire_format.specs.Spelling.{IsMessage, SpellsFrame, authenticator_is_signed, body_spelling, frame_spelling, is_signed, message_type}
 use Rattle.authenticator.specs.declared.sealed.OpenFault.{OpenFault}
 use Rattle.authenticator.specs.Headers.{header_refusal}
 use Rattle.authenticator.specs.Membership.{Membership}

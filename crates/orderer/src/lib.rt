@@ -21,9 +21,10 @@
 //!
 //! # What is proved
 //!
-//! If a history fits the outputs before a call, with the orderer before it, it fits those after it (`GoesOn`). So two
-//! calls compose, and a loop's invariant is its contract. What fits is `FitsEvent`: the log and the claims are what the
-//! history certifies, and each frame among the outputs goes to the parties for whom it is. It holds beside any desk.
+//! If a history fits the outputs before a call, with the orderer before it, it fits those after it (`KeepsFitting`). So
+//! two calls compose, and a loop's invariant is its contract. What fits is `FitsEvent`: the log and the claims are what
+//! the history certifies, and each frame among the outputs goes to the parties for whom it is. It holds beside any
+//! desk.
 //!
 //! `take_batch`, `take_prepare`, `take_commit` and `take_checkpoint` take what the log has no fault for, and drop all
 //! else. `say_votes` sends the prepare and the commit that are due of a number, and then none is due (`SaysVotes`).

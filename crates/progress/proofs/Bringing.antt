@@ -7,7 +7,7 @@ use Rattle.protocol.specs.System.Trace.Entry.{Tick, Accepted}
 use Rattle.protocol.specs.System.Run.{IsRun, OnlyTheseStopped}
 use Rattle.protocol.specs.System.Schedule.{Step, World, StepsLead}
 use Rattle.protocol.specs.System.Schedule.Step.{ticks, flush}
-use Rattle.protocol.specs.System.Schedule.StepsLead.{ends, gives, called, delivers, gets, ticked, seals}
+use Rattle.protocol.specs.System.Schedule.StepsLead.{gives, ticked}
 use Rattle.protocol.proofs.Words.Elements.{has_reverse, has_reversed}
 use Rattle.progress.specs.Delivery.{HasEntry}
 use Rattle.progress.specs.Flushed.{FlushesBringAnswers}

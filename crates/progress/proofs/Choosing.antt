@@ -13,11 +13,11 @@ use Rattle.wire_format.specs.Messages.{BodyData as Body, MessageData as Message,
 use Rattle.wire_format.specs.Words.{said}
 use Rattle.protocol.specs.System.Configuration.{Configuration, IsConfiguration, replicas, primary, span, is_number, is_replica, is_correct_replica}
 use Rattle.protocol.specs.System.Trace.{Entry, history_of, Once, Always, Has, Unforged}
-use Rattle.protocol.specs.System.Trace.Entry.{Invoke, Got, Sent}
+use Rattle.protocol.specs.System.Trace.Entry.{Got, Sent}
 use Rattle.protocol.specs.System.Run.{IsRun}
 use Rattle.protocol.specs.Replica.Selection.{is_within, null_batch, changes_of, may_select}
 use Rattle.protocol.specs.Replica.Certificates.{view, target, is_active_in, is_later, taken, new_view_in, new_view_from, low, is_in_marks, batch_from, batch_begun, begun_proposal, entry_proposal, proposal, first_given, logged, prepare_of, Prepared}
-use Rattle.protocol.specs.Replica.RightReplica.{Point, MaySay, MayPrePrepare, SentBefore, SafeReplica}
+use Rattle.protocol.specs.Replica.RightReplica.{Point, MaySay, SentBefore, SafeReplica}
 use Rattle.protocol.specs.Replica.Owed.{IsSaying, AreKeysSpent, BringsChange, HasLatestChange, HasBatch}
 use Rattle.protocol.specs.Laws.Bounds.{IsBounded}
 use Rattle.protocol.specs.Laws.Histories.{AreReplicasSafe}

@@ -5,7 +5,7 @@ use Rattle.std.specs.Bool.{then_some}
 use Rattle.std.specs.List.{range_with_len}
 use Rattle.std.specs.Option.{option_map_or}
 use Rattle.std.proofs.lemmas.Bool.{and_parts, and_from, ltb-true, ltb-false, le-leb, eqb-false}
-use Rattle.wire_format.specs.Messages.{BodyData as Body, MessageData as Message, FrameData as Frame, AuthenticatorData as Authenticator, macs, signature, NewViewData, new_view as NewView}
+use Rattle.wire_format.specs.Messages.{BodyData as Body, FrameData as Frame, AuthenticatorData as Authenticator, macs, signature, NewViewData, new_view as NewView}
 use Rattle.wire_format.specs.Spelling.{is_signed, authenticator_is_signed}
 use Rattle.wire_format.specs.Words.{said}
 use Rattle.signing.specs.Heard.{heard, signed_body}

@@ -2,7 +2,7 @@
 use Rattle.std.proofs.Common.{◌≡◌, ℕ, ◌+◌, ◌*◌, ◌≤◌, ◌⊎◌, inl, inr, Bool, true, false, not, List, [], ◌∷◌, ◌++◌, length, Option, Some, None, refl, sym, ap, ◌∙◌, subst, arith, append_assoc}
 use Rattle.std.proofs.lemmas.Bool.{and_parts, and_from}
 use Rattle.wire_format.specs.Messages.{BodyData as Body, ViewChangeData, NewViewData, BatchEntryData as BatchEntry}
-use Rattle.wire_format.specs.Words.{said, carried}
+use Rattle.wire_format.specs.Words.{carried}
 use Rattle.authenticator.specs.Membership.{has_sender}
 use Rattle.signing.specs.Heard.{heard, signed_body}
 use Rattle.signing.proofs.Heard.{signed_was_signed}

@@ -12,7 +12,6 @@ use Rattle.protocol.specs.Replica.Certificates.{is_active_in}
 use Rattle.protocol.specs.Replica.RightReplica.{Point, HistoryReaches, IsFree}
 use Rattle.protocol.specs.Replica.Owed.{HistoryIsPrompt}
 use Rattle.protocol.specs.Client.RightClient.{OpenCall, open_call}
-use Rattle.protocol.specs.Space.Linear.{reached}
 use Rattle.protocol.proofs.Words.Reacting.{proceeds_leaves}
 use Rattle.protocol.proofs.Agreement.States.{history_append}
 use Rattle.protocol.proofs.Points.Levels.{number_reached, reached_history}

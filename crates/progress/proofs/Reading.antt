@@ -11,7 +11,7 @@ use Rattle.protocol.specs.System.Texts.{NoCollision}
 use Rattle.protocol.specs.System.Run.{IsRun, OnlyTheseStopped}
 use Rattle.protocol.specs.Replica.State.{opening, tuples}
 use Rattle.protocol.specs.Replica.RightReplica.{MayReplyRead}
-use Rattle.protocol.specs.Client.RightClient.{OpenCall, open_call, last_call, Reaction, reaction, IsReaction, Reacts, SafeClient}
+use Rattle.protocol.specs.Client.RightClient.{OpenCall, open_call, Reaction, reaction, IsReaction, Reacts, SafeClient}
 use Rattle.protocol.specs.Client.RightClient.Reaction.{asks}
 use Rattle.protocol.specs.Space.Linear.{reached, Invokes}
 use Rattle.protocol.proofs.Words.Elements.{has_right, has_either}

@@ -5,7 +5,7 @@ use Rattle.protocol.specs.System.Configuration.{Configuration, is_correct}
 use Rattle.protocol.specs.System.Trace.{Entry, Has}
 use Rattle.protocol.specs.System.Trace.Entry.{Invoke, Got, Tick, Sent}
 use Rattle.protocol.specs.System.Schedule.{Step, Made, World, StepsLead, new_world, made_by, with_entry, with_frame, sealed_bytes, signed_bytes}
-use Rattle.protocol.specs.System.Schedule.Step.{calls, deliver, feed, seal, sign, ticks, flush}
+use Rattle.protocol.specs.System.Schedule.Step.{deliver, flush}
 use Rattle.protocol.specs.System.Schedule.StepsLead.{ends, gives, called, delivers, gets, ticked, seals, signs, flushes, flushed}
 use Rattle.protocol.proofs.Words.Options.{some_injective}
 use Rattle.protocol.proofs.Words.Elements.{has_either, has_left, has_right, has_mapped, has_filtered, has_weaker, has_reversed}

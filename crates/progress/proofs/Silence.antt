@@ -5,7 +5,6 @@ use Rattle.std.specs.List.{list_all}
 use Rattle.std.specs.Option.{option_map_or}
 use Rattle.std.proofs.Math.Nat.{zero-mod}
 use Rattle.std.proofs.lemmas.Bool.{and_parts, and_from, leb-true, leb-false, ltb-true, lt-ltb}
-use Rattle.quorum.specs.Quorum.{count_below}
 use Rattle.wire_format.specs.Messages.{BodyData as Body, MessageData as Message, ViewChangeData, NewViewData, BatchEntryData as BatchEntry, CheckpointEntryData as CheckpointEntry, view_change as ViewChange, new_view as NewView}
 use Rattle.signing.specs.Heard.{heard}
 use Rattle.protocol.specs.System.Configuration.{Configuration, IsConfiguration, primary, is_correct_replica, members}
@@ -37,7 +36,7 @@ use Rattle.protocol.proofs.Words.Standing.{points_are_one}
 use Rattle.protocol.proofs.Words.Leaving.{executed_number}
 use Rattle.protocol.proofs.Agreement.Voting.{RightAt, right_always, once_right, brought_was_said, Brings}
 use Rattle.protocol.proofs.Points.Levels.{number_reached}
-use Rattle.protocol.proofs.Points.Running.{Run, IsBy}
+use Rattle.protocol.proofs.Points.Running.{IsBy}
 use Rattle.progress.specs.Delivery.{HasEntry}
 use Rattle.progress.specs.SilentView.{SecondIsNext}
 use Rattle.progress.proofs.FirstView.{low_reached}

@@ -11,7 +11,7 @@ use Rattle.signing.specs.Heard.{heard}
 use Rattle.protocol.specs.System.Configuration.{Configuration, primary, is_client, is_correct_replica, is_correct_client, members}
 use Rattle.protocol.specs.System.Trace.{Entry, is_output, history_of, Once, Has, Hears}
 use Rattle.protocol.specs.System.Trace.Entry.{Invoke, Got, Tick, Executed, Installed, Sent, Accepted}
-use Rattle.protocol.specs.Replica.State.{State, Call, call_in, call_of, execute, last_time}
+use Rattle.protocol.specs.Replica.State.{State, Call, call_in, execute, last_time}
 use Rattle.protocol.specs.Replica.RightReplica.{Point, HistoryReaches, MovesPoint, IsFree, is_newer, with_waiting, still_waiting}
 use Rattle.protocol.specs.Replica.Certificates.{is_active_in}
 use Rattle.protocol.specs.Replica.Owed.{Owes, HistoryIsPrompt, IsNumbered}

@@ -1,12 +1,11 @@
 -- How a new view begins: the batches that are logged, and the votes that are sent.
 use Rattle.std.proofs.Common.{◌≡◌, ◌≢◌, ℕ, suc, ◌+◌, inl, inr, true, false, List, [], ◌∷◌, length, map, Option, Some, refl, sym, ap, ◌∙◌, subst}
-use Rattle.wire_format.specs.Lists.{Each}
 use Rattle.wire_format.specs.Messages.{CheckpointEntryData as CheckpointEntry}
 use Rattle.std.proofs.lemmas.Simd.{map-map}
 use Rattle.events.specs.declared.output.Output.{Output}
 use Rattle.protocol.specs.System.Configuration.{Configuration}
 use Rattle.protocol.specs.Replica.State.{Call, call_of}
-use Rattle.protocol.proofs.Words.Elements.{each_has, each_mapped, each_weaker}
+use Rattle.protocol.proofs.Words.Elements.{each_mapped}
 use Rattle.protocol.proofs.Words.Pairs.{pairs_of, all_pairs}
 use Rattle.desk.specs.declared.waiting.BegunCall.{BegunCall}
 use Rattle.replica_histories.specs.Desk.{desk_from}

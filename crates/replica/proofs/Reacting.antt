@@ -33,7 +33,6 @@ use Rattle.desk.specs.Waiting.{count_unnumbered}
 use Rattle.desk.specs.DeskOf.{waiting_calls, desk_of}
 use Rattle.replica.specs.Going.{IsSameParty, IsOneParty, NothingIsLeft}
 use Rattle.replica.specs.Numbering.{IsAllNumbered}
-use Rattle.orderer.specs.Numbering.{next_number}
 use Rattle.replica.specs.NumbersNext.{NumbersWaitingRequests}
 use Rattle.replica.specs.FollowingUp.{FollowsUp, ExecutesAndNumbers}
 use Rattle.replica.specs.declared.replica.Event.{Event}

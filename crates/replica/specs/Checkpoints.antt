@@ -3,7 +3,6 @@
 use Rattle.std.specs.Prelude.{◌≡◌, ◌⊎◌, ◌+◌, ◌*◌, ◌<◌, ◌≤◌, Bool, true, false, List, [], Some, nat_le}
 use Rattle.terms.specs.declared.state.Level.TheVariants as levels
 use Rattle.wire_format.specs.Messages.{CheckpointEntryData as CheckpointEntry, fetch as FetchMessage}
-use Rattle.wire_format.specs.declared.messages.Checkpoint.{Checkpoint as CheckpointMessage}
 use Rattle.events.specs.declared.output.Output.{Output}
 use Rattle.ordering.specs.Log as logs
 use Rattle.protocol.specs.System.Configuration.{Configuration, members}

@@ -76,7 +76,7 @@
 //! # How it is made
 //!
 //! - The contracts are relations that any history passes through. If a history fitted the outputs before the call, it
-//!   fits those after it: `GoesOn` of the orderer, `FitIsKept` of both parts. So two calls compose, and a loop's
+//!   fits those after it: `KeepsFitting` of the orderer, `FitIsKept` of both parts. So two calls compose, and a loop's
 //!   invariant is its contract.
 //! - Within an event `PartsFitEvent` ties both parts, with the messages that are still due, to that history.
 //!   Between events `Fits` ties a replica to a history, and `HistoryStaysRight` hands every such history on.

@@ -6,7 +6,7 @@ use Rattle.protocol.specs.System.Configuration.{Configuration, IsConfiguration, 
 use Rattle.protocol.specs.System.Trace.{Entry, party_of, history_of, Always}
 use Rattle.protocol.specs.System.Run.{OutputFollows, GaveNothingLast}
 use Rattle.protocol.specs.System.Schedule as schedules
-use Rattle.protocol.specs.System.Schedule.{Step, World, with_entry, acceptances, meant_for}
+use Rattle.protocol.specs.System.Schedule.{Step, World, with_entry, acceptances}
 use Rattle.protocol.specs.Client.RightClient.{last_call}
 use Rattle.replica.specs.State.{ReplicaData, has_stopped}
 use Rattle.replica.specs.Fits as replica_fits

@@ -24,7 +24,7 @@
 //!
 //! - Contracts see `Received` as a place for each replica (`ReceivedState`). `add` judges a frame, and `add_signed` one
 //!   that was authenticated before.
-//! - `refusal` in `specs/Checking.antt` is the first refusal of a new view. `Selects` and `NothingSelects` in
+//! - `refusal` in `specs/Checking.antt` is the first refusal of a new view. `SelectsNewView` and `NothingSelects` in
 //!   `specs/Selecting.antt` say what `select` returns.
 //! - A rule is an enum (`Rule`), and one loop counts who passes it. That is the counting of the definitions themselves.
 #![tactic(auto)]
