@@ -23,6 +23,12 @@ pub record DeskData : Type 0 where
   pub transfer : Option OpenData
   pub waiting : WaitingData
 
+-- both are the same replica's, among the same members and with the same period
+pub record IsSameDesk (old new : DeskData) : Type 0 where
+  pub me : new.me ≡ old.me
+  pub membership : new.membership ≡ old.membership
+  pub period : new.period ≡ old.period
+
 -- the state has the membership's number of clients, the replica may seal for them, the period is not 0, and these
 -- states are kept
 abbrev pub IsDesk : DeskData → Type 0

@@ -3,6 +3,7 @@
 ghost use Rattle.std.specs.Prelude.{◌≡◌, OnOk};
 ghost use Rattle.wire_format.specs.Words.{requests_of};
 ghost use Rattle.view_change.specs.Sets.{texts_of};
+ghost use Rattle.desk.specs.State.{IsSameDesk};
 ghost use Rattle.desk.specs.Begun.{AddsCalls, NotesBegun};
 
 use crate::desk::Desk;
@@ -18,9 +19,7 @@ impl Desk {
     /// Notes that the calls in these batches, and no others, have a number in the new view.
     pub fn note_begun(&mut self, alloc: Global, batches: &[Arc<HashedBatch>]) -> Result<(), Stop>
         ensures ok { OnOk result (NotesBegun (texts_of batches.now) self.old self.new) }
-        ensures me { self.new.me ≡ self.old.me }
-        ensures membership { self.new.membership ≡ self.old.membership }
-        ensures period { self.new.period ≡ self.old.period }
+        ensures party { IsSameDesk self.old self.new }
     {
         let mut calls = Vec::new(alloc);
         for batch in batches {

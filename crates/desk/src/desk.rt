@@ -6,7 +6,7 @@ ghost use Rattle.protocol.specs.System.Configuration.{IsConfiguration};
 ghost use Rattle.wire_format.specs.Lists.{Each};
 ghost use Rattle.wire_format.specs.Spelling.{IsCarried, is_ordered_request};
 ghost use Rattle.wire_format.specs.Views.{texts_of};
-ghost use Rattle.desk.specs.State.{IsDesk};
+ghost use Rattle.desk.specs.State.{IsDesk, IsSameDesk};
 ghost use Rattle.desk.specs.Waiting.{count_unnumbered, texts, unnumbered, with_numbered};
 ghost use Rattle.desk.specs.Desking.{IsNewDesk, HasReply, RepliesAgain, RepliesToAll, RunsBatch, RunsWhole, SaysTo, RequestWaits, message_of};
 
@@ -103,9 +103,7 @@ impl Desk {
     pub fn execute(&mut self, alloc: Global, text: &[u8], outputs: &mut Outputs) -> Result<(), Stop>
         requires { self.old.executed.state.number + 1 < 2 ^ 48 }
         ensures ok { OnOk result (RunsWhole self.old text.now outputs.old.items self.new outputs.new.items) }
-        ensures me { self.new.me ≡ self.old.me }
-        ensures membership { self.new.membership ≡ self.old.membership }
-        ensures period { self.new.period ≡ self.old.period }
+        ensures party { IsSameDesk self.old self.new }
     {
         let ran = self.run(alloc, text, outputs)?;
         self.reply_to_all(alloc, ran, outputs)
@@ -117,9 +115,7 @@ impl Desk {
         requires { self.old.executed.state.number + 1 < 2 ^ 48 }
         ensures ok { IfOk result (λ ran. RunsBatch self.old text.now outputs.old.items
             self.new ran.items outputs.new.items) }
-        ensures me { self.new.me ≡ self.old.me }
-        ensures membership { self.new.membership ≡ self.old.membership }
-        ensures period { self.new.period ≡ self.old.period }
+        ensures party { IsSameDesk self.old self.new }
     {
         self.snapshots.are_few();
         // Tells a proof that the state has a place for the reply to each client. So no request runs twice.
@@ -177,9 +173,7 @@ impl Desk {
     ) -> Result<(), Stop>
         requires { IsCarried is_ordered_request frame.now }
         ensures ok { OnOk result (RequestWaits client timestamp frame.now self.old self.new) }
-        ensures me { self.new.me ≡ self.old.me }
-        ensures membership { self.new.membership ≡ self.old.membership }
-        ensures period { self.new.period ≡ self.old.period }
+        ensures party { IsSameDesk self.old self.new }
     {
         let frame = Vec::from_slice(alloc, frame)?;
         self.waiting.remove(client);

@@ -5,6 +5,7 @@ ghost use Rattle.wire_format.specs.Views.{checkpoint_entry_data, message_data};
 ghost use Rattle.wire_format.specs.Spelling.{IsMessage, is_signed, last_index};
 ghost use Rattle.posting.specs.Endpoint.{FitsFrame};
 ghost use Rattle.state_transfer.specs.Places.{IsPlace};
+ghost use Rattle.desk.specs.State.{IsSameDesk};
 ghost use Rattle.desk.specs.Fetching.{AimsAt, AsksPart, GivesBack, GivesPart, MessageHasPart, InstallsHeldPages, IsAskedFor, TakesDigests, TakesPage, aimed_at, closing_reached};
 ghost use Rattle.desk.specs.Transferring.{MayBeSaid};
 
@@ -87,9 +88,7 @@ impl Desk {
     /// the fetched one. Returns whether. NoMemory if memory runs out.
     pub fn set_target(&mut self, alloc: Global, entry: &CheckpointEntry) -> Result<bool, NoMemory>
         ensures ok { IfOk result (AimsAt (checkpoint_entry_data entry.now) self.old self.new) }
-        ensures me { self.new.me ≡ self.old.me }
-        ensures membership { self.new.membership ≡ self.old.membership }
-        ensures period { self.new.period ≡ self.old.period }
+        ensures party { IsSameDesk self.old self.new }
     {
         if entry.number.0 <= self.aimed_at().0 {
             return Ok(false);
@@ -127,9 +126,7 @@ impl Desk {
     /// Takes a page if the transfer awaits it, and returns what it replaced. NoMemory if memory runs out.
     pub fn take_page(&mut self, page: &Page) -> Result<Option<Taken>, NoMemory>
         ensures ok { IfOk result (TakesPage self.old page.now self.new) }
-        ensures me { self.new.me ≡ self.old.me }
-        ensures membership { self.new.membership ≡ self.old.membership }
-        ensures period { self.new.period ≡ self.old.period }
+        ensures party { IsSameDesk self.old self.new }
     {
         match &mut self.transfer {
             Some(open) => open.take_page(page),
@@ -140,9 +137,7 @@ impl Desk {
     /// Whether a part is still to be fetched. The transfer asks for that part then. NoMemory if memory runs out.
     pub fn has_next_part(&mut self) -> Result<bool, NoMemory>
         ensures ok { IfOk result (AsksPart self.old self.new) }
-        ensures me { self.new.me ≡ self.old.me }
-        ensures membership { self.new.membership ≡ self.old.membership }
-        ensures period { self.new.period ≡ self.old.period }
+        ensures party { IsSameDesk self.old self.new }
     {
         let Some(open) = &mut self.transfer else {
             return Ok(false);
@@ -159,9 +154,7 @@ impl Desk {
     pub fn install(&mut self) -> Result<Option<CheckpointEntry>, NoMemory>
         ensures ok { IfOk result (λ entry. InstallsHeldPages self.old self.new
             (option_map checkpoint_entry_data entry)) }
-        ensures me { self.new.me ≡ self.old.me }
-        ensures membership { self.new.membership ≡ self.old.membership }
-        ensures period { self.new.period ≡ self.old.period }
+        ensures party { IsSameDesk self.old self.new }
     {
         let Some(open) = &self.transfer else {
             return Ok(None);

@@ -20,7 +20,9 @@ returns c =
         subst (λ (e : ExecutedData). AsksPlace e.state c.in-Some.open c.next_fetch.new.self (Some c.in-Some-2._place)) lent
             (subst (λ (place : Option Place). AsksPlace c.deref_mut.result.now.state c.in-Some.open c.next_fetch.new.self place) c.in-Some-2.is c.in_ok-_place.ensures.asks),
       );
-      me = ap (λ (d : DeskData). d.me) c.self.view_is;
-      membership = ap (λ (d : DeskData). d.membership) c.self.view_is;
-      period = ap (λ (d : DeskData). d.period) c.self.view_is;
+      party = record {
+        me = ap (λ (d : DeskData). d.me) c.self.view_is;
+        membership = ap (λ (d : DeskData). d.membership) c.self.view_is;
+        period = ap (λ (d : DeskData). d.period) c.self.view_is;
+      };
     }
