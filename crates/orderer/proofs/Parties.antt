@@ -1,8 +1,14 @@
 -- What stays of an orderer, from one step to the next.
 use Rattle.std.proofs.Common.{refl, ◌∙◌, arith}
 use Rattle.orderer.specs.State.{OrdererData}
-use Rattle.orderer.specs.Going.{IsSameLog, IsSameOrderer, KeepsChoice}
+use Rattle.orderer.specs.Going.{IsSameLog, IsSameOrderer, KeepsChoice, KeepsParty}
 use Rattle.ordering.specs.Log.{LogData}
+
+pub party_kept : (o : OrdererData) → KeepsParty o o
+party_kept o = record { endpoint = refl; sizes = refl }
+
+pub party_kept_twice : (a b d : OrdererData) → KeepsParty a b → KeepsParty b d → KeepsParty a d
+party_kept_twice a b d first then = record { endpoint = then.endpoint ∙ first.endpoint; sizes = then.sizes ∙ first.sizes }
 
 pub same_choice : (o : OrdererData) → KeepsChoice o o
 same_choice o = record { received = refl; spent = refl; logged = λ claim has. has }

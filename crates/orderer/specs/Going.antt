@@ -51,6 +51,11 @@ pub record KeepsChoice (old new : OrdererData) : Type 0 where
   pub spent : new.spent ≡ old.spent
   pub logged : (claim : Claim) → Has (λ x. x ≡ claim) new.claims.logged → Has (λ x. x ≡ claim) old.claims.logged
 
+-- both are the same replica's, and judge view changes by the same sizes
+pub record KeepsParty (old new : OrdererData) : Type 0 where
+  pub endpoint : new.endpoint ≡ old.endpoint
+  pub sizes : new.received.sizes ≡ old.received.sizes
+
 pub record IsSameOrderer (old new : OrdererData) : Type 0 where
   pub endpoint : new.endpoint ≡ old.endpoint
   pub log : IsSameLog old.log new.log

@@ -4,6 +4,7 @@ ghost use Rattle.std.specs.Prelude.{◌≡◌, ◌+◌, ◌^◌, ◌≤◌, fals
 ghost use Rattle.wire_format.specs.Views.{checkpoint_entries_data};
 ghost use Rattle.ordering.specs.Log.{left};
 ghost use Rattle.desk.specs.Keeping.{is_ascending};
+ghost use Rattle.orderer.specs.Going.{KeepsParty};
 ghost use Rattle.orderer.specs.Changing.{IsNextView, MaySignChange, aimed_view};
 ghost use Rattle.orderer.specs.Saying.{PostsChange, SaysLastAlso};
 
@@ -52,8 +53,7 @@ impl Orderer {
         requires few { length (checkpoint_entries_data checkpoints) ≤ 3 }
         requires order { IsTrue (is_ascending (checkpoint_entries_data checkpoints)) }
         ensures ok { IfOk result (MaySignChange view.0 (checkpoint_entries_data checkpoints) self.old self.new) }
-        ensures endpoint { self.new.endpoint ≡ self.old.endpoint }
-        ensures sizes { self.new.received.sizes ≡ self.old.received.sizes }
+        ensures party { KeepsParty self.old self.new }
     {
         self.keeps();
         let low = self.log.low();

@@ -4,6 +4,7 @@ ghost use Rattle.std.specs.Prelude.{◌≡◌, ◌<◌, true, OnOk};
 ghost use Rattle.std.specs.Arc.{arc_value};
 ghost use Rattle.wire_format.specs.Spelling.{IsBatch};
 ghost use Rattle.ordering.specs.Log.{is_in_marks};
+ghost use Rattle.orderer.specs.Going.{KeepsParty};
 ghost use Rattle.orderer.specs.Claiming.{ClaimsLogged, LogsBatch};
 
 use crate::orderer::Orderer;
@@ -19,8 +20,7 @@ impl Orderer {
         requires batch { IsBatch 0 (arc_value batch) }
         requires some { self.old.begun < number.0 → IsBatch 1 (arc_value batch) }
         ensures ok { OnOk result (LogsBatch number.0 (arc_value batch) self.old self.new) }
-        ensures endpoint { self.new.endpoint ≡ self.old.endpoint }
-        ensures sizes { self.new.received.sizes ≡ self.old.received.sizes }
+        ensures party { KeepsParty self.old self.new }
         ensures received { self.new.received ≡ self.old.received }
     {
         self.log.keeps();
@@ -34,8 +34,7 @@ impl Orderer {
     /// Notes that the logged batch of a number is prepared.
     pub(crate) fn note_prepared(&mut self, number: Number) -> Result<(), Stop>
         ensures ok { OnOk result (ClaimsLogged number.0 self.old self.new) }
-        ensures endpoint { self.new.endpoint ≡ self.old.endpoint }
-        ensures sizes { self.new.received.sizes ≡ self.old.received.sizes }
+        ensures party { KeepsParty self.old self.new }
     {
         let view = self.log.view();
         let Some(batch) = self.log.logged_batch(number) else {

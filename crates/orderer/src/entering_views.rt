@@ -4,6 +4,7 @@ ghost use Rattle.std.specs.Prelude.{◌≡◌, ◌+◌, ◌^◌, ◌<◌, ◌≤
 ghost use Rattle.wire_format.specs.Lists.{Each};
 ghost use Rattle.wire_format.specs.Spelling.{IsBatch};
 ghost use Rattle.view_change.specs.Sets.{texts_of};
+ghost use Rattle.orderer.specs.Going.{KeepsParty};
 ghost use Rattle.orderer.specs.EnteringViews.{LogsBatches, SaysVotesOf, entering};
 
 use crate::orderer::Orderer;
@@ -31,8 +32,7 @@ impl Orderer {
         requires begun { start.0 + length batches.items ≤ self.old.begun }
         requires batches { Each (IsBatch 0) (texts_of batches.items) }
         ensures ok { OnOk result (LogsBatches (suc start.0) (texts_of batches.items) self.old self.new) }
-        ensures endpoint { self.new.endpoint ≡ self.old.endpoint }
-        ensures sizes { self.new.received.sizes ≡ self.old.received.sizes }
+        ensures party { KeepsParty self.old self.new }
     {
         let mut number = start;
         for batch in batches {
@@ -54,8 +54,7 @@ impl Orderer {
     ) -> Result<(), Stop>
         requires { start.0 ≤ last.0 }
         ensures ok { OnOk result (SaysVotesOf start.0 last.0 self.old outputs.old.items self.new outputs.new.items) }
-        ensures endpoint { self.new.endpoint ≡ self.old.endpoint }
-        ensures sizes { self.new.received.sizes ≡ self.old.received.sizes }
+        ensures party { KeepsParty self.old self.new }
     {
         for number in start.0..last.0 {
             self.say_votes(alloc, Number(number + 1), outputs)?;

@@ -5,6 +5,7 @@ ghost use Rattle.protocol.specs.Replica.Selection.{signed_change};
 ghost use Rattle.view_change.specs.Laws.{ChangesAreJudged};
 ghost use Rattle.view_change.specs.ReceivedView.{judging_configuration, held_as};
 ghost use Rattle.view_change.specs.Sets.{change_pair};
+ghost use Rattle.orderer.specs.Going.{KeepsParty};
 ghost use Rattle.orderer.specs.Changing.{IsJoinedBy, IsJoinedByNone, IsNextView};
 ghost use Rattle.orderer.specs.Receiving.{JudgesAlike, ReceivesViewChange};
 
@@ -29,8 +30,7 @@ impl Orderer {
     pub fn receive(&mut self, alloc: Global, change: Change, frame: &[u8]) -> Result<bool, Stop>
         requires { signed_change (judging_configuration self.old.received) frame.now ≡ Some (change_pair change) }
         ensures ok { IfOk result (ReceivesViewChange (held_as change frame.now) self.old self.new) }
-        ensures endpoint { self.new.endpoint ≡ self.old.endpoint }
-        ensures sizes { self.new.received.sizes ≡ self.old.received.sizes }
+        ensures party { KeepsParty self.old self.new }
     {
         let view = self.log.view();
         match self.received.add_signed(alloc, view, change, frame) {

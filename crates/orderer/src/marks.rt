@@ -4,6 +4,7 @@ ghost use Rattle.std.specs.Prelude.{◌≡◌, ℕ, ◌*◌, ◌+◌, ◌^◌, �
 ghost use Rattle.wire_format.specs.Messages.{checkpoint};
 ghost use Rattle.wire_format.specs.Views.{checkpoint_entry_data};
 ghost use Rattle.ordering.specs.Log.{count_checkpoints};
+ghost use Rattle.orderer.specs.Going.{KeepsParty};
 ghost use Rattle.orderer.specs.Claiming.{CutsLog};
 ghost use Rattle.orderer.specs.Checkpoints.{SaysCheckpoint, TakesCheckpoint, said_entry};
 ghost use Rattle.orderer.specs.Saying.{PostsCheckpoint, SaysToOthers, SaysLastAlso};
@@ -19,7 +20,7 @@ impl Orderer {
     /// Takes a replica's checkpoint, if it has no fault and is one of its sender's three latest. Returns whether.
     pub fn take_checkpoint(&mut self, sender: ReplicaId, checkpoint: &Checkpoint) -> bool
         ensures takes { TakesCheckpoint self.old sender checkpoint.now self.new result }
-        ensures endpoint { self.new.endpoint ≡ self.old.endpoint }
+        ensures party { KeepsParty self.old self.new }
         ensures received { self.new.received ≡ self.old.received }
     {
         if self.log.on_checkpoint(sender, checkpoint).is_err() {
@@ -38,7 +39,7 @@ impl Orderer {
         requires { entry.number.0 < 2 ^ 48 }
         ensures ok { OnOk result (SaysCheckpoint (checkpoint_entry_data entry) self.old outputs.old.items self.new
             outputs.new.items) }
-        ensures endpoint { self.new.endpoint ≡ self.old.endpoint }
+        ensures party { KeepsParty self.old self.new }
         ensures received { self.new.received ≡ self.old.received }
     {
         self.keeps();

@@ -7,6 +7,7 @@ ghost use Rattle.wire_format.specs.Spelling.{IsBatch};
 ghost use Rattle.signing.specs.Heard.{heard};
 ghost use Rattle.signing.specs.Requests.{HearsRequest};
 ghost use Rattle.posting.specs.Endpoint.{HearsBody};
+ghost use Rattle.orderer.specs.Going.{KeepsParty};
 ghost use Rattle.orderer.specs.Changing.{AreChanges};
 ghost use Rattle.orderer.specs.Taking.{IsNewOrderer, TakesBatch, TakesPrepare, TakesCommit};
 
@@ -134,8 +135,7 @@ impl Orderer {
     ) -> Result<bool, Stop>
         requires batch { IsBatch 1 message.batch.text.items }
         ensures takes { IfOk result (TakesBatch self.old sender message self.new) }
-        ensures endpoint { self.new.endpoint ≡ self.old.endpoint }
-        ensures sizes { self.new.received.sizes ≡ self.old.received.sizes }
+        ensures party { KeepsParty self.old self.new }
         ensures received { self.new.received ≡ self.old.received }
     {
         if self.log.preprepare_fault(sender, &message).is_some() {

@@ -8,6 +8,7 @@ ghost use Rattle.ordering.specs.Log.{is_in_marks};
 ghost use Rattle.wire_format.specs.Views.{message_data, texts_of};
 ghost use Rattle.posting.specs.Endpoint.{FitsFrame};
 ghost use Rattle.state_transfer.specs.Places.{IsPlace};
+ghost use Rattle.orderer.specs.Going.{KeepsParty};
 ghost use Rattle.orderer.specs.Saying.{PostsAll, PostsBatch, PostsCommit, PostsPrepare, PostsRow, SaysToOthers, SaysAlso, SaysOwnBatch, SaysLastAlso, row_place};
 
 use crate::orderer::Orderer;
@@ -36,8 +37,7 @@ impl Orderer {
         requires within { is_in_marks self.old.log number.0 ≡ true }
         ensures ok { OnOk result (SaysOwnBatch number.0 (pieces_spelling (texts_of frames.now))
             self.old outputs.old.items self.new outputs.new.items) }
-        ensures endpoint { self.new.endpoint ≡ self.old.endpoint }
-        ensures sizes { self.new.received.sizes ≡ self.old.received.sizes }
+        ensures party { KeepsParty self.old self.new }
     {
         self.keeps();
         let batch = Arc::new(alloc, HashedBatch::new(Batch::of(alloc, frames)?))?;

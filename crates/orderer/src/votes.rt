@@ -4,6 +4,7 @@ ghost use Rattle.std.specs.Prelude.{◌≡◌, ◌==◌, true, false, OnOk};
 ghost use Rattle.wire_format.specs.Messages.{commit, prepare};
 ghost use Rattle.ordering.specs.Keeping.{IsLog};
 ghost use Rattle.ordering.specs.Log.{is_in_marks, primary};
+ghost use Rattle.orderer.specs.Going.{KeepsParty};
 ghost use Rattle.orderer.specs.Saying.{AddsCommit, AddsPrepare, SaysToOthers, SaysCommit, SaysPrepare, SaysVotes};
 ghost use Rattle.orderer.specs.State.{IsOrderer};
 
@@ -40,8 +41,7 @@ impl Orderer {
     ) -> Result<(), Stop>
         ensures ok { OnOk result
             (SaysVotes number.0 self.old outputs.old.items self.new outputs.new.items) }
-        ensures endpoint { self.new.endpoint ≡ self.old.endpoint }
-        ensures sizes { self.new.received.sizes ≡ self.old.received.sizes }
+        ensures party { KeepsParty self.old self.new }
     {
         self.say_due_prepare(alloc, number, outputs)?;
         self.say_due_commit(alloc, number, outputs)
@@ -55,8 +55,7 @@ impl Orderer {
     ) -> Result<(), Stop>
         ensures ok { OnOk result
             (SaysPrepare number.0 self.old outputs.old.items self.new outputs.new.items) }
-        ensures endpoint { self.new.endpoint ≡ self.old.endpoint }
-        ensures sizes { self.new.received.sizes ≡ self.old.received.sizes }
+        ensures party { KeepsParty self.old self.new }
     {
         self.keeps();
         let Some(digest) = self.log.due_prepare(number) else {
@@ -75,8 +74,7 @@ impl Orderer {
     ) -> Result<(), Stop>
         ensures ok { OnOk result
             (SaysCommit number.0 self.old outputs.old.items self.new outputs.new.items) }
-        ensures endpoint { self.new.endpoint ≡ self.old.endpoint }
-        ensures sizes { self.new.received.sizes ≡ self.old.received.sizes }
+        ensures party { KeepsParty self.old self.new }
     {
         self.keeps();
         let Some(digest) = self.log.due_commit(number) else {

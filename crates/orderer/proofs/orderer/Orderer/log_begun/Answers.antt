@@ -8,6 +8,7 @@ use Rattle.view_change.specs.Sets.{texts_of}
 use Rattle.orderer.specs.State.{OrdererData}
 use Rattle.orderer.specs.EnteringViews.{LogsBatches}
 use Rattle.orderer.proofs.EnteringViews.{log_passed, log_added, all_logged}
+use Rattle.orderer.proofs.Parties.{party_kept, party_kept_twice}
 use Rattle.orderer.proofs.orderer.Orderer.log_begun.Goals as goal
 
 pub loop-batch-init : goal.loop-batch-init
@@ -16,8 +17,7 @@ loop-batch-init c =
     record {
       can_next = tt;
       is_finite = tt;
-      endpoint = refl;
-      sizes = refl;
+      party = party_kept c.args.self.now;
       begun = refl;
       batches = subst (λ xs. Each (IsBatch 0) (texts_of xs)) (sym gives) c.requires.batches;
       count = ap (λ (n : ℕ). c.args.start.0 + n) (ap length gives);
@@ -47,8 +47,7 @@ pub loop-batch-preserved : goal.loop-batch-preserved
 loop-batch-preserved c = record {
   can_next = tt;
   is_finite = tt;
-  endpoint = c.loop-batch.invariant.endpoint;
-  sizes = c.loop-batch.invariant.sizes;
+  party = c.loop-batch.invariant.party;
   begun = c.loop-batch.invariant.begun;
   batches = (subst (λ xs. Each (IsBatch 0) (texts_of xs)) c.in-Some.ensures.steps.0 c.loop-batch.invariant.batches).1;
   count = (let e = ap length c.in-Some.ensures.steps.0 in let k = c.loop-batch.invariant.count in omega (arith, e, k));
@@ -60,8 +59,7 @@ pub loop-batch-preserved-in-Continue-1 : goal.loop-batch-preserved-in-Continue-1
 loop-batch-preserved-in-Continue-1 c = record {
   can_next = tt;
   is_finite = tt;
-  endpoint = c.in_ok-log_batch.ensures.endpoint ∙ c.loop-batch.invariant.endpoint;
-  sizes = c.in_ok-log_batch.ensures.sizes ∙ c.loop-batch.invariant.sizes;
+  party = party_kept_twice _ _ _ c.loop-batch.invariant.party c.in_ok-log_batch.ensures.party;
   begun = ap (λ (o : OrdererData). o.begun) c.in_ok-log_batch.ensures.ok.2 ∙ c.loop-batch.invariant.begun;
   batches = (subst (λ xs. Each (IsBatch 0) (texts_of xs)) c.in-Some.ensures.steps.0 c.loop-batch.invariant.batches).1;
   count = (let e = ap length c.in-Some.ensures.steps.0 in let k = c.loop-batch.invariant.count in omega (arith, e, k));
@@ -69,11 +67,8 @@ loop-batch-preserved-in-Continue-1 c = record {
       c.log_batch.new.self (ap (λ (o : OrdererData). is_in_marks o.log (c.loop-batch.number.0 + 1)) (sym c.self.view_is) ∙ sym c.if-is_in_marks.ensures) c.in_ok-log_batch.ensures.ok;
 }
 
-pub returns-in_err-log_batch-clause-endpoint : goal.returns-in_err-log_batch-clause-endpoint
-returns-in_err-log_batch-clause-endpoint c = c.in_err-log_batch.ensures.endpoint ∙ c.loop-batch.invariant.endpoint
-
-pub returns-in_err-log_batch-clause-sizes : goal.returns-in_err-log_batch-clause-sizes
-returns-in_err-log_batch-clause-sizes c = c.in_err-log_batch.ensures.sizes ∙ c.loop-batch.invariant.sizes
+pub returns-in_err-log_batch-clause-party : goal.returns-in_err-log_batch-clause-party
+returns-in_err-log_batch-clause-party c = party_kept_twice _ _ _ c.loop-batch.invariant.party c.in_err-log_batch.ensures.party
 
 pub returns-clause-ok : goal.returns-clause-ok
 returns-clause-ok c =
@@ -84,8 +79,5 @@ returns-clause-ok c =
     all_logged (suc c.args.start.0) (texts_of c.args.batches.items) c.args.self.now c.loop-batch.self
     c.loop-batch.number.0 items none c.loop-batch.invariant.left
 
-pub returns-clause-endpoint : goal.returns-clause-endpoint
-returns-clause-endpoint c = c.loop-batch.invariant.endpoint
-
-pub returns-clause-sizes : goal.returns-clause-sizes
-returns-clause-sizes c = c.loop-batch.invariant.sizes
+pub returns-clause-party : goal.returns-clause-party
+returns-clause-party c = c.loop-batch.invariant.party

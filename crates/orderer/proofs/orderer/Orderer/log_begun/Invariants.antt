@@ -3,6 +3,7 @@ use Rattle.std.specs.Vec.Iter.{into_iter_items}
 use Rattle.wire_format.specs.Lists.{Each}
 use Rattle.wire_format.specs.Spelling.{IsBatch}
 use Rattle.view_change.specs.Sets.{texts_of}
+use Rattle.orderer.specs.Going.{KeepsParty}
 use Rattle.orderer.proofs.EnteringViews.{LogsLeft}
 use Rattle.orderer.proofs.orderer.Orderer.log_begun.Given as goal
 
@@ -10,8 +11,7 @@ abbrev pub invariant-loop-batch : goal.invariant-loop-batch
 invariant-loop-batch l = record {
   can_next : (goal.iterator-loop-batch).can_next l.batch-iterator;
   is_finite : (goal.iterator-loop-batch).is_finite l.batch-iterator;
-  endpoint : l.self.endpoint ≡ l.initial.self.endpoint;
-  sizes : l.self.received.sizes ≡ l.initial.self.received.sizes;
+  party : KeepsParty l.initial.self l.self;
   begun : l.self.begun ≡ l.initial.self.begun;
   batches : Each (IsBatch 0) (texts_of (into_iter_items l.batch-iterator));
   count : l.number.0 + length (into_iter_items l.batch-iterator) ≡ l.fn.start.0 + length l.fn.batches.items;
