@@ -1,6 +1,7 @@
 //! The replica's own view changes.
 
 ghost use Rattle.std.specs.Prelude.{◌≡◌, [], IfNone, IfOk, IfSome};
+ghost use Rattle.replica.specs.Going.{IsOneParty};
 ghost use Rattle.replica.specs.Changing.{ChangesView, IsDue, IsNotDue};
 ghost use Rattle.orderer.specs.Changing.{IsNextView};
 ghost use Rattle.replica.specs.Entering.{TakesTick};
@@ -21,7 +22,7 @@ impl Joined {
     ) -> Result<Touched, Stop>
         requires first { outputs.old.items ≡ [] }
         ensures ok { IfOk result (λ touched. TakesTick self.old touched self.new outputs.new.items) }
-        ensures endpoint { self.new.orderer.endpoint ≡ self.old.orderer.endpoint }
+        ensures party { IsOneParty self.old self.new }
     {
         self.are_one();
         self.judges_changes();
@@ -57,7 +58,7 @@ impl Joined {
     ) -> Result<bool, Stop>
         requires { IsNextView self.old.orderer view.0 }
         ensures ok { IfOk result (ChangesView view.0 self.old outputs.old.items self.new outputs.new.items) }
-        ensures endpoint { self.new.orderer.endpoint ≡ self.old.orderer.endpoint }
+        ensures party { IsOneParty self.old self.new }
     {
         self.orderer.keeps();
         let checkpoints = self.desk.entries(alloc)?;

@@ -3,6 +3,7 @@
 ghost use Rattle.std.specs.Prelude.{◌≡◌, ◌^◌, ◌<◌, [], IfOk, OnOk};
 ghost use Rattle.wire_format.specs.Messages.{checkpoint};
 ghost use Rattle.wire_format.specs.Views.{checkpoint_entry_data};
+ghost use Rattle.replica.specs.Going.{IsOneParty};
 ghost use Rattle.replica.specs.Checkpoints.{StartsTransferIfBehind, IsDueKept, SaysDueCheckpoint, SettlesMarks};
 ghost use Rattle.replica.specs.Marking.{MovesMarks};
 ghost use Rattle.replica.specs.Entering.{TakesMessage};
@@ -29,7 +30,7 @@ impl Joined {
         ensures ok { IfOk result (λ touched. TakesMessage sender
             (checkpoint message.now.number.0 message.now.root)
             self.old touched self.new outputs.new.items) }
-        ensures endpoint { self.new.orderer.endpoint ≡ self.old.orderer.endpoint }
+        ensures party { IsOneParty self.old self.new }
     {
         self.are_one();
         if !self.orderer.take_checkpoint(sender, message) {
@@ -53,7 +54,7 @@ impl Joined {
         requires kept { IsDueKept self.old.desk }
         ensures ok { OnOk result
             (SaysDueCheckpoint self.old outputs.old.items self.new outputs.new.items) }
-        ensures endpoint { self.new.orderer.endpoint ≡ self.old.orderer.endpoint }
+        ensures party { IsOneParty self.old self.new }
     {
         let Some(entry) = self.desk.due_checkpoint() else {
             return Ok(());
@@ -69,7 +70,7 @@ impl Joined {
     fn try_stabilize(&mut self, entry: &CheckpointEntry) -> bool
         requires { entry.now.number.0 < 2 ^ 48 }
         ensures settles { SettlesMarks (checkpoint_entry_data entry.now) self.old self.new result }
-        ensures endpoint { self.new.orderer.endpoint ≡ self.old.orderer.endpoint }
+        ensures party { IsOneParty self.old self.new }
     {
         if !self.orderer.is_stable(entry) {
             return false;
@@ -82,7 +83,7 @@ impl Joined {
     pub(crate) fn move_marks(&mut self, low: Number)
         requires { low.0 < 2 ^ 48 }
         ensures moves { MovesMarks low.0 self.old self.new }
-        ensures endpoint { self.new.orderer.endpoint ≡ self.old.orderer.endpoint }
+        ensures party { IsOneParty self.old self.new }
     {
         self.orderer.cut(low);
         self.desk.drop_below(self.orderer.low());
@@ -98,7 +99,7 @@ impl Joined {
     ) -> Result<(), Stop>
         ensures ok { OnOk result (StartsTransferIfBehind (checkpoint_entry_data entry.now)
             self.old outputs.old.items self.new outputs.new.items) }
-        ensures endpoint { self.new.orderer.endpoint ≡ self.old.orderer.endpoint }
+        ensures party { IsOneParty self.old self.new }
     {
         if !self.orderer.has_quorum(entry) || !self.desk.set_target(alloc, entry)? {
             return Ok(());

@@ -5,6 +5,7 @@ ghost use Rattle.wire_format.specs.Lists.{Each};
 ghost use Rattle.wire_format.specs.Spelling.{IsBatch};
 ghost use Rattle.wire_format.specs.Views.{checkpoint_entry_data};
 ghost use Rattle.view_change.specs.Sets.{texts_of};
+ghost use Rattle.replica.specs.Going.{IsOneParty};
 ghost use Rattle.replica.specs.EnteringViews.{EntersView, FetchesStart};
 
 use crate::joined::Joined;
@@ -31,7 +32,7 @@ impl Joined {
         ensures ok { OnOk result (EntersView view.0 (record { number = selection.start.0; digest = selection.root })
             (texts_of selection.batches.items) (option_map (λ frame. frame.items) own)
             self.old outputs.old.items self.new outputs.new.items) }
-        ensures endpoint { self.new.orderer.endpoint ≡ self.old.orderer.endpoint }
+        ensures party { IsOneParty self.old self.new }
     {
         let start = CheckpointEntry {
             number: selection.start,
@@ -57,6 +58,7 @@ impl Joined {
         ensures ok { OnOk result (FetchesStart (checkpoint_entry_data start.now) self.old outputs.old.items
             self.new outputs.new.items) }
         ensures orderer { self.new.orderer ≡ self.old.orderer }
+        ensures party { IsOneParty self.old self.new }
     {
         if !self.desk.set_target(alloc, start)? {
             return Ok(());

@@ -1,7 +1,7 @@
 //! Execution of committed batches.
 
-ghost use Rattle.std.specs.Prelude.{◌≡◌, IfOk, OnOk};
-ghost use Rattle.replica.specs.Going.{ExecutesAll, ExecutesTurn, GoesOnWith};
+ghost use Rattle.std.specs.Prelude.{IfOk, OnOk};
+ghost use Rattle.replica.specs.Going.{ExecutesAll, ExecutesTurn, GoesOnWith, IsOneParty};
 
 use crate::joined::Joined;
 use events::{Outputs, Stop};
@@ -19,7 +19,7 @@ impl Joined {
     ) -> Result<(), Stop>
         ensures ok { OnOk result
             (GoesOnWith number.0 self.old outputs.old.items self.new outputs.new.items) }
-        ensures endpoint { self.new.orderer.endpoint ≡ self.old.orderer.endpoint }
+        ensures party { IsOneParty self.old self.new }
     {
         self.orderer.say_votes(alloc, number, outputs)?;
         self.execute_committed(alloc, outputs)
@@ -34,7 +34,7 @@ impl Joined {
     ) -> Result<(), Stop>
         ensures ok { OnOk result
             (ExecutesAll self.old outputs.old.items self.new outputs.new.items) }
-        ensures endpoint { self.new.orderer.endpoint ≡ self.old.orderer.endpoint }
+        ensures party { IsOneParty self.old self.new }
     {
         for _ in 0..self.orderer.span() {
             if !self.execute_next(alloc, outputs)? {
@@ -49,7 +49,7 @@ impl Joined {
     fn execute_next(&mut self, alloc: Global, outputs: &mut Outputs) -> Result<bool, Stop>
         ensures ok { IfOk result
             (ExecutesTurn self.old outputs.old.items self.new outputs.new.items) }
-        ensures endpoint { self.new.orderer.endpoint ≡ self.old.orderer.endpoint }
+        ensures party { IsOneParty self.old self.new }
     {
         let next = Number(self.desk.number().0 + 1);
         let Some(batch) = self.orderer.next_batch(next) else {

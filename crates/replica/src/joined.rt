@@ -2,6 +2,7 @@
 
 ghost use Rattle.std.specs.Prelude.{◌≡◌, [], IfOk, OnOk};
 ghost use Rattle.replica.specs.State.{AreOne};
+ghost use Rattle.replica.specs.Going.{IsOneParty};
 ghost use Rattle.orderer.specs.Changing.{AreChanges};
 ghost use Rattle.replica.specs.Entering.{TakesInput};
 ghost use Rattle.replica.specs.FollowingUp.{ExecutesAndNumbers, FollowsUp};
@@ -51,7 +52,7 @@ impl Joined {
     pub(crate) fn step(&mut self, alloc: Global, event: Event<'_>) -> Result<Outputs, Stop>
         ensures before { AreOne self.old.orderer self.old.desk }
         ensures leads { IfOk result (λ outs. JoinedEventLeads self.old event.entry outs.items self.new) }
-        ensures endpoint { self.new.orderer.endpoint ≡ self.old.orderer.endpoint }
+        ensures party { IsOneParty self.old self.new }
         ensures after { IfOk result (λ _. AreOne self.new.orderer self.new.desk) }
         ensures changes { IfOk result (λ _. AreChanges self.new.orderer.received.held) }
     {
@@ -66,7 +67,7 @@ impl Joined {
     // primary assigns the free numbers to waiting requests.
     pub(crate) fn react(&mut self, alloc: Global, event: Event<'_>) -> Result<Outputs, Stop>
         ensures leads { IfOk result (λ outs. JoinedEventLeads self.old event.entry outs.items self.new) }
-        ensures endpoint { self.new.orderer.endpoint ≡ self.old.orderer.endpoint }
+        ensures party { IsOneParty self.old self.new }
     {
         self.are_one();
         let mut outputs = Vec::new(alloc);
@@ -85,7 +86,7 @@ impl Joined {
         requires first { outputs.old.items ≡ [] }
         ensures ok { IfOk result (λ touched. TakesInput (input_of (me_of self.old) event.entry) self.old
             touched self.new outputs.new.items) }
-        ensures endpoint { self.new.orderer.endpoint ≡ self.old.orderer.endpoint }
+        ensures party { IsOneParty self.old self.new }
     {
         match event {
             Event::Timeout => self.on_timeout(alloc, outputs),
@@ -101,7 +102,7 @@ impl Joined {
         outputs: &mut Outputs,
     ) -> Result<(), Stop>
         ensures ok { OnOk result (FollowsUp touched self.old outputs.old.items self.new outputs.new.items) }
-        ensures endpoint { self.new.orderer.endpoint ≡ self.old.orderer.endpoint }
+        ensures party { IsOneParty self.old self.new }
     {
         match touched {
             Touched::Nothing => Ok(()),
@@ -118,7 +119,7 @@ impl Joined {
     fn execute_and_number(&mut self, alloc: Global, outputs: &mut Outputs) -> Result<(), Stop>
         ensures ok { OnOk result
             (ExecutesAndNumbers self.old outputs.old.items self.new outputs.new.items) }
-        ensures endpoint { self.new.orderer.endpoint ≡ self.old.orderer.endpoint }
+        ensures party { IsOneParty self.old self.new }
     {
         self.execute_committed(alloc, outputs)?;
         self.number_waiting(alloc, outputs)

@@ -5,6 +5,7 @@ ghost use Rattle.wire_format.specs.Messages.{view_change};
 ghost use Rattle.wire_format.specs.Views.{view_change_data};
 ghost use Rattle.view_change.specs.Laws.{ChangesAreJudged};
 ghost use Rattle.orderer.specs.Receiving.{JudgesAlike};
+ghost use Rattle.replica.specs.Going.{IsOneParty};
 ghost use Rattle.replica.specs.Entering.{TakesBytes};
 ghost use Rattle.signing.specs.Heard.{heard};
 
@@ -32,7 +33,7 @@ impl Joined {
             ≡ Some (record { sender = sender.0; message = view_change (view_change_data message) }) }
         ensures ok { IfOk result (λ touched. TakesBytes frame.now self.old
             touched self.new outputs.new.items) }
-        ensures endpoint { self.new.orderer.endpoint ≡ self.old.orderer.endpoint }
+        ensures party { IsOneParty self.old self.new }
     {
         self.orderer.judges();
         let change = Change {

@@ -6,6 +6,7 @@ ghost use Rattle.wire_format.specs.Spelling.{IsBatch};
 ghost use Rattle.wire_format.specs.Messages.{new_view};
 ghost use Rattle.wire_format.specs.Views.{new_view_data};
 ghost use Rattle.view_change.specs.Sets.{texts_of};
+ghost use Rattle.replica.specs.Going.{IsOneParty};
 ghost use Rattle.replica.specs.Beginning.{MayBegin};
 ghost use Rattle.replica.specs.Entering.{TakesMessage};
 
@@ -28,7 +29,7 @@ impl Joined {
     ) -> Result<Touched, Stop>
         ensures ok { IfOk result (λ touched. MayBegin self.old outputs.old.items
             touched self.new outputs.new.items) }
-        ensures endpoint { self.new.orderer.endpoint ≡ self.old.orderer.endpoint }
+        ensures party { IsOneParty self.old self.new }
     {
         self.orderer.keeps();
         self.desk.keeps();
@@ -58,7 +59,7 @@ impl Joined {
         requires batches { Each (IsBatch 0) (new_view_data message).batches }
         ensures ok { IfOk result (λ touched. TakesMessage sender (new_view (new_view_data message))
             self.old touched self.new outputs.new.items) }
-        ensures endpoint { self.new.orderer.endpoint ≡ self.old.orderer.endpoint }
+        ensures party { IsOneParty self.old self.new }
     {
         self.orderer.keeps();
         self.desk.keeps();

@@ -4,6 +4,7 @@ ghost use Rattle.std.specs.Prelude.{◌≡◌, ◌≤◌, suc, true, [], length,
 ghost use Rattle.wire_format.specs.Spelling.{IsCarried, is_ordered_request};
 ghost use Rattle.ordering.specs.Log.{is_in_marks};
 ghost use Rattle.desk.specs.Waiting.{unnumbered};
+ghost use Rattle.replica.specs.Going.{IsOneParty};
 ghost use Rattle.replica.specs.Entering.{TakesRequest};
 ghost use Rattle.replica.specs.Numbering.{AllAgain, IsNextFree};
 ghost use Rattle.orderer.specs.Numbering.{next_number};
@@ -34,7 +35,7 @@ impl Joined {
         requires first { outputs.old.items ≡ [] }
         ensures ok { IfOk result (λ touched. TakesRequest client timestamp frame.now self.old
             touched self.new outputs.new.items) }
-        ensures endpoint { self.new.orderer.endpoint ≡ self.old.orderer.endpoint }
+        ensures party { IsOneParty self.old self.new }
     {
         if self.desk.reply_again(alloc, client, timestamp, outputs)? {
             return Ok(Touched::Nothing);
@@ -73,7 +74,7 @@ impl Joined {
     ) -> Result<(), Stop>
         ensures ok { OnOk result
             (NumbersWaitingRequests self.old outputs.old.items self.new outputs.new.items) }
-        ensures endpoint { self.new.orderer.endpoint ≡ self.old.orderer.endpoint }
+        ensures party { IsOneParty self.old self.new }
     {
         for _ in 0..self.desk.count_unnumbered() {
             if !self.number_turn(alloc, outputs)? {
@@ -87,7 +88,7 @@ impl Joined {
     fn number_turn(&mut self, alloc: Global, outputs: &mut Outputs) -> Result<bool, Stop>
         ensures ok { IfOk result
             (NumbersTurn self.old outputs.old.items self.new outputs.new.items) }
-        ensures endpoint { self.new.orderer.endpoint ≡ self.old.orderer.endpoint }
+        ensures party { IsOneParty self.old self.new }
     {
         let Some(number) = self.free_number() else {
             return Ok(false);
@@ -111,7 +112,7 @@ impl Joined {
         requires some { 1 ≤ length (unnumbered self.old.desk.waiting) }
         ensures ok { OnOk result
             (NumbersNext number.0 self.old outputs.old.items self.new outputs.new.items) }
-        ensures endpoint { self.new.orderer.endpoint ≡ self.old.orderer.endpoint }
+        ensures party { IsOneParty self.old self.new }
     {
         let frames = self.desk.unnumbered_frames(alloc)?;
         self.orderer.say_batch(alloc, number, &frames, outputs)?;

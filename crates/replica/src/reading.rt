@@ -2,6 +2,7 @@
 
 ghost use Rattle.std.specs.Prelude.{◌≡◌, true, [], IfOk};
 ghost use Rattle.wire.specs.Marks.{asks_read};
+ghost use Rattle.replica.specs.Going.{IsOneParty};
 ghost use Rattle.replica.specs.Entering.{TakesBytes};
 
 use crate::joined::Joined;
@@ -23,7 +24,7 @@ impl Joined {
         requires marks { asks_read bytes.now ≡ true }
         ensures ok { IfOk result (λ touched. TakesBytes bytes.now self.old
             touched self.new outputs.new.items) }
-        ensures endpoint { self.new.orderer.endpoint ≡ self.old.orderer.endpoint }
+        ensures party { IsOneParty self.old self.new }
     {
         self.are_one();
         let mut arena = Bump::new(alloc);

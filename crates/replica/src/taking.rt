@@ -9,6 +9,7 @@ ghost use Rattle.wire_format.specs.Spelling.{IsBatch};
 ghost use Rattle.wire_format.specs.Views.{message_data};
 ghost use Rattle.signing.specs.Heard.{heard};
 ghost use Rattle.read_only.specs.Hearing.{NobodyHearsRead};
+ghost use Rattle.replica.specs.Going.{IsOneParty};
 ghost use Rattle.replica.specs.Entering.{TakesBytes, TakesMessage};
 
 use crate::joined::Joined;
@@ -44,7 +45,7 @@ impl Joined {
         requires first { outputs.old.items ≡ [] }
         ensures ok { IfOk result (λ touched. TakesBytes bytes.now self.old
             touched self.new outputs.new.items) }
-        ensures endpoint { self.new.orderer.endpoint ≡ self.old.orderer.endpoint }
+        ensures party { IsOneParty self.old self.new }
     {
         self.are_one();
         if asks_read(bytes) {
@@ -79,7 +80,7 @@ impl Joined {
         requires unmarked { NobodyHearsRead bytes.now }
         ensures ok { IfOk result (λ touched. TakesBytes bytes.now self.old
             touched self.new outputs.new.items) }
-        ensures endpoint { self.new.orderer.endpoint ≡ self.old.orderer.endpoint }
+        ensures party { IsOneParty self.old self.new }
     {
         self.are_one();
         let Some(request) = self.orderer.hear_request(bytes) else {
@@ -118,7 +119,7 @@ impl Joined {
             ≡ Some (record { sender = sender.0; message = message_data message }) }
         ensures ok { IfOk result (λ touched. TakesBytes frame.now self.old
             touched self.new outputs.new.items) }
-        ensures endpoint { self.new.orderer.endpoint ≡ self.old.orderer.endpoint }
+        ensures party { IsOneParty self.old self.new }
     {
         self.are_one();
         match message {
@@ -150,7 +151,7 @@ impl Joined {
         ensures ok { IfOk result (λ touched. TakesMessage sender
             (pre_prepare message.view.0 message.number.0 message.batch.text.items)
             self.old touched self.new []) }
-        ensures endpoint { self.new.orderer.endpoint ≡ self.old.orderer.endpoint }
+        ensures party { IsOneParty self.old self.new }
     {
         let number = message.number;
         if !self.orderer.take_batch(alloc, sender, message)? {
@@ -162,7 +163,7 @@ impl Joined {
     fn on_prepare(&mut self, sender: ReplicaId, message: &Prepare) -> Touched
         ensures ok { TakesMessage sender (prepare message.now.view.0 message.now.number.0 message.now.digest)
             self.old result self.new [] }
-        ensures endpoint { self.new.orderer.endpoint ≡ self.old.orderer.endpoint }
+        ensures party { IsOneParty self.old self.new }
     {
         if !self.orderer.take_prepare(sender, message) {
             return Touched::Nothing;
@@ -173,7 +174,7 @@ impl Joined {
     fn on_commit(&mut self, sender: ReplicaId, message: &Commit) -> Touched
         ensures ok { TakesMessage sender (commit message.now.view.0 message.now.number.0 message.now.digest)
             self.old result self.new [] }
-        ensures endpoint { self.new.orderer.endpoint ≡ self.old.orderer.endpoint }
+        ensures party { IsOneParty self.old self.new }
     {
         if !self.orderer.take_commit(sender, message) {
             return Touched::Nothing;

@@ -3,6 +3,7 @@
 ghost use Rattle.std.specs.Prelude.{◌≡◌, ◌≤◌, [], IfOk, OnOk};
 ghost use Rattle.wire_format.specs.Messages.{fetch, meta, page};
 ghost use Rattle.wire_format.specs.Spelling.{last_index};
+ghost use Rattle.replica.specs.Going.{IsOneParty};
 ghost use Rattle.replica.specs.Entering.{TakesMessage};
 ghost use Rattle.replica.specs.Fetching.{FetchesNextPart, InstallsFetchedState, SaysFetch};
 ghost use Rattle.desk.specs.Transferring.{MayBeSaid};
@@ -39,7 +40,7 @@ impl Joined {
         ensures ok { IfOk result (λ touched. TakesMessage sender
             (fetch message.now.number.0 message.now.level message.now.index)
             self.old touched self.new outputs.new.items) }
-        ensures endpoint { self.new.orderer.endpoint ≡ self.old.orderer.endpoint }
+        ensures party { IsOneParty self.old self.new }
     {
         self.are_one();
         self.desk.give_part(alloc, sender, message, outputs)?;
@@ -59,7 +60,7 @@ impl Joined {
         ensures ok { IfOk result (λ touched. TakesMessage sender
             (meta message.now.number.0 message.now.level message.now.index message.now.digests.items)
             self.old touched self.new outputs.new.items) }
-        ensures endpoint { self.new.orderer.endpoint ≡ self.old.orderer.endpoint }
+        ensures party { IsOneParty self.old self.new }
     {
         self.are_one();
         if !self.desk.take_digests(message) {
@@ -87,7 +88,7 @@ impl Joined {
         ensures ok { IfOk result (λ touched. TakesMessage sender
             (page message.now.number.0 message.now.index message.now.text.items)
             self.old touched self.new outputs.new.items) }
-        ensures endpoint { self.new.orderer.endpoint ≡ self.old.orderer.endpoint }
+        ensures party { IsOneParty self.old self.new }
     {
         self.are_one();
         let Some(taken) = self.desk.take_page(message)? else {
@@ -106,7 +107,7 @@ impl Joined {
     // Asks for the next part, if one is still to be fetched. Returns whether.
     fn ask_next(&mut self, alloc: Global, outputs: &mut Outputs) -> Result<bool, Stop>
         ensures ok { IfOk result (FetchesNextPart self.old outputs.old.items self.new outputs.new.items) }
-        ensures endpoint { self.new.orderer.endpoint ≡ self.old.orderer.endpoint }
+        ensures party { IsOneParty self.old self.new }
     {
         if !self.desk.has_next_part()? {
             return Ok(false);
@@ -119,7 +120,7 @@ impl Joined {
     // state.
     fn install(&mut self, outputs: &mut Outputs) -> Result<bool, Stop>
         ensures ok { IfOk result (InstallsFetchedState self.old outputs.old.items self.new outputs.new.items) }
-        ensures endpoint { self.new.orderer.endpoint ≡ self.old.orderer.endpoint }
+        ensures party { IsOneParty self.old self.new }
     {
         let Some(entry) = self.desk.install()? else {
             return Ok(false);

@@ -13,5 +13,5 @@ returns c = record {
       (goes_on_with c.args.number.0 (joined_data c.self.inside) c.say_votes.new.self c.execute_committed.new.self c.args.outputs.now.items c.say_votes.new.outputs.items
       c.execute_committed.new.outputs.items c.self.invariant c.in_ok-say_votes.ensures.ok k))
       c.execute_committed.ensures.ok;
-  endpoint = search rules;
+  party = search rules;
 }

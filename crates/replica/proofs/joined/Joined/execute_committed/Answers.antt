@@ -2,6 +2,7 @@ use Rattle.std.proofs.Common.{rules, ◌≡◌, Bool, ap, subst, arith}
 use Rattle.replica.specs.State.{JoinedData}
 use Rattle.replica.specs.Going.{ExecutesTurn}
 use Rattle.replica.proofs.Executions.{none_executed, one_executed, executes_stop, executes_end}
+use Rattle.replica.proofs.Parties.{one_of_same}
 use Rattle.replica.proofs.joined.Joined.execute_committed.Goals as goal
 
 pub loop-init : goal.loop-init
@@ -11,7 +12,7 @@ pub returns-then-not-branch : goal.returns-then-not-branch
 returns-then-not-branch c = record {
   ok = executes_stop c.loop.counter c.args.self.now c.loop.self c.execute_next.new.self c.args.outputs.now.items c.loop.outputs.items c.execute_next.new.outputs.items c.loop.invariant
       (subst (λ (b : Bool). ExecutesTurn c.loop.self c.loop.outputs.items c.execute_next.new.self c.execute_next.new.outputs.items b) c.if-not-branch.true c.in_ok-execute_next.ensures.ok);
-  endpoint = search rules;
+  party = search rules;
 }
 
 pub loop-preserved : goal.loop-preserved
@@ -28,5 +29,5 @@ returns c =
     let whole : c.loop.counter ≡ c.args.self.now.orderer.log.span = omega (arith, span, same, few, all) in
     record {
       ok = executes_end c.loop.counter c.args.self.now c.loop.self c.args.outputs.now.items c.loop.outputs.items whole c.loop.invariant;
-      endpoint = c.loop.invariant.party.orderer.endpoint;
+      party = one_of_same _ _ c.loop.invariant.party;
     }

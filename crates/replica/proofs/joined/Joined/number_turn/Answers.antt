@@ -15,5 +15,5 @@ returns c = record {
       c.in-Some.ensures.free.0
       (subst (λ (r : JoinedData). 1 ≤ length (unnumbered r.desk.waiting)) c.self.view_is (c.has_unnumbered.ensures.some c.if-not-has_unnumbered.false))
       c.in_ok-number_next.ensures.ok c.advance.new.self c.advance.new.outputs.items c.in_ok-advance.ensures.ok;
-  endpoint = search rules;
+  party = search rules;
 }

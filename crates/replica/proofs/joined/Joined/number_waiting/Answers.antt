@@ -3,6 +3,7 @@ use Rattle.replica.specs.State.{JoinedData}
 use Rattle.desk.specs.Waiting.{count_unnumbered}
 use Rattle.replica.specs.NumbersNext.{NumbersTurn}
 use Rattle.replica.proofs.NumbersGiven.{none_given, one_given, numbers_stop, numbers_end}
+use Rattle.replica.proofs.Parties.{one_of_same}
 use Rattle.replica.proofs.joined.Joined.number_waiting.Goals as goal
 
 pub loop-init : goal.loop-init
@@ -12,7 +13,7 @@ pub returns-then-not-branch : goal.returns-then-not-branch
 returns-then-not-branch c = record {
   ok = numbers_stop c.loop.counter c.args.self.now c.loop.self c.number_turn.new.self c.args.outputs.now.items c.loop.outputs.items c.number_turn.new.outputs.items c.loop.invariant
       (subst (λ (b : Bool). NumbersTurn c.loop.self c.loop.outputs.items c.number_turn.new.self c.number_turn.new.outputs.items b) c.if-not-branch.true c.in_ok-number_turn.ensures.ok);
-  endpoint = search rules;
+  party = search rules;
 }
 
 pub loop-preserved : goal.loop-preserved
@@ -29,5 +30,5 @@ returns c =
     let whole : c.loop.counter ≡ count_unnumbered c.args.self.now.desk.waiting = omega (arith, some, same, few, all) in
     record {
       ok = numbers_end c.loop.counter c.args.self.now c.loop.self c.args.outputs.now.items c.loop.outputs.items whole c.loop.invariant;
-      endpoint = c.loop.invariant.party.orderer.endpoint;
+      party = one_of_same _ _ c.loop.invariant.party;
     }

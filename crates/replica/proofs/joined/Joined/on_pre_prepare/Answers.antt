@@ -9,7 +9,7 @@ returns-then-not-branch c = record {
   ok = rw (← c.self.view_is)
       (batch_dropped (joined_data c.self.inside) c.args.sender c.args.message c.take_batch.new.self c.self.invariant
       (subst (λ (b : Bool). TakesBatch c.self.inside.orderer c.args.sender c.args.message c.take_batch.new.self b) c.if-not-branch.true c.in_ok-take_batch.ensures.takes));
-  endpoint = search rules;
+  party = search rules;
 }
 
 pub returns : goal.returns
@@ -17,5 +17,5 @@ returns c = record {
   ok = rw (← c.self.view_is)
       (batch_taken (joined_data c.self.inside) c.args.sender c.args.message c.take_batch.new.self c.self.invariant
       (subst (λ (b : Bool). TakesBatch c.self.inside.orderer c.args.sender c.args.message c.take_batch.new.self b) c.if-not-branch.false c.in_ok-take_batch.ensures.takes));
-  endpoint = search rules;
+  party = search rules;
 }

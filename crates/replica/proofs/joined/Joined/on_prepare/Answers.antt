@@ -6,11 +6,11 @@ use Rattle.replica.proofs.joined.Joined.on_prepare.Goals as goal
 pub returns-then-not-take_prepare : goal.returns-then-not-take_prepare
 returns-then-not-take_prepare c = record {
   ok = rw (← c.self.view_is) (prepare_dropped (joined_data c.self.inside) c.args.sender c.args.message.now c.take_prepare.new.self c.self.invariant c.if-not-take_prepare.ensures.takes);
-  endpoint = search rules;
+  party = search rules;
 }
 
 pub returns : goal.returns
 returns c = record {
   ok = rw (← c.self.view_is) (prepare_taken (joined_data c.self.inside) c.args.sender c.args.message.now c.take_prepare.new.self c.self.invariant c.if-not-take_prepare.ensures.takes);
-  endpoint = search rules;
+  party = search rules;
 }

@@ -22,7 +22,7 @@ returns c = record {
         c.in_default.not-Meta,
         c.in_default.not-Page,
       ) c.args.frame.now c.requires.heard);
-  endpoint = search rules;
+  party = search rules;
 }
 
 pub on_pre_prepare-requires : goal.on_pre_prepare-requires

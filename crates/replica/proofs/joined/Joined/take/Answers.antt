@@ -13,7 +13,7 @@ returns-in_default c = record {
       (ap (λ m. heard m c.self.inside.desk.me c.args.bytes.now) c.self.invariant.1
       ∙ ap (λ (x : ℕ). heard c.self.inside.orderer.endpoint.membership x c.args.bytes.now) c.self.invariant.0
       ∙ c.in_ok-sender.ensures.heard ∙ ap (option_map body_data) c.in_default.is));
-  endpoint = search rules;
+  party = search rules;
 }
 
 pub returns-then-has_frame-clause-ok : goal.returns-then-has_frame-clause-ok

@@ -33,7 +33,7 @@ returns-clause-leads c =
       leads = subst (λ (n : JoinedData). JoinedEventLeads (joined x y) c.args.event c.in-Ok.outputs.items n) (sym c.joined.view_is) c.in-Ok.ensures.leads;
       one = c.joined.invariant;
       changes = subst (λ (n : JoinedData). AreChanges n.orderer.received.held) (sym c.joined.view_is) c.in-Ok.ensures.changes;
-      endpoint = ap (λ (n : JoinedData). n.orderer.endpoint) c.joined.view_is ∙ c.in-Ok.ensures.endpoint;
+      endpoint = ap (λ (n : JoinedData). n.orderer.endpoint) c.joined.view_is ∙ c.in-Ok.ensures.party.endpoint;
     } in
     steps o _ d _ x c.joined.inside.orderer y c.joined.inside.desk c.args.event c.in-Ok.outputs.items o_is d_is c.requires.together.member are_o one reacts
     (ap (λ (p : OrdererPart). orders p.member c.joined.inside.orderer) c.self.view_is)
@@ -54,6 +54,6 @@ returns-clause-sends c =
       leads = subst (λ (n : JoinedData). JoinedEventLeads (joined x y) c.args.event c.in-Ok.outputs.items n) (sym c.joined.view_is) c.in-Ok.ensures.leads;
       one = c.joined.invariant;
       changes = subst (λ (n : JoinedData). AreChanges n.orderer.received.held) (sym c.joined.view_is) c.in-Ok.ensures.changes;
-      endpoint = ap (λ (n : JoinedData). n.orderer.endpoint) c.joined.view_is ∙ c.in-Ok.ensures.endpoint;
+      endpoint = ap (λ (n : JoinedData). n.orderer.endpoint) c.joined.view_is ∙ c.in-Ok.ensures.party.endpoint;
     } in
     steps_send o d x c.joined.inside.orderer y c.joined.inside.desk c.args.event c.in-Ok.outputs.items o_is d_is c.requires.together.member are_o one reacts
