@@ -1,38 +1,19 @@
 -- Births one by one, and the entries that they lead to.
 use Rattle.std.proofs.Common.{◌≡◌, ◌≢◌, ℕ, suc, ◌+◌, ◌-◌, ◌<◌, Bool, true, false, cond, List, [], ◌∷◌, ◌++◌, length, take, drop, get_or, map, Option, Some, None, option_map, refl, sym, ap, ◌∙◌, arith, append-nil, append_assoc}
-use Rattle.std.specs.Prelude.{◌==◌, filter, find, option_to_list, All}
+use Rattle.std.specs.Prelude.{filter, find, option_to_list}
 use Rattle.std.specs.Ordering.{nat_cmp}
-use Rattle.std.specs.Str.{bytes_eq}
 use Rattle.std.specs.Map.{lookup}
 use Rattle.std.specs.BTreeMap.{is_at}
 use Rattle.std.proofs.lemmas.List.{at_drop_more, take_more, length_push, length-append, length-take, map-append}
 use Rattle.std.proofs.lemmas.List.Concat.{flat_map-cons, flat_map-append}
 use Rattle.std.proofs.lemmas.List.Elements.{filter-append}
-use Rattle.tuple_tree.specs.Items.{how_many}
-use Rattle.tuple_tree.specs.Values.{TupleTree, TemplateTree, IsTuple, IsTemplate}
+use Rattle.tuple_tree.specs.Values.{TupleTree, TemplateTree}
 use Rattle.template_match.specs.Tests.{is_match}
 use Rattle.space.specs.Births.{BornTuple}
-use Rattle.space.specs.Candidates.{is_candidate}
-use Rattle.space.specs.Filing.{births_by, first_key}
 use Rattle.space.specs.Found.{entry_of_birth, entries_at}
-use Rattle.space.specs.Keys.{template_key}
 use Rattle.space.specs.Pages.{entry_text, entries_text}
 use Rattle.space.specs.declared.version.Version.{Version}
-use Rattle.space.proofs.Filing.{filter-same}
-use Rattle.space.proofs.Keying.{closed_key, open_key}
 use Rattle.space.proofs.Texts.{entries_text_push}
-
--- ---- the births of a first value are the candidates
-
-pub first_candidates : (p : TemplateTree) (key : List ℕ) (es : List BornTuple) → template_key p ≡ Some key → IsTemplate p → All (λ e. IsTuple e.1) es
-    → births_by (λ e. bytes_eq (first_key e) key) es ≡ births_by (λ e. is_candidate p e.1) es
-first_candidates p key es e h valid =
-    ap (map (λ (x : BornTuple). x.0)) (filter-same (λ (x : BornTuple). bytes_eq (first_key x) key) (λ x. is_candidate p x.1) es (λ k d l. closed_key p (get_or es k d).1 key e h (valid k d l)))
-
--- where the first value is open, those of the length are
-pub open_candidates : (p : TemplateTree) (es : List BornTuple) → template_key p ≡ None → births_by (λ e. how_many e.1 == how_many p) es ≡ births_by (λ e. is_candidate p e.1) es
-open_candidates p es e =
-    ap (map (λ (x : BornTuple). x.0)) (filter-same (λ (x : BornTuple). how_many x.1 == how_many p) (λ x. is_candidate p x.1) es (λ k d l. open_key p (get_or es k d).1 e))
 
 -- ---- an entry or none
 

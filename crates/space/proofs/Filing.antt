@@ -1,7 +1,6 @@
 -- Lists of births by numbers and by keys follow the entries.
 use Rattle.std.proofs.Common.{◌≡◌, ◌≢◌, ℕ, zero, suc, ◌<◌, Bool, true, false, cond, List, [], ◌∷◌, ◌++◌, length, get_or, map, Some, refl, sym, ap, subst, ◌∙◌, arith, eq-eqb}
 use Rattle.std.specs.Prelude.{◌==◌, All, AllPairs, filter, find, remove, nat_lt, option_to_list}
-use Rattle.std.specs.Str.{bytes_eq}
 use Rattle.std.specs.Ordering.{nat_cmp, is_eq}
 use Rattle.std.specs.declared.cmp.Ordering.TheVariants.{Less, Equal, Greater}
 use Rattle.std.specs.Map.{lookup}
@@ -15,10 +14,8 @@ use Rattle.tuple_tree.specs.Items.{none}
 use Rattle.tuple_tree.specs.Values.{TupleTree}
 use Rattle.space.specs.Ages.{births_without}
 use Rattle.space.specs.Births.{BornTuple}
-use Rattle.space.specs.Filing.{births_at, births_in, births_by, IsFiled, IsFiledByNumber}
+use Rattle.space.specs.Filing.{births_by, IsFiled}
 use Rattle.space.specs.Found.{entry_of_birth, entries_at}
-use Rattle.space.specs.declared.birth_table.BirthTable.{BirthTable}
-use Rattle.space.specs.declared.lists.Lists.{Lists}
 
 -- ---- the births of the entries that pass a test
 
@@ -78,45 +75,24 @@ module _ (test : BornTuple → Bool) where
 
 -- ---- lists of a number
 
-module _ (number_of : BornTuple → ℕ) (old : BirthTable) (es : List BornTuple) (numbered : IsFiledByNumber number_of old es) where
-  pub IsNumbered-push : (new : BirthTable) (e : BornTuple) (number : ℕ) → number ≡ number_of e
-      → ((n : ℕ) → births_in new n ≡ births_in old n ++ cond (number == n) (e.0 ∷ []) []) → IsFiledByNumber number_of new (es ++ e ∷ [])
-  IsNumbered-push new e number is h n =
-      h n ∙ ap (λ xs. xs ++ cond (number == n) (e.0 ∷ []) []) (numbered n)
+module _ (number_of : BornTuple → ℕ) (old : ℕ → List ℕ) (es : List BornTuple) (filed : IsFiled number_of old es) where
+  pub IsFiled-push : (new : ℕ → List ℕ) (e : BornTuple) (number : ℕ) → number ≡ number_of e
+      → ((n : ℕ) → new n ≡ old n ++ cond (number == n) (e.0 ∷ []) []) → IsFiled number_of new (es ++ e ∷ [])
+  IsFiled-push new e number is h n =
+      h n ∙ ap (λ xs. xs ++ cond (number == n) (e.0 ∷ []) []) (filed n)
       ∙ ap (λ k. births_by (λ x. number_of x == n) es ++ cond (k == n) (e.0 ∷ []) []) is
       ∙ sym (births_by_push (λ x. number_of x == n) es e)
 
-  numbered_rising : (n : ℕ) → AllPairs (λ e f. e.0 < f.0) es → AllPairs (λ a b. a < b) (births_in old n)
-  numbered_rising n h = subst (AllPairs (λ a b. a < b)) (sym (numbered n)) (rising_births (λ e. number_of e == n) es h)
+  filed_rising : (n : ℕ) → AllPairs (λ e f. e.0 < f.0) es → AllPairs (λ a b. a < b) (old n)
+  filed_rising n h = subst (AllPairs (λ a b. a < b)) (sym (filed n)) (rising_births (λ e. number_of e == n) es h)
 
-  pub IsNumbered-remove : (new : BirthTable) (i : ℕ) (e : BornTuple) (number : ℕ) → number ≡ number_of e → AllPairs (λ e f. e.0 < f.0) es → i < length es → e ≡ get_or es i e
-      → (AllPairs (λ a b. a < b) (births_in old number) → (n : ℕ) → births_in new n ≡ cond (number == n) (births_without e.0 (births_in old n)) (births_in old n))
-      → IsFiledByNumber number_of new (remove es i)
-  IsNumbered-remove new i e number is rising within here h n =
-      h (numbered_rising number rising) n ∙ ap (λ xs. cond (number == n) (births_without e.0 xs) xs) (numbered n)
+  pub IsFiled-remove : (new : ℕ → List ℕ) (i : ℕ) (e : BornTuple) (number : ℕ) → number ≡ number_of e → AllPairs (λ e f. e.0 < f.0) es → i < length es → e ≡ get_or es i e
+      → (AllPairs (λ a b. a < b) (old number) → (n : ℕ) → new n ≡ cond (number == n) (births_without e.0 (old n)) (old n))
+      → IsFiled number_of new (remove es i)
+  IsFiled-remove new i e number is rising within here h n =
+      h (filed_rising number rising) n ∙ ap (λ xs. cond (number == n) (births_without e.0 xs) xs) (filed n)
       ∙ ap (λ k. cond (k == n) (births_without e.0 (births_by (λ x. number_of x == n) es)) (births_by (λ x. number_of x == n) es)) is
       ∙ sym (births_by-remove (λ x. number_of x == n) es i e rising within here)
-
--- ---- lists of a key
-
-module _ (key_of : BornTuple → List ℕ) (old : Lists) (es : List BornTuple) (filed : IsFiled key_of old es) where
-  pub IsFiled-push : (new : Lists) (e : BornTuple) (key : List ℕ) → key ≡ key_of e
-      → ((q : List ℕ) → births_at new q ≡ births_at old q ++ cond (bytes_eq key q) (e.0 ∷ []) []) → IsFiled key_of new (es ++ e ∷ [])
-  IsFiled-push new e key is h q =
-      h q ∙ ap (λ xs. xs ++ cond (bytes_eq key q) (e.0 ∷ []) []) (filed q)
-      ∙ ap (λ k. births_by (λ x. bytes_eq (key_of x) q) es ++ cond (bytes_eq k q) (e.0 ∷ []) []) is
-      ∙ sym (births_by_push (λ x. bytes_eq (key_of x) q) es e)
-
-  pub filed_rising : (q : List ℕ) → AllPairs (λ e f. e.0 < f.0) es → AllPairs (λ a b. a < b) (births_at old q)
-  filed_rising q h = subst (AllPairs (λ a b. a < b)) (sym (filed q)) (rising_births (λ e. bytes_eq (key_of e) q) es h)
-
-  pub IsFiled-remove : (new : Lists) (i : ℕ) (e : BornTuple) (key : List ℕ) → key ≡ key_of e → AllPairs (λ e f. e.0 < f.0) es → i < length es → e ≡ get_or es i e
-      → (AllPairs (λ a b. a < b) (births_at old key) → (q : List ℕ) → births_at new q ≡ cond (bytes_eq key q) (births_without e.0 (births_at old q)) (births_at old q))
-      → IsFiled key_of new (remove es i)
-  IsFiled-remove new i e key is rising within here h q =
-      h (filed_rising key rising) q ∙ ap (λ xs. cond (bytes_eq key q) (births_without e.0 xs) xs) (filed q)
-      ∙ ap (λ k. cond (bytes_eq k q) (births_without e.0 (births_by (λ x. bytes_eq (key_of x) q) es)) (births_by (λ x. bytes_eq (key_of x) q) es)) is
-      ∙ sym (births_by-remove (λ x. bytes_eq (key_of x) q) es i e rising within here)
 
 -- ---- from births back to entries
 
@@ -185,9 +161,3 @@ module _ {X : Type 0} (narrow wide : X → Bool) (within : (x : X) → narrow x 
       go : (b : Bool) → wide x ≡ b → find narrow (filter wide xs) ≡ find narrow xs → find narrow (cond b (x ∷ filter wide xs) (filter wide xs)) ≡ cond (narrow x) (Some x) (find narrow xs)
       go true e rest = ap (λ o. cond (narrow x) (Some x) o) rest
       go false e rest = rest ∙ sym (ap (λ b. cond b (Some x) (find narrow xs)) (implied_false (narrow x) (wide x) (within x) e))
-
-pub filter-same : {X : Type 0} (p q : X → Bool) (xs : List X) → All (λ x. p x ≡ q x) xs → filter p xs ≡ filter q xs
-filter-same p q [] h = refl
-filter-same p q (x ∷ xs) h =
-    ap (λ b. cond b (x ∷ filter p xs) (filter p xs)) (All-head (λ y. p y ≡ q y) x xs h)
-    ∙ ap (λ ys. cond (q x) (x ∷ ys) ys) (filter-same p q xs (All-tail (λ y. p y ≡ q y) x xs h))

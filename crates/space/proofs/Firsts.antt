@@ -40,25 +40,18 @@ front tag bs after rest x e f = rw (e, f) refl
 
 -- its spelling
 pub front_spelled : (tag : ℕ) (bs after rest value : List ℕ) → byte_at bs ≡ Some (tag, after) → rest_of (loose_at tag after) ≡ Some rest → AreBytes bs
-    → (length rest ≤ length after) × (value ≡ take (length after - length rest) after → Some (tag ∷ value) ≡ front_spelling bs)
+    → (length rest ≤ length bs) × (value ≡ take (length bs - length rest) bs → Some value ≡ front_spelling bs)
 front_spelled tag bs after rest value e r d =
     let x = rest_some (loose_at tag after) rest r in
-    let w : tag ∷ after ≡ datum_spelling x.0 ++ rest = (loose_leaves.found tag after rest x.0 (λ i. subst AreBytes (byte_whole bs after tag e) d (suc i)) x.1).0.whole in
-    let some : 0 < length (datum_spelling x.0) = spelled x.0 in
-    let k = length after - length rest in
-    let n : length (datum_spelling x.0) ≡ suc k = omega (arith, some, ap length w, length-append (datum_spelling x.0) rest) in (
-      omega (arith, some, ap length w, length-append (datum_spelling x.0) rest),
+    let is : bs ≡ tag ∷ after = byte_whole bs after tag e in
+    let whole : bs ≡ datum_spelling x.0 ++ rest = is ∙ (loose_leaves.found tag after rest x.0 (λ i. subst AreBytes is d (suc i)) x.1).0.whole in
+    let long : length bs ≡ length (datum_spelling x.0) + length rest = ap length whole ∙ length-append (datum_spelling x.0) rest in
+    let k = length bs - length rest in (
+      omega (arith, long),
       λ v.
-          let same : tag ∷ value ≡ datum_spelling x.0 = ap (λ bs. tag ∷ bs) v ∙ ap (take (suc k)) w ∙ take_at (datum_spelling x.0) rest (suc k) n in
+          let same : value ≡ datum_spelling x.0 = v ∙ ap (take k) whole ∙ take_at (datum_spelling x.0) rest k (omega (arith, long)) in
           ap Some same ∙ ap (option_map (λ y. datum_spelling y)) (sym (front tag bs after rest x.0 e x.1)),
     )
-  where
-    spelled : (x : Datum) → 0 < length (datum_spelling x)
-    spelled (number n) = omega arith
-    spelled (text s) = omega arith
-    spelled (bytes s) = omega arith
-    spelled (truth b) = omega arith
-    spelled (wide n) = omega arith
 
 -- ---- the first value of a tuple or template
 
@@ -118,67 +111,45 @@ template_front (item (inner q) p) d l = refl
 
 -- ---- keys
 
--- a first value's tag and the bytes after it, in a whole encoding of so many bytes
-pub record Leads (whole tag : ℕ) (value : List ℕ) : Type 0 where
-  pub small : tag < 8
-  pub short : length value + 2 ≤ whole
-  pub fits : length value ≤ 1024
+-- a key by the spelling that was found at the front
+pub record Keyed (count key : ℕ) (found : Option (List ℕ)) : Type 0 where
+  pub some : (value : List ℕ) → Some value ≡ found → key_of count value ≡ key
+  pub none : None ≡ found → 0 ≡ key
 
-leads : (x : Datum) (whole tag : ℕ) (value : List ℕ) → tag ∷ value ≡ datum_spelling x → 1 + datum_length x ≤ whole → whole ≤ 1024 → Leads whole tag value
-leads x whole tag value e l m =
-    let n = datum_leaves.lengths x in
-    record { small = small x e; short = omega (arith, n, ap length e, l); fits = omega (arith, n, ap length e, l, m) }
-  where
-    small : (x : Datum) → tag ∷ value ≡ datum_spelling x → tag < 8
-    small (number n) e = let h : tag ≡ 1 = cc in omega (arith, h)
-    small (text s) e = let h : tag ≡ 2 = cc in omega (arith, h)
-    small (bytes s) e = let h : tag ≡ 3 = cc in omega (arith, h)
-    small (truth b) e = let h : tag ≡ 4 = cc in omega (arith, h)
-    small (wide n) e = let h : tag ≡ 6 = cc in omega (arith, h)
-
--- a key by what was found at the front
-pub record Keyed (whole count : ℕ) (key : List ℕ) (found : Option (List ℕ)) : Type 0 where
-  pub some : (tag : ℕ) (value : List ℕ) → Some (tag ∷ value) ≡ found → Leads whole tag value × (key ≡ key_of count (tag ∷ value))
-  pub none : None ≡ found → key ≡ []
-
-pub tuple_keyed : (t : TupleTree) (count : ℕ) (bs : List ℕ) → IsTuple t → count ≡ how_many t → bs ≡ items_spelling datum_spelling t → Keyed (whole_length datum_length t) count (tuple_key t) (front_spelling bs)
+pub tuple_keyed : (t : TupleTree) (count : ℕ) (bs : List ℕ) → IsTuple t → count ≡ how_many t → bs ≡ items_spelling datum_spelling t → Keyed count (tuple_key t) (front_spelling bs)
 tuple_keyed t count bs h n e =
     let found : front_spelling bs ≡ option_map (λ x. datum_spelling x) (first_datum t) =
     ap (λ xs. front_spelling xs) e ∙ ap (option_map (λ x. datum_spelling x)) (tuple_front t h.each (omega (arith, h.length))) in
-    subst (λ f. Keyed (whole_length datum_length t) count (tuple_key t) f) (sym found) (go t h n)
+    subst (Keyed count (tuple_key t)) (sym found) (go t n)
   where
-    go : (t : TupleTree) → IsTuple t → count ≡ how_many t → Keyed (whole_length datum_length t) count (tuple_key t) (option_map (λ x. datum_spelling x) (first_datum t))
-    go none h n = record { some = λ tag value f. absurd (let g : ⊥ = cc in g); none = λ f. refl }
-    go (item (leaf x) t) h n = record {
-      some = λ tag value f.
-          let same : tag ∷ value ≡ datum_spelling x = cc in
-          (leads x _ tag value same (omega arith) h.length, ap (λ m. key_of m (datum_spelling x)) (sym n) ∙ ap (key_of count) (sym same));
+    go : (t : TupleTree) → count ≡ how_many t → Keyed count (tuple_key t) (option_map (λ x. datum_spelling x) (first_datum t))
+    go none n = record { some = λ value f. absurd (let g : ⊥ = cc in g); none = λ f. refl }
+    go (item (leaf x) t) n = record {
+      some = λ value f. let same : value ≡ datum_spelling x = cc in ap (key_of count) same ∙ ap (λ m. key_of m (datum_spelling x)) n;
       none = λ f. absurd (let g : ⊥ = cc in g);
     }
-    go (item (inner u) t) h n = record { some = λ tag value f. absurd (let g : ⊥ = cc in g); none = λ f. refl }
+    go (item (inner u) t) n = record { some = λ value f. absurd (let g : ⊥ = cc in g); none = λ f. refl }
 
 -- the same of a template's first field
-pub record TemplateKeyed (whole count : ℕ) (key : Option (List ℕ)) (found : Option (List ℕ)) : Type 0 where
-  pub some : (tag : ℕ) (value : List ℕ) → Some (tag ∷ value) ≡ found → Leads whole tag value × (Some (key_of count (tag ∷ value)) ≡ key)
+pub record TemplateKeyed (count : ℕ) (key : Option ℕ) (found : Option (List ℕ)) : Type 0 where
+  pub some : (value : List ℕ) → Some value ≡ found → Some (key_of count value) ≡ key
   pub none : None ≡ found → None ≡ key
 
-pub template_keyed : (p : TemplateTree) (count : ℕ) (bs : List ℕ) → IsTemplate p → count ≡ how_many p → bs ≡ items_spelling slot_spelling p → TemplateKeyed (whole_length slot_length p) count (template_key p) (front_spelling bs)
+pub template_keyed : (p : TemplateTree) (count : ℕ) (bs : List ℕ) → IsTemplate p → count ≡ how_many p → bs ≡ items_spelling slot_spelling p → TemplateKeyed count (template_key p) (front_spelling bs)
 template_keyed p count bs h n e =
     let found : front_spelling bs ≡ option_map (λ x. datum_spelling x) (first_actual p) =
     ap (λ xs. front_spelling xs) e ∙ ap (option_map (λ x. datum_spelling x)) (template_front p h.each (omega (arith, h.length))) in
-    subst (λ f. TemplateKeyed (whole_length slot_length p) count (template_key p) f) (sym found) (go p h n)
+    subst (TemplateKeyed count (template_key p)) (sym found) (go p n)
   where
-    go : (p : TemplateTree) → IsTemplate p → count ≡ how_many p → TemplateKeyed (whole_length slot_length p) count (template_key p) (option_map (λ x. datum_spelling x) (first_actual p))
-    go none h n = record { some = λ tag value f. absurd (let g : ⊥ = cc in g); none = λ f. refl }
-    go (item (leaf (actual x)) p) h n = record {
-      some = λ tag value f.
-          let same : tag ∷ value ≡ datum_spelling x = cc in
-          (leads x _ tag value same (omega arith) h.length, ap (λ s. Some (key_of count s)) same ∙ ap (λ m. Some (key_of m (datum_spelling x))) n);
+    go : (p : TemplateTree) → count ≡ how_many p → TemplateKeyed count (template_key p) (option_map (λ x. datum_spelling x) (first_actual p))
+    go none n = record { some = λ value f. absurd (let g : ⊥ = cc in g); none = λ f. refl }
+    go (item (leaf (actual x)) p) n = record {
+      some = λ value f. let same : value ≡ datum_spelling x = cc in ap (λ s. Some (key_of count s)) same ∙ ap (λ m. Some (key_of m (datum_spelling x))) n;
       none = λ f. absurd (let g : ⊥ = cc in g);
     }
-    go (item (leaf any) p) h n = record { some = λ tag value f. absurd (let g : ⊥ = cc in g); none = λ f. refl }
-    go (item (leaf (formal k)) p) h n = record { some = λ tag value f. absurd (let g : ⊥ = cc in g); none = λ f. refl }
-    go (item (inner q) p) h n = record { some = λ tag value f. absurd (let g : ⊥ = cc in g); none = λ f. refl }
+    go (item (leaf any) p) n = record { some = λ value f. absurd (let g : ⊥ = cc in g); none = λ f. refl }
+    go (item (leaf (formal k)) p) n = record { some = λ value f. absurd (let g : ⊥ = cc in g); none = λ f. refl }
+    go (item (inner q) p) n = record { some = λ value f. absurd (let g : ⊥ = cc in g); none = λ f. refl }
 
 -- ---- the second value, and the kind of the first
 

@@ -15,7 +15,6 @@ pub mod Placing
 pub mod Fronts
 pub mod Loading
 pub mod Restoring
-pub mod Wording
 pub mod Firsts
 pub mod Keying
 pub mod Trees

@@ -1,25 +1,18 @@
--- Which stored tuples a template may match, by their number of values and their first value.
-use Rattle.std.specs.Prelude.{ℕ, Bool, true, ◌&&◌, ◌==◌, List, map, filter}
-use Rattle.tuple_tree.specs.Items.{TreeItem, leaf, inner, none, item, how_many}
-use Rattle.tuple_tree.specs.Values.{Slot, actual, any, formal, TupleTree, TemplateTree}
-use Rattle.template_match.specs.Tests.{is_datum}
+-- Which stored tuples a template may match, by their number of values and the key of their first value.
+use Rattle.std.specs.Prelude.{ℕ, Bool, ◌==◌, List, map, filter, Option, Some, None}
+use Rattle.tuple_tree.specs.Items.{how_many}
+use Rattle.tuple_tree.specs.Values.{TupleTree, TemplateTree}
 use Rattle.space.specs.Births.{SpaceState}
+use Rattle.space.specs.Keys.{tuple_key, template_key}
 
--- An actual value is the first one of the tuple; any other field leaves the first value open.
-abbrev pub fits_field : TreeItem Slot → TupleTree → Bool
-fits_field (leaf (actual x)) none = true
-fits_field (leaf (actual x)) (item v t) = is_datum x v
-fits_field (leaf any) t = true
-fits_field (leaf (formal k)) t = true
-fits_field (inner p) t = true
+-- whether a tuple has the key, or so many values if there is none
+abbrev pub has_key : Option ℕ → ℕ → TupleTree → Bool
+has_key None count t = how_many t == count
+has_key (Some key) count t = tuple_key t == key
 
-abbrev pub fits_first : TemplateTree → TupleTree → Bool
-fits_first none t = true
-fits_first (item f p) t = fits_field f t
-
--- a tuple of the template's length, whose first value, if the first field is an actual, equals it
+-- a tuple of the key that the template's first field has, or of the template's length if that field is no actual
 abbrev pub is_candidate : TemplateTree → TupleTree → Bool
-is_candidate p t = (how_many t == how_many p) && fits_first p t
+is_candidate p t = has_key (template_key p) (how_many p) t
 
 -- the births of these tuples, the oldest first
 abbrev pub candidates_of : TemplateTree → SpaceState → List ℕ

@@ -1,6 +1,5 @@
--- Lists of births by small numbers and by keys of bytes, and the tuples that they lead to.
+-- Lists of births by small numbers and by keys, and the tuples that they lead to.
 use Rattle.std.specs.Prelude.{◌≡◌, ℕ, ◌%◌, ◌<◌, ◌==◌, Bool, List, [], ◌∷◌, ◌++◌, length, map, filter, remove, slice_index_or, All, AllPairs, Option, Some, None, if◌then◌else◌}
-use Rattle.std.specs.Str.{bytes_eq}
 use Rattle.std.specs.HashMap.{get_by}
 use Rattle.space.specs.declared.births.TheConstants.{PAGES}
 use Rattle.tuple_tree.specs.Items.{how_many}
@@ -20,11 +19,11 @@ births_or_none None = []
 births_or_none (Some births) = births_of births
 
 -- the list of a key
-abbrev pub list_at : Lists → List ℕ → Option KeyBirths
-list_at l key = get_by (λ k. bytes_eq key k.items) l.lists
+abbrev pub list_at : Lists → ℕ → Option KeyBirths
+list_at l key = get_by (λ k. key == k) l.lists
 
 -- the births that are listed under a key
-abbrev pub births_at : Lists → List ℕ → List ℕ
+abbrev pub births_at : Lists → ℕ → List ℕ
 births_at l key = births_or_none (list_at l key)
 
 -- the list of a number that a table doesn't reach
@@ -43,13 +42,9 @@ room_in table n = (slice_index_or table.lists.items n no_list).room
 abbrev pub births_by : (BornTuple → Bool) → List BornTuple → List ℕ
 births_by test es = map (λ e. e.0) (filter test es)
 
--- Each entry is listed under its key, in order of age.
-abbrev pub IsFiled : (BornTuple → List ℕ) → Lists → List BornTuple → Type 0
-IsFiled key_of l es = (key : List ℕ) → births_at l key ≡ births_by (λ e. bytes_eq (key_of e) key) es
-
 -- Each entry is listed under its number, in order of age.
-abbrev pub IsFiledByNumber : (BornTuple → ℕ) → BirthTable → List BornTuple → Type 0
-IsFiledByNumber number_of table es = (n : ℕ) → births_in table n ≡ births_by (λ e. number_of e == n) es
+abbrev pub IsFiled : (BornTuple → ℕ) → (ℕ → List ℕ) → List BornTuple → Type 0
+IsFiled number_of births_of es = (n : ℕ) → births_of n ≡ births_by (λ e. number_of e == n) es
 
 abbrev pub page_number : BornTuple → ℕ
 page_number e = e.0 % PAGES
@@ -57,32 +52,31 @@ page_number e = e.0 % PAGES
 abbrev pub value_count : BornTuple → ℕ
 value_count e = how_many e.1
 
-abbrev pub first_key : BornTuple → List ℕ
+abbrev pub first_key : BornTuple → ℕ
 first_key e = tuple_key e.1
 
 pub record IsIndexOf (index : Index) (es : List BornTuple) : Type 0 where
-  pub pages : IsFiledByNumber page_number index.pages es
-  pub lengths : IsFiledByNumber value_count index.lengths es
-  pub firsts : IsFiled first_key index.firsts es
+  pub pages : IsFiled page_number (births_in index.pages) es
+  pub lengths : IsFiled value_count (births_in index.lengths) es
+  pub firsts : IsFiled first_key (births_at index.firsts) es
 
 -- a birth is listed, the newest one, under a key
-abbrev pub AddsBirth : List ℕ → ℕ → Lists → Lists → Type 0
+abbrev pub AddsBirth : ℕ → ℕ → Lists → Lists → Type 0
 AddsBirth key birth old new =
-    (q : List ℕ) → births_at new q ≡ births_at old q ++ (if bytes_eq key q then birth ∷ [] else [])
+    (q : ℕ) → births_at new q ≡ births_at old q ++ (if key == q then birth ∷ [] else [])
 
 -- a birth is taken from those of a key, if these rise
-abbrev pub TakesBirth : List ℕ → ℕ → Lists → Lists → Type 0
+abbrev pub TakesBirth : ℕ → ℕ → Lists → Lists → Type 0
 TakesBirth key birth old new =
     AreRising (births_at old key)
-    → (q : List ℕ)
-    → births_at new q ≡ (if bytes_eq key q then births_without birth (births_at old q) else births_at old q)
+    → (q : ℕ) → births_at new q ≡ (if key == q then births_without birth (births_at old q) else births_at old q)
 
 -- under each key stands what stood there
 abbrev pub KeepsBirths : Lists → Lists → Type 0
-KeepsBirths old new = (q : List ℕ) → births_at new q ≡ births_at old q
+KeepsBirths old new = (q : ℕ) → births_at new q ≡ births_at old q
 
 -- a key that has no births has no list
-abbrev pub LetsGo : List ℕ → Lists → Type 0
+abbrev pub LetsGo : ℕ → Lists → Type 0
 LetsGo key l = births_at l key ≡ [] → list_at l key ≡ None
 
 -- the same in a table, by a number
@@ -116,10 +110,7 @@ UnfilesEntry e old new =
 abbrev pub births_on : ℕ → List BornTuple → List ℕ
 births_on page es = births_by (λ e. page_number e == page) es
 
--- these births are those of the tuples that the template may match
-abbrev pub AreCandidates : TemplateTree → List ℕ → List BornTuple → Type 0
-AreCandidates p births es = All (λ e. IsTuple e.1) es → births ≡ births_by (λ e. is_candidate p e.1) es
-
--- they are so for all entries that the index is of
+-- for all entries that the index is of, these births are those of the tuples that the template may match
 abbrev pub FindsCandidates : TemplateTree → Index → List ℕ → Type 0
-FindsCandidates p index births = (es : List BornTuple) → IsIndexOf index es → AreCandidates p births es
+FindsCandidates p index births =
+    (es : List BornTuple) → IsIndexOf index es → births ≡ births_by (λ e. is_candidate p e.1) es

@@ -1,7 +1,10 @@
 //! Laws of the definitions that the space keeps to.
 
-ghost use Rattle.std.specs.Prelude.{ℕ, ◌<◌, length};
+ghost use Rattle.std.specs.Prelude.{◌≡◌, ℕ, ◌<◌, true, length};
+ghost use Rattle.tuple_tree.specs.Values.{TupleTree, TemplateTree};
 ghost use Rattle.tuple_codec.specs.Operations.{Operation};
+ghost use Rattle.template_match.specs.Tests.{is_match};
+ghost use Rattle.space.specs.Candidates.{is_candidate};
 ghost use Rattle.space.specs.Births.{SpaceState, IsNextBirth, TuplesFollow, birth_of, empty_state, state_after};
 ghost use Rattle.space.specs.Laws.{StatesStay, AnswersAreValid, ReadsKnowNoClient, PagesDetermineSpace, BatchLeavesState};
 ghost use Rattle.space.specs.Pages.{IsStateAt};
@@ -31,6 +34,11 @@ pub fn reads_know_no_client()
 pub fn tuples_follow_states()
     ensures { (s : SpaceState) (client : ℕ) (o : Operation)
         → TuplesFollow s (state_after s client o) client o }
+{}
+
+/// Each tuple that a template matches is one of the template's candidates.
+pub fn matches_are_candidates()
+    ensures { (p : TemplateTree) (t : TupleTree) → is_match p t ≡ true → is_candidate p t ≡ true }
 {}
 
 /// States are equal if their pages and headers are.

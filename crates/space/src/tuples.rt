@@ -307,8 +307,9 @@ impl Space {
         Ok(true)
     }
 
-    /// The births, the oldest first, of the stored tuples that have as many values as the template has fields and, if
-    /// its first field is an actual, that first value. Takes no memory.
+    /// The births, the oldest first, of the stored tuples with as many values as the template has fields, or if its
+    /// first field is an actual, with the key of that number and that field. A key is a hash, so tuples of another first
+    /// value may be among them. Those that the template matches are (`laws::matches_are_candidates`). Takes no memory.
     pub fn candidates<A: Allocator>(&self, template: &Template<A>) -> &[u64]
         ensures { result.now ≡ candidates_of template.now self.now }
     {

@@ -6,7 +6,7 @@ use Rattle.space.proofs.lists.Lists.remove.Goals as goal
 pub returns-then-take-clause-taken : goal.returns-then-take-clause-taken
 returns-then-take-clause-taken c rising q =
     let n : Lists = record { alloc = c.take.new.self.alloc; lists = c.remove.new.self } in
-    births_unchanged c.take.new.self n c.args.key.now None (sym (c.take.ensures.emptied c.if-take.true)) (puts c.take.new.self n c.args.key.now None c.remove.ensures.updates) q
+    births_unchanged c.take.new.self n c.args.key None (sym (c.take.ensures.emptied c.if-take.true)) (puts c.take.new.self n c.args.key None c.remove.ensures.updates) q
     ∙ c.take.ensures.taken rising q
 
 pub returns-then-take-clause-gone : goal.returns-then-take-clause-gone

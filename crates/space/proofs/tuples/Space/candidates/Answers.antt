@@ -4,4 +4,4 @@ use Rattle.space.proofs.tuples.Space.candidates.Goals as goal
 
 pub returns : goal.returns
 returns g c =
-    c.candidates.ensures c.self.inside.tuples.entries c.self.invariant.indexed c.self.invariant.counts.state.tuples ∙ ap (candidates_of c.args.template.now) c.self.view_is
+    c.candidates.ensures c.self.inside.tuples.entries c.self.invariant.indexed ∙ ap (candidates_of c.args.template.now) c.self.view_is
