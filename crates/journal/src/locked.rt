@@ -115,22 +115,16 @@ impl<N: Naming> Journal<N> {
         Ok((journal, shares, orders))
     }
 
-    /// How many entries it has.
+    /// How many entries it has. Whenever a caller asks, the trace is a run's, in which received frames were sent, and
+    /// the limit is kept.
     #[tactic(auto, using(crate::proofs::Turned::turned_length))]
     pub fn len(&self) -> u64
-        ensures { result ≡ length self.now.trace }
-    {
-        self.entries.len() as u64
-    }
-
-    /// The trace is a run's, in which received frames were sent, and the limit is kept. Does nothing: a caller calls
-    /// it if a proof needs one of these.
-    pub fn note_run(&self)
+        ensures value { result ≡ length self.now.trace }
         ensures run { IsRun N.config self.now.trace }
         ensures carried { Carried N.config self.now.trace }
         ensures room { length self.now.trace ≤ self.now.limit }
     {
-        let _ = &self.limit;
+        self.entries.len() as u64
     }
 
     /// The trace, the oldest entry first, which leaves the journal. It is a run's, in which received frames were
