@@ -8,7 +8,7 @@ ghost use Rattle.wire_format.specs.Views.{message_data, new_view_data, view_chan
 ghost use Rattle.posting.specs.Endpoint.{FitsFrame};
 ghost use Rattle.posting.specs.Replies.{IsReplyTo};
 
-use crate::bytes::{note_bytes, note_digests};
+use crate::bytes::note_digests;
 use std::alloc::Global;
 use terms::{ClientId, Digest, Level, Mode, NoMemory, Number, Timestamp, View};
 use tuple_codec::Answer;
@@ -142,7 +142,6 @@ pub fn page_message(number: Number, index: u16, text: Vec<u8>) -> Message
     ensures may { IsMessage (message_data result) }
     ensures unsigned { is_signed (message_data result) ≡ false }
 {
-    note_bytes(&text);
     Message::Page(Page {
         number,
         index,
