@@ -1,11 +1,15 @@
 -- What an orderer sends again, or asks for: no message twice, and all that it should.
 use Rattle.std.proofs.Common.{◌≡◌, ℕ, inl, true, false, List, [], ◌∷◌, ◌++◌, map, Some, sym, ◌∙◌, subst, ◌+◌, ◌≤◌, ◌<◌, inr, Bool, length, Option, None, refl, ap, arith}
 use Rattle.wire_format.specs.Messages.{MessageData as Message, pre_prepare as PrePrepare, prepare as Prepare, commit as Commit, checkpoint as Checkpoint, CheckpointEntryData as CheckpointEntry, new_view as NewView}
+use Rattle.wire_format.specs.Spelling.{is_signed}
 use Rattle.posting.specs.Endpoint.{PostsToOthers}
+use Rattle.ordering.specs.declared.votes.Phase.{Phase}
+use Rattle.ordering.specs.declared.votes.Phase.TheVariants as phases
 use Rattle.ordering.specs.Log as logs
 use Rattle.events.specs.declared.output.Output.{Output}
 use Rattle.events.specs.Outputs.{entry_of}
 use Rattle.protocol.specs.System.Configuration.{Configuration, members}
+use Rattle.protocol.specs.System.Frames.{IsPosted}
 use Rattle.protocol.specs.System.Trace.{Entry, Has}
 use Rattle.protocol.specs.System.Trace.Entry.{Sent}
 use Rattle.protocol.specs.Replica.Owed.{IsSaying, SendsMessage, IsBegunBelow}
@@ -15,7 +19,7 @@ use Rattle.replica_histories.specs.Resending.{FrameGoes, RowGoes, ViewGoes, AllG
 use Rattle.orderer.specs.State.{OrdererData, IsOrderer}
 use Rattle.orderer.specs.Claiming.{SaysFrame, LogsBatch}
 use Rattle.orderer.specs.Fitting.{given, changes_held, FitsEvent}
-use Rattle.orderer.specs.Saying.{Posted, PostedFrame, PostsAll, PostsBatch, PostsChange, PostsCommit, PostsNewView, PostsPrepare, PostsRow, SaysToOthers, AreBelow, IsBelow, PostsCheckpoint, SaysAgain, SaysAlso, SaysOwnBatch, SaysLastAgain, SaysLastAlso, row_place}
+use Rattle.orderer.specs.Saying.{Posted, PostedFrame, PostsAll, PostsBatch, PostsChange, PostsNewView, PostsRow, PostsVote, SaysToOthers, AreBelow, IsBelow, PostsCheckpoint, SaysAgain, SaysAlso, SaysOwnBatch, SaysLastAgain, SaysLastAlso, row_place, vote_message, vote_place}
 use Rattle.std.specs.Prelude.{is_some, ◌==◌}
 use Rattle.std.proofs.lemmas.Bool.{eqb-true, eqb-false}
 use Rattle.std.proofs.lemmas.List.{append-nil, append_assoc}
@@ -36,12 +40,12 @@ use Rattle.replica_histories.proofs.Giving.{batches_fit}
 use Rattle.replica_histories.proofs.SaidOnce.{saying}
 use Rattle.replica_histories.proofs.Again.{prepares_go_again, commits_go_again, batches_go_again, checkpoints_go_again}
 use Rattle.replica_histories.proofs.NumbersKept.{batches_keep_numbers}
-use Rattle.replica_histories.specs.Changes.{FitsChanges}
+use Rattle.replica_histories.specs.Changes.{FitsChanges, IsNoNews}
 use Rattle.replica_histories.proofs.ChangesPassing.{outputs_pass, batches_are_claimed}
 use Rattle.replica_histories.proofs.ChangesKept.{sent_keep}
 use Rattle.desk.specs.Waiting.{unnumbered, with_numbered}
 use Rattle.orderer.proofs.Parties.{same_log}
-use Rattle.orderer.proofs.Staying.{sent_beside, fits_on, fits_behind, changes_still}
+use Rattle.orderer.proofs.Staying.{GivesNoNumber, sent_beside, fits_on, fits_behind, changes_still}
 use Rattle.orderer.proofs.Flags.{flags_stay, flags_numbered}
 use Rattle.orderer.proofs.Voting.{said_in}
 
@@ -66,14 +70,11 @@ module _ (before more after : List Output) (given_is : after ≡ before ++ more)
   pub batch_on : (number : ℕ) → PostsBatch number o before → PostsBatch number o after
   batch_on number h text own above is = posted_on (PrePrepare o.log.view number text) (h text own above is)
 
-  pub prepare_on : (number : ℕ) → PostsPrepare number o before → PostsPrepare number o after
-  prepare_on number h digest is = posted_on (Prepare o.log.view number digest) (h digest is)
-
-  pub commit_on : (number : ℕ) → PostsCommit number o before → PostsCommit number o after
-  commit_on number h digest is = posted_on (Commit o.log.view number digest) (h digest is)
+  pub vote_on : (phase : Phase) (number : ℕ) → PostsVote phase number o before → PostsVote phase number o after
+  vote_on phase number h digest is = posted_on (vote_message phase o.log.view number digest) (h digest is)
 
   pub row_on : (number : ℕ) → PostsRow number o before → PostsRow number o after
-  row_on number h = (batch_on number h.0, prepare_on number h.1, commit_on number h.2)
+  row_on number h = (batch_on number h.0, vote_on phases.Prepare number h.1, vote_on phases.Commit number h.2)
 
   pub new_view_on : PostsNewView o before → PostsNewView o after
   new_view_on h frame is = frame_on frame (h frame is)
@@ -162,13 +163,10 @@ pub other_batch_again : (number : ℕ) (o : OrdererData) (outs : List Output) �
 other_batch_again number o outs other =
     (nothing_again (row_place number) (row_place number + 1) o outs (omega arith), λ text own above is. absurd (other own above))
 
-pub no_prepare_again : (number : ℕ) (o : OrdererData) (outs : List Output) → logs.prepare_of o.log number o.log.me ≡ None → SaysAlso (row_place number + 1) (row_place number + 2) (PostsPrepare number) o outs o outs
-no_prepare_again number o outs none =
-    (nothing_again (row_place number + 1) (row_place number + 2) o outs (omega arith), λ digest is. absurd (absent (logs.prepare_of o.log number o.log.me) digest none is))
-
-pub no_commit_again : (number : ℕ) (o : OrdererData) (outs : List Output) → logs.commit_of o.log number o.log.me ≡ None → SaysAlso (row_place number + 2) (row_place number + 3) (PostsCommit number) o outs o outs
-no_commit_again number o outs none =
-    (nothing_again (row_place number + 2) (row_place number + 3) o outs (omega arith), λ digest is. absurd (absent (logs.commit_of o.log number o.log.me) digest none is))
+pub no_vote_again : (phase : Phase) (number : ℕ) (o : OrdererData) (outs : List Output) → logs.vote_of phase o.log number o.log.me ≡ None
+    → SaysAlso (row_place number + vote_place phase) (row_place number + (vote_place phase + 1)) (PostsVote phase number) o outs o outs
+no_vote_again phase number o outs none =
+    (nothing_again (row_place number + vote_place phase) (row_place number + (vote_place phase + 1)) o outs (omega arith), λ digest is. absurd (absent (logs.vote_of phase o.log number o.log.me) digest none is))
 
 pub no_checkpoint_again : (o : OrdererData) (outs : List Output) → o.last_checkpoint ≡ None → (place : ℕ) → SaysLastAlso true place PostsCheckpoint o outs o outs
 no_checkpoint_again o outs none place = (
@@ -178,28 +176,27 @@ no_checkpoint_again o outs none place = (
 
 -- ---- the log
 
-pub prepare_again : (number : ℕ) (digest : List ℕ) (o new : OrdererData) (before after : List Output) → IsOrderer o → logs.prepare_of o.log number o.log.me ≡ Some digest
-    → SaysToOthers o (Prepare o.log.view number digest) before after → new ≡ o → SaysAlso (row_place number + 1) (row_place number + 2) (PostsPrepare number) o before new after
-prepare_again number digest o new before after own has says is = (
-  subst (λ (x : OrdererData). SaysAgain (row_place number + 1) (row_place number + 2) o before x after) (sym is) (record {
-    goes = λ active c s desk w known below f.
-        let k = said_in c o (Prepare o.log.view number digest) before after known says in
-        let h = subst (λ m. logs.prepare_of o.log number m ≡ Some digest) own.0 has in
-        let past = after_outputs s (given o.endpoint.me before) in (
-          fits_on c o.endpoint.me s o o desk w [] [] before after (Sent o.endpoint.me k.bytes) k.is
-              (sent_beside c o.endpoint.me (Prepare o.log.view number digest) (others c o.endpoint.me) k.bytes past tt k.posted)
-              (sent_keep c o.endpoint.me past (Prepare o.log.view number digest) k.bytes k.posted.says tt (λ signed. absurd cc))
-              (same_log o.log) refl refl refl refl f
-              (prepares_go_again c o.endpoint.me s desk o.log [] (given o.endpoint.me before) number digest k.bytes active h
-              (never_said o.endpoint.me (row_place number + 1) (Prepare o.log.view number digest) (given o.endpoint.me before) (λ l. absurd (omega (arith, l))) below) k.posted f.fits),
-          one_below o.endpoint.me (row_place number + 1) (row_place number + 2) (Prepare o.log.view number digest) k.bytes (given o.endpoint.me before) (given o.endpoint.me after) k.is.is k.posted.says (omega arith) (omega arith) below,
-        );
-    same = refl;
-    more = says.output ∷ [];
-    given_is = says.given_is;
-  }),
-  λ other is_it. subst (λ (d : List ℕ). Posted o (Prepare o.log.view number d) after) (some_injective digest other (sym has ∙ is_it)) (posted_now o (Prepare o.log.view number digest) before after says),
-)
+-- a message that assigns no number goes again, if the history fits it again
+goes_again : (first end : ℕ) (message : Message) (o : OrdererData) (before after : List Output) → SaysToOthers o message before after → first ≤ end → IsBelow end message → GivesNoNumber message → is_signed message ≡ false
+    → (o.log.active ≡ true → (c : Configuration) (s : Start) (desk : Desk) (bytes : List ℕ) → IsPosted c o.endpoint.me message (others c o.endpoint.me) bytes → AreBelow o.endpoint.me first (given o.endpoint.me before)
+    → events.BothFitWithinEvent c o.endpoint.me s desk o.log [] (given o.endpoint.me before)
+    → IsNoNews c o.endpoint.me (after_outputs s (given o.endpoint.me before)) message × events.BothFitWithinEvent c o.endpoint.me s desk o.log [] (Sent o.endpoint.me bytes ∷ given o.endpoint.me before))
+    → SaysAgain first end o before o after
+goes_again first end message o before after says later under none unsigned fits = record {
+  goes = λ active c s desk w known below f.
+      let k = said_in c o message before after known says in
+      let past = after_outputs s (given o.endpoint.me before) in
+      let on = fits active c s desk k.bytes k.posted below f.fits in (
+        fits_on c o.endpoint.me s o o desk w [] [] before after (Sent o.endpoint.me k.bytes) k.is
+            (sent_beside c o.endpoint.me message (others c o.endpoint.me) k.bytes past none k.posted)
+            (sent_keep c o.endpoint.me past message k.bytes k.posted.says on.0 (λ signed. absurd (let bad : false ≡ true = sym unsigned ∙ signed in cc)))
+            (same_log o.log) refl refl refl refl f on.1,
+        one_below o.endpoint.me first end message k.bytes (given o.endpoint.me before) (given o.endpoint.me after) k.is.is k.posted.says later under below,
+      );
+  same = refl;
+  more = says.output ∷ [];
+  given_is = says.given_is;
+}
 
 -- the history has the replica's own commit in the log
 committed_here : (c : Configuration) (me : ℕ) (log : LogData) (history : List Entry) (number : ℕ) (digest : List ℕ) → FitsLog c me log history → logs.commit_of log number me ≡ Some digest
@@ -207,27 +204,29 @@ committed_here : (c : Configuration) (me : ℕ) (log : LogData) (history : List 
 committed_here c me log history number digest f has =
     f.commits number me (passed (logs.is_in_marks log number) (voted_digest (logs.row_of log number).commits me) digest has).0 ∙ has
 
-pub commit_again : (number : ℕ) (digest : List ℕ) (o new : OrdererData) (before after : List Output) → IsOrderer o → logs.commit_of o.log number o.log.me ≡ Some digest
-    → SaysToOthers o (Commit o.log.view number digest) before after → new ≡ o → SaysAlso (row_place number + 2) (row_place number + 3) (PostsCommit number) o before new after
-commit_again number digest o new before after own has says is = (
-  subst (λ (x : OrdererData). SaysAgain (row_place number + 2) (row_place number + 3) o before x after) (sym is) (record {
-    goes = λ active c s desk w known below f.
-        let k = said_in c o (Commit o.log.view number digest) before after known says in
-        let h = subst (λ m. logs.commit_of o.log number m ≡ Some digest) own.0 has in
-        let past = after_outputs s (given o.endpoint.me before) in (
-          fits_on c o.endpoint.me s o o desk w [] [] before after (Sent o.endpoint.me k.bytes) k.is
-              (sent_beside c o.endpoint.me (Commit o.log.view number digest) (others c o.endpoint.me) k.bytes past tt k.posted)
-              (sent_keep c o.endpoint.me past (Commit o.log.view number digest) k.bytes k.posted.says (digest, committed_here c o.endpoint.me o.log past number digest f.fits.of_log h) (λ signed. absurd cc))
-              (same_log o.log) refl refl refl refl f
-              (commits_go_again c o.endpoint.me s desk o.log [] (given o.endpoint.me before) number digest k.bytes active h
-              (never_said o.endpoint.me (row_place number + 2) (Commit o.log.view number digest) (given o.endpoint.me before) (λ l. absurd (omega (arith, l))) below) k.posted f.fits),
-          one_below o.endpoint.me (row_place number + 2) (row_place number + 3) (Commit o.log.view number digest) k.bytes (given o.endpoint.me before) (given o.endpoint.me after) k.is.is k.posted.says (omega arith) (omega arith) below,
-        );
-    same = refl;
-    more = says.output ∷ [];
-    given_is = says.given_is;
-  }),
-  λ other is_it. subst (λ (d : List ℕ). Posted o (Commit o.log.view number d) after) (some_injective digest other (sym has ∙ is_it)) (posted_now o (Commit o.log.view number digest) before after says),
+vote_goes : (phase : Phase) (number : ℕ) (digest : List ℕ) (o : OrdererData) (before after : List Output) → logs.vote_of phase o.log number o.endpoint.me ≡ Some digest
+    → SaysToOthers o (vote_message phase o.log.view number digest) before after → SaysAgain (row_place number + vote_place phase) (row_place number + (vote_place phase + 1)) o before o after
+vote_goes phases.Prepare number digest o before after has says =
+    goes_again (row_place number + 1) (row_place number + 2) (Prepare o.log.view number digest) o before after says (omega arith) (omega arith) tt refl
+    (λ active c s desk bytes posted below f. (
+      tt,
+      prepares_go_again c o.endpoint.me s desk o.log [] (given o.endpoint.me before) number digest bytes active has
+          (never_said o.endpoint.me (row_place number + 1) (Prepare o.log.view number digest) (given o.endpoint.me before) (λ l. absurd (omega (arith, l))) below) posted f,
+    ))
+vote_goes phases.Commit number digest o before after has says =
+    goes_again (row_place number + 2) (row_place number + 3) (Commit o.log.view number digest) o before after says (omega arith) (omega arith) tt refl
+    (λ active c s desk bytes posted below f. (
+      (digest, committed_here c o.endpoint.me o.log (after_outputs s (given o.endpoint.me before)) number digest f.of_log has),
+      commits_go_again c o.endpoint.me s desk o.log [] (given o.endpoint.me before) number digest bytes active has
+          (never_said o.endpoint.me (row_place number + 2) (Commit o.log.view number digest) (given o.endpoint.me before) (λ l. absurd (omega (arith, l))) below) posted f,
+    ))
+
+pub vote_again : (phase : Phase) (number : ℕ) (digest : List ℕ) (o new : OrdererData) (before after : List Output) → IsOrderer o → logs.vote_of phase o.log number o.log.me ≡ Some digest
+    → SaysToOthers o (vote_message phase o.log.view number digest) before after → new ≡ o → SaysAlso (row_place number + vote_place phase) (row_place number + (vote_place phase + 1)) (PostsVote phase number) o before new after
+vote_again phase number digest o new before after own has says is = (
+  subst (λ (x : OrdererData). SaysAgain (row_place number + vote_place phase) (row_place number + (vote_place phase + 1)) o before x after) (sym is)
+      (vote_goes phase number digest o before after (subst (λ (m : ℕ). logs.vote_of phase o.log number m ≡ Some digest) own.0 has) says),
+  λ other is_it. subst (λ (d : List ℕ). Posted o (vote_message phase o.log.view number d) after) (some_injective digest other (sym has ∙ is_it)) (posted_now o (vote_message phase o.log.view number digest) before after says),
 )
 
 -- the history has what stands in the log
@@ -324,12 +323,12 @@ also_on first middle end P Q R a b d x y z stays both p q =
     (again_twice first middle end a b d x y z p.0 q.0, both a z (stays a y q.0.more z q.0.given_is p.1) (subst (λ (o : OrdererData). Q o z) p.0.same q.1))
 
 pub row_again : (number : ℕ) (a b d e : OrdererData) (x y z w : List Output) → SaysAlso (row_place number) (row_place number + 1) (PostsBatch number) a x b y
-    → SaysAlso (row_place number + 1) (row_place number + 2) (PostsPrepare number) b y d z → SaysAlso (row_place number + 2) (row_place number + 3) (PostsCommit number) d z e w
+    → SaysAlso (row_place number + 1) (row_place number + 2) (PostsVote phases.Prepare number) b y d z → SaysAlso (row_place number + 2) (row_place number + 3) (PostsVote phases.Commit number) d z e w
     → SaysAlso (row_place number) (row_place number + 3) (PostsRow number) a x e w
 row_again number a b d e x y z w p q r =
-    also_on (row_place number) (row_place number + 2) (row_place number + 3) (λ o outs. PostsBatch number o outs × PostsPrepare number o outs) (PostsCommit number) (PostsRow number) a d e x z w
-    (λ o before more after is h. (batch_on before more after is o number h.0, prepare_on before more after is o number h.1)) (λ o outs h k. (h.0, h.1, k))
-    (also_on (row_place number) (row_place number + 1) (row_place number + 2) (PostsBatch number) (PostsPrepare number) (λ o outs. PostsBatch number o outs × PostsPrepare number o outs) a b d x y z
+    also_on (row_place number) (row_place number + 2) (row_place number + 3) (λ o outs. PostsBatch number o outs × PostsVote phases.Prepare number o outs) (PostsVote phases.Commit number) (PostsRow number) a d e x z w
+    (λ o before more after is h. (batch_on before more after is o number h.0, vote_on before more after is o phases.Prepare number h.1)) (λ o outs h k. (h.0, h.1, k))
+    (also_on (row_place number) (row_place number + 1) (row_place number + 2) (PostsBatch number) (PostsVote phases.Prepare number) (λ o outs. PostsBatch number o outs × PostsVote phases.Prepare number o outs) a b d x y z
     (λ o before more after is h. batch_on before more after is o number h) (λ o outs h k. (h, k)) p q) r
 
 -- the new view, and the rows of the numbers from one on, up to below another

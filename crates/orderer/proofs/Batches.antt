@@ -30,6 +30,8 @@ use Rattle.authenticator.specs.Membership.{Membership}
 use Rattle.signing.specs.Heard.{heard}
 use Rattle.signing.proofs.Heard.{heard_was_opened}
 use Rattle.ordering.specs.Keeping.{IsLog}
+use Rattle.ordering.specs.declared.votes.Phase.{Phase}
+use Rattle.ordering.specs.declared.votes.Phase.TheVariants as phases
 use Rattle.ordering.specs.declared.votes.Vote.{Vote}
 use Rattle.ordering.proofs.Faults.{prepare_in_marks, commit_in_marks}
 use Rattle.ordering.proofs.Reading.{batches_are_logged, prepares_count, commits_count}
@@ -120,11 +122,9 @@ less_held begun old new texts less was among h = record {
 same_held : (begun : ℕ) (old new : LogData) (texts : List (List ℕ)) → ((i : ℕ) → logs.logged_batch new i ≡ logs.logged_batch old i) → HoldsBatches begun old texts → HoldsBatches begun new texts
 same_held begun old new texts same h = record { logged = λ i text above there. h.logged i text above (sym (same i) ∙ there); claimed = h.claimed }
 
-pub prepare_held : (begun number : ℕ) (vote : Vote) (log : LogData) (texts : List (List ℕ)) → IsLog log → logs.is_in_marks log number ≡ true → HoldsBatches begun log texts → HoldsBatches begun (logs.with_prepare log number vote) texts
-prepare_held begun number vote log texts is within h = same_held begun log (logs.with_prepare log number vote) texts (λ i. (prepares_count log i number 0 vote is within).0) h
-
-pub commit_held : (begun number : ℕ) (vote : Vote) (log : LogData) (texts : List (List ℕ)) → IsLog log → logs.is_in_marks log number ≡ true → HoldsBatches begun log texts → HoldsBatches begun (logs.with_commit log number vote) texts
-commit_held begun number vote log texts is within h = same_held begun log (logs.with_commit log number vote) texts (λ i. (commits_count log i number 0 vote is within).0) h
+same_logged : (phase : Phase) (number : ℕ) (vote : Vote) (log : LogData) → IsLog log → logs.is_in_marks log number ≡ true → (i : ℕ) → logs.logged_batch (logs.with_vote_in phase log number vote) i ≡ logs.logged_batch log i
+same_logged phases.Prepare number vote log is within i = (prepares_count log i number 0 vote is within).0
+same_logged phases.Commit number vote log is within i = (commits_count log i number 0 vote is within).0
 
 pub cut_held : (begun low : ℕ) (log : LogData) (texts less : List (List ℕ)) → IsLog log → Each (IsAmongTexts texts) less → HoldsBatches begun log texts → HoldsBatches begun (logs.cut_to log low) less
 cut_held begun low log texts less is among h = less_held begun log (logs.cut_to log low) texts less was among h
@@ -162,18 +162,20 @@ batch_held begun number text log texts more is within batch some among h = recor
 pub with_log : (o : OrdererData) (log : LogData) → IsOrderer o → log.me ≡ o.log.me → log.faults ≡ o.log.faults → HoldsBatches o.begun log o.claims.texts → IsOrderer (record o { log = log })
 with_log o log own me faults held = (me ∙ own.0, faults ∙ own.1, own.2, own.3, held)
 
+pub vote_added : (phase : Phase) (o : OrdererData) (number : ℕ) (vote : Vote) (log : LogData) → IsOrderer o → IsLog o.log → logs.is_in_marks o.log number ≡ true → log ≡ logs.with_vote_in phase o.log number vote → IsOrderer (record o { log = log })
+vote_added phase o number vote log own is within new =
+    let voted : LogData = logs.with_vote_in phase o.log number vote in
+    subst (λ (l : LogData). IsOrderer (record o { log = l })) (sym new)
+    (with_log o voted own refl refl (same_held o.begun o.log voted o.claims.texts (same_logged phase number vote o.log is within) own.4))
+
 pub prepare_taken : (o : OrdererData) (sender : ReplicaId) (p : Prepare) (log : LogData) (r : Result Unit Dropped) → IsOrderer o → IsLog o.log → LogTakesPrepare o.log log sender p r → IsOrderer (record o { log = log })
 prepare_taken o sender p log (Ok done) own is (none, new) =
-    let vote : Vote = record { sender = sender; digest = p.digest } in
-    subst (λ (l : LogData). IsOrderer (record o { log = l })) (sym new)
-    (with_log o (logs.with_prepare o.log p.number.0 vote) own refl refl (prepare_held o.begun p.number.0 vote o.log o.claims.texts is (prepare_in_marks o.log sender.0 p.view.0 p.number.0 p.digest none) own.4))
+    vote_added phases.Prepare o p.number.0 (record { sender = sender; digest = p.digest }) log own is (prepare_in_marks o.log sender.0 p.view.0 p.number.0 p.digest none) new
 prepare_taken o sender p log (Err e) own is (some, new) = subst (λ (l : LogData). IsOrderer (record o { log = l })) (sym new) own
 
 pub commit_taken : (o : OrdererData) (sender : ReplicaId) (p : Commit) (log : LogData) (r : Result Unit Dropped) → IsOrderer o → IsLog o.log → LogTakesCommit o.log log sender p r → IsOrderer (record o { log = log })
 commit_taken o sender p log (Ok done) own is (none, new) =
-    let vote : Vote = record { sender = sender; digest = p.digest } in
-    subst (λ (l : LogData). IsOrderer (record o { log = l })) (sym new)
-    (with_log o (logs.with_commit o.log p.number.0 vote) own refl refl (commit_held o.begun p.number.0 vote o.log o.claims.texts is (commit_in_marks o.log sender.0 p.view.0 p.number.0 p.digest none) own.4))
+    vote_added phases.Commit o p.number.0 (record { sender = sender; digest = p.digest }) log own is (commit_in_marks o.log sender.0 p.view.0 p.number.0 p.digest none) new
 commit_taken o sender p log (Err e) own is (some, new) = subst (λ (l : LogData). IsOrderer (record o { log = l })) (sym new) own
 
 pub checkpoint_counted : (o : OrdererData) (sender : ℕ) (entry : CheckpointEntry) (log : LogData) → IsOrderer o → log ≡ logs.with_checkpoint_of o.log sender entry → IsOrderer (record o { log = log })
@@ -252,16 +254,6 @@ pub joins_none : (o : OrdererData) (me : ℕ) (target : View) (view : Option Vie
     → IfNone view (IsJoinedByNone o)
 joins_none o me target None own are mine aimed h = joined_by_none o me target.0 own are mine aimed h
 joins_none o me target (Some v) own are mine aimed h = tt
-
-pub prepare_added : (o : OrdererData) (number : ℕ) (vote : Vote) (log : LogData) → IsOrderer o → IsLog o.log → logs.is_in_marks o.log number ≡ true → log ≡ logs.with_prepare o.log number vote → IsOrderer (record o { log = log })
-prepare_added o number vote log own is within new =
-    subst (λ (l : LogData). IsOrderer (record o { log = l })) (sym new)
-    (with_log o (logs.with_prepare o.log number vote) own refl refl (prepare_held o.begun number vote o.log o.claims.texts is within own.4))
-
-pub commit_added : (o : OrdererData) (number : ℕ) (vote : Vote) (log : LogData) → IsOrderer o → IsLog o.log → logs.is_in_marks o.log number ≡ true → log ≡ logs.with_commit o.log number vote → IsOrderer (record o { log = log })
-commit_added o number vote log own is within new =
-    subst (λ (l : LogData). IsOrderer (record o { log = l })) (sym new)
-    (with_log o (logs.with_commit o.log number vote) own refl refl (commit_held o.begun number vote o.log o.claims.texts is within own.4))
 
 -- a selection of claimed batches has batches
 pub selected_are : {E : Type 0} (o : OrdererData) (r : Result (Option Selection) E) → IsOrderer o → IfOk r (λ x. IfSome x (λ s. IsSelection o s.start.0 s.root (texts_of s.batches.items)))

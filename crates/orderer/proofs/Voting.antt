@@ -4,21 +4,22 @@ use Rattle.std.proofs.lemmas.Bool.{and_parts, ltb-true, leb-true}
 use Rattle.std.proofs.lemmas.List.{get_or-set_same, get_or-set_other}
 use Rattle.std.specs.Bool.{then_some}
 use Rattle.quorum.specs.Votes.{or_else}
+use Rattle.ordering.specs.declared.votes.Phase.{Phase}
+use Rattle.ordering.specs.declared.votes.Phase.TheVariants as phases
 use Rattle.ordering.specs.declared.votes.Vote.{Vote}
 use Rattle.ordering.specs.Votes.{voted_digest, with_vote}
-use Rattle.ordering.specs.Log as logs
-use Rattle.ordering.specs.Log.{Row, no_row, LogData, primary, replicas, digest_of, is_in_marks, is_row_prepared, place, row_of, with_row, with_prepare, with_commit, due_prepare, due_commit, logged_digest, prepare_of, commit_of, is_prepared, logged_batch}
+use Rattle.ordering.specs.Log.{Row, no_row, LogData, primary, replicas, digest_of, is_in_marks, is_row_prepared, place, row_of, with_row, with_row_vote, with_prepare, with_commit, with_vote_in, due_prepare, due_commit, due_vote, votes_in, logged_digest, commit_of, vote_of, is_prepared, logged_batch}
 use Rattle.ordering.specs.Keeping.{IsLog}
-use Rattle.ordering.specs.Laws.{PreparesCount, CommitsCount}
 use Rattle.replica_histories.proofs.Words.{passed}
 use Rattle.sha2.specs.Sha256.{sha256}
 use Rattle.wire_format.specs.Messages.{MessageData as Message, prepare as Prepare, commit as Commit}
 use Rattle.ordering.proofs.Reading.{prepares_count, commits_count}
 use Rattle.protocol.specs.System.Configuration.{Configuration, members}
 use Rattle.protocol.specs.System.Frames.{IsPosted}
-use Rattle.protocol.specs.System.Trace.{Entry}
+use Rattle.protocol.specs.System.Trace.{Entry, Has}
 use Rattle.protocol.specs.System.Trace.Entry.{Sent}
 use Rattle.protocol.proofs.Words.Options.{some_injective}
+use Rattle.claims.specs.ClaimsView.{ClaimsData}
 use Rattle.claims.specs.Recording.{with_prepared}
 use Rattle.protocol.specs.Replica.RightReplica.{others}
 use Rattle.posting.proofs.Posting.{posted_for_others}
@@ -30,9 +31,9 @@ use Rattle.replica_histories.proofs.ChangesPassing.{outputs_pass, commits_are_cl
 use Rattle.replica_histories.proofs.Giving.{prepares_fit, commits_fit}
 use Rattle.orderer.specs.State.{OrdererData, IsOrderer}
 use Rattle.orderer.specs.Fitting.{given, changes_held, FitsEvent}
-use Rattle.orderer.specs.Going.{KeepsFitting}
+use Rattle.orderer.specs.Going.{KeepsFitting, NoVoteIsDue}
 use Rattle.orderer.specs.Claiming.{claiming, ClaimsLogged}
-use Rattle.orderer.specs.Saying.{SaysToOthers, AddsPrepare, AddsCommit, SaysVote, SaysPrepare, SaysCommit, SaysVotes}
+use Rattle.orderer.specs.Saying.{SaysToOthers, AddsVote, SaysVote, SaysPrepare, SaysCommit, SaysVotes}
 use Rattle.orderer.proofs.Staying.{GivesOne, gives_one, sent_beside, same_rows, fits_on, fits_with, changes_still, fits_behind, numbers_beside}
 use Rattle.orderer.proofs.Parties.{same_orderer, orderers_twice, same_log}
 use Rattle.replica_histories.proofs.ChangesKept.{sent_keep}
@@ -81,27 +82,17 @@ prepare_by m b r = cond (m.active && not (m.me == primary m m.view) && is_none (
 abbrev commit_by : LogData → Bool → Row → Option (List ℕ)
 commit_by m b r = cond (m.active && (b && is_row_prepared m.faults (replicas m) r) && is_none (cond b (voted_digest r.commits m.me) None)) (cond b (digest_of r) None) None
 
-prepare_out : (m : LogData) (r s : Row) → prepare_by m false r ≡ prepare_by m false s
-prepare_out m r s = refl
+pub due_elsewhere : (m : LogData) (i j : ℕ) (row : Row) → is_in_marks m j ≡ true → i ≢ j → (due_prepare (with_row m j row) i ≡ due_prepare m i) × (due_commit (with_row m j row) i ≡ due_commit m i)
+due_elsewhere m i j row hj ne = (elsewhere (prepare_by m) (λ r s. refl) m i j row hj ne, elsewhere (commit_by m) (λ r s. refl) m i j row hj ne)
 
-commit_out : (m : LogData) (r s : Row) → commit_by m false r ≡ commit_by m false s
-commit_out m r s = refl
+-- where no vote was due, none is
+pub none_elsewhere : (m : LogData) (i j : ℕ) (row : Row) → is_in_marks m j ≡ true → i ≢ j → NoVoteIsDue m i → NoVoteIsDue (with_row m j row) i
+none_elsewhere m i j row hj ne v = let e = due_elsewhere m i j row hj ne in (e.0 ∙ v.0, e.1 ∙ v.1)
 
-pub due_prepare_elsewhere : (m : LogData) (i j : ℕ) (row : Row) → is_in_marks m j ≡ true → i ≢ j → due_prepare (with_row m j row) i ≡ due_prepare m i
-due_prepare_elsewhere m i j row hj ne = elsewhere (prepare_by m) (prepare_out m) m i j row hj ne
-
-pub due_commit_elsewhere : (m : LogData) (i j : ℕ) (row : Row) → is_in_marks m j ≡ true → i ≢ j → due_commit (with_row m j row) i ≡ due_commit m i
-due_commit_elsewhere m i j row hj ne = elsewhere (commit_by m) (commit_out m) m i j row hj ne
-
--- if a vote is due, the number is within the marks, and there is none yet
-pub due_prepare_within : (m : LogData) (i : ℕ) (d : List ℕ) → due_prepare m i ≡ Some d → is_in_marks m i ≡ true
-due_prepare_within m i d h =
-    let a = passed (m.active && not (m.me == primary m m.view) && is_none (prepare_of m i m.me)) (logged_digest m i) d h in
-    (passed (is_in_marks m i) (digest_of (row_of m i)) d a.1).0
-
-pub due_commit_within : (m : LogData) (i : ℕ) (d : List ℕ) → due_commit m i ≡ Some d → is_in_marks m i ≡ true
-due_commit_within m i d h =
-    let a = passed (m.active && logs.is_prepared m i && is_none (commit_of m i m.me)) (logged_digest m i) d h in
+-- if a vote is due, the number is within the marks
+due_within : (phase : Phase) (m : LogData) (i : ℕ) (d : List ℕ) → due_vote phase m i ≡ Some d → is_in_marks m i ≡ true
+due_within phase m i d h =
+    let a = passed (m.active && votes_in phase m i && is_none (vote_of phase m i m.me)) (logged_digest m i) d h in
     (passed (is_in_marks m i) (digest_of (row_of m i)) d a.1).0
 
 -- a counted vote is the sender's, if not the first
@@ -116,15 +107,15 @@ stopped : (b : Bool) (o : Option (List ℕ)) (x : Bool) → x ≡ false → cond
 stopped true o x e = rw e refl
 stopped false o x e = refl
 
-pub prepare_said : PreparesCount → (m : LogData) (i : ℕ) (vote : Vote) → IsLog m → is_in_marks m i ≡ true → vote.sender.0 ≡ m.me → due_prepare (with_prepare m i vote) i ≡ None
-prepare_said counts m i vote is hi own =
-    let k : prepare_of (with_prepare m i vote) i m.me ≡ cond (i == i) (or_else (prepare_of m i m.me) (then_some (vote.sender.0 == m.me) vote.digest)) (prepare_of m i m.me) = (counts m i i m.me vote is hi).1 in
-    stopped (m.active && not (m.me == primary m m.view)) (logged_digest (with_prepare m i vote) i) (is_none (prepare_of (with_prepare m i vote) i m.me)) (ap is_none k ∙ counted (prepare_of m i m.me) m.me i vote own)
+vote_read : (phase : Phase) (m : LogData) (i s : ℕ) (vote : Vote) → IsLog m → is_in_marks m i ≡ true
+    → vote_of phase (with_vote_in phase m i vote) i s ≡ cond (i == i) (or_else (vote_of phase m i s) (then_some (vote.sender.0 == s) vote.digest)) (vote_of phase m i s)
+vote_read phases.Prepare m i s vote is hi = (prepares_count m i i s vote is hi).1
+vote_read phases.Commit m i s vote is hi = (commits_count m i i s vote is hi).2
 
-pub commit_said : CommitsCount → (m : LogData) (i : ℕ) (vote : Vote) → IsLog m → is_in_marks m i ≡ true → vote.sender.0 ≡ m.me → due_commit (with_commit m i vote) i ≡ None
-commit_said counts m i vote is hi own =
-    let k : commit_of (with_commit m i vote) i m.me ≡ cond (i == i) (or_else (commit_of m i m.me) (then_some (vote.sender.0 == m.me) vote.digest)) (commit_of m i m.me) = (counts m i i m.me vote is hi).2 in
-    stopped (m.active && logs.is_prepared (with_commit m i vote) i) (logged_digest (with_commit m i vote) i) (is_none (commit_of (with_commit m i vote) i m.me)) (ap is_none k ∙ counted (commit_of m i m.me) m.me i vote own)
+vote_said : (phase : Phase) (m : LogData) (i : ℕ) (vote : Vote) → IsLog m → is_in_marks m i ≡ true → vote.sender.0 ≡ m.me → due_vote phase (with_vote_in phase m i vote) i ≡ None
+vote_said phase m i vote is hi own =
+    let new : LogData = with_vote_in phase m i vote in
+    stopped (m.active && votes_in phase new i) (logged_digest new i) (is_none (vote_of phase new i m.me)) (ap is_none (vote_read phase m i m.me vote is hi) ∙ counted (vote_of phase m i m.me) m.me i vote own)
 
 -- a commit leaves the due prepare
 pub prepare_stays : (m : LogData) (i : ℕ) (vote : Vote) → IsLog m → is_in_marks m i ≡ true → due_prepare (with_commit m i vote) i ≡ due_prepare m i
@@ -157,6 +148,22 @@ silent number o outs = record {
 pub no_commit : (number : ℕ) (o : OrdererData) (outs : List Output) → due_commit o.log number ≡ None → SaysCommit number o outs o outs
 no_commit number o outs h = record { says = silent number o outs; said = h; prepared = refl }
 
+-- a vote is counted, and no claim of a logged batch changes
+votes : (phase : Phase) (number : ℕ) (vote : Vote) (old : OrdererData) (claims : ClaimsData) (before after : List Output) → claims.logged ≡ old.claims.logged → is_in_marks old.log number ≡ true
+    → (let new : OrdererData = record old { log = with_vote_in phase old.log number vote; claims = claims } in KeepsFitting old before new after → SaysVote number old before new after)
+votes phase number vote old claims before after logged inside goes = record {
+  goes = goes;
+  same = record {
+    endpoint = refl;
+    log = same_rows old.log (with_vote_in phase old.log number vote).rows;
+    target = refl;
+    choice = λ off. record { received = refl; spent = refl; logged = λ claim has. subst (Has (λ x. x ≡ claim)) logged has };
+  };
+  low = refl;
+  used = refl;
+  others = λ i ne. none_elsewhere old.log i number (with_row_vote phase (row_of old.log number) vote) inside ne;
+}
+
 -- ---- a prepare
 
 prepare_goes : (number : ℕ) (digest : List ℕ) (vote : Vote) (o : OrdererData) (before after : List Output) → o.log.me ≡ o.endpoint.me → due_prepare o.log number ≡ Some digest
@@ -171,26 +178,15 @@ prepare_goes number digest vote o before after own due sender same says c s desk
     (prepares_fit c o.endpoint.me s desk o.log d (given o.endpoint.me before) number digest k.bytes vote due (sender ∙ own) same k.posted f.fits)
 
 pub says_prepare : (number : ℕ) (digest : List ℕ) (old new : OrdererData) (before after : List Output) → IsLog old.log → IsOrderer old → due_prepare old.log number ≡ Some digest
-    → SaysToOthers old (Prepare old.log.view number digest) before after → AddsPrepare number digest old new → SaysPrepare number old before new after
+    → SaysToOthers old (Prepare old.log.view number digest) before after → AddsVote phases.Prepare number digest old new → SaysPrepare number old before new after
 says_prepare number digest old new before after is own due says adds =
     subst (λ (x : OrdererData). SaysPrepare number old before x after) (sym adds.new_is) (record {
-      says = record {
-        goes = prepare_goes number digest adds.vote old before after own.0 due adds.sender adds.digest_is says;
-        same = record {
-          endpoint = refl;
-          log = same_rows old.log (with_prepare old.log number adds.vote).rows;
-          target = refl;
-          choice = λ off. record { received = refl; spent = refl; logged = λ claim has. has };
-        };
-        low = refl;
-        used = refl;
-        others = λ i ne v. (due_prepare_elsewhere old.log i number _ inside ne ∙ v.0, due_commit_elsewhere old.log i number _ inside ne ∙ v.1);
-      };
-      said = prepare_said prepares_count old.log number adds.vote is inside adds.sender;
+      says = votes phases.Prepare number adds.vote old old.claims before after refl inside (prepare_goes number digest adds.vote old before after own.0 due adds.sender adds.digest_is says);
+      said = vote_said phases.Prepare old.log number adds.vote is inside adds.sender;
     })
   where
     inside : is_in_marks old.log number ≡ true
-    inside = due_prepare_within old.log number digest due
+    inside = due_within phases.Prepare old.log number digest due
 
 -- ---- a commit
 
@@ -254,35 +250,24 @@ commit_goes number digest text vote o before after own due hashed sender same sa
     on = commits_fit c me s desk o.log d (given me before) number digest k.bytes vote due (sender ∙ own) same k.posted f.fits
 
 claimed_commit : (number : ℕ) (digest text : List ℕ) (old new : OrdererData) (before after : List Output) → IsLog old.log → IsOrderer old → due_commit old.log number ≡ Some digest → sha256 text ≡ digest
-    → SaysToOthers (claiming number text old) (Commit old.log.view number digest) before after → AddsCommit number digest (claiming number text old) new → SaysCommit number old before new after
+    → SaysToOthers (claiming number text old) (Commit old.log.view number digest) before after → AddsVote phases.Commit number digest (claiming number text old) new → SaysCommit number old before new after
 claimed_commit number digest text old new before after is own due hashed says adds =
     subst (λ (x : OrdererData). SaysCommit number old before x after) (sym adds.new_is) (record {
-      says = record {
-        goes = commit_goes number digest text adds.vote old before after own.0 due hashed adds.sender adds.digest_is says;
-        same = record {
-          endpoint = refl;
-          log = same_rows old.log (with_commit old.log number adds.vote).rows;
-          target = refl;
-          choice = λ off. record { received = refl; spent = refl; logged = λ claim has. has };
-        };
-        low = refl;
-        used = refl;
-        others = λ i ne v. (due_prepare_elsewhere old.log i number _ inside ne ∙ v.0, due_commit_elsewhere old.log i number _ inside ne ∙ v.1);
-      };
-      said = commit_said commits_count old.log number adds.vote is inside adds.sender;
+      says = votes phases.Commit number adds.vote old (claiming number text old).claims before after refl inside (commit_goes number digest text adds.vote old before after own.0 due hashed adds.sender adds.digest_is says);
+      said = vote_said phases.Commit old.log number adds.vote is inside adds.sender;
       prepared = prepare_stays old.log number adds.vote is inside;
     })
   where
     inside : is_in_marks old.log number ≡ true
-    inside = due_commit_within old.log number digest due
+    inside = due_within phases.Commit old.log number digest due
 
 pub says_commit : (number : ℕ) (digest : List ℕ) (old mid new : OrdererData) (before after : List Output) → IsLog old.log → IsOrderer old → due_commit old.log number ≡ Some digest
-    → ClaimsLogged number old mid → SaysToOthers mid (Commit mid.log.view number digest) before after → AddsCommit number digest mid new → SaysCommit number old before new after
+    → ClaimsLogged number old mid → SaysToOthers mid (Commit mid.log.view number digest) before after → AddsVote phases.Commit number digest mid new → SaysCommit number old before new after
 says_commit number digest old mid new before after is own due claims says adds =
     let k = claims_due number digest old mid due claims in
     claimed_commit number digest k.text old new before after is own due k.digest_is
     (subst (λ (x : OrdererData). SaysToOthers x (Commit x.log.view number digest) before after) k.new_is says)
-    (subst (λ (x : OrdererData). AddsCommit number digest x new) k.new_is adds)
+    (subst (λ (x : OrdererData). AddsVote phases.Commit number digest x new) k.new_is adds)
 
 -- ---- both
 

@@ -7,7 +7,9 @@ use Rattle.events.specs.declared.output.Output.{Output}
 use Rattle.events.specs.Outputs.{entry_of}
 use Rattle.posting.specs.Endpoint.{PostsToOthers}
 use Rattle.ordering.specs.Log as logs
-use Rattle.ordering.specs.Log.{with_batch, with_prepare, with_commit}
+use Rattle.ordering.specs.Log.{with_batch}
+use Rattle.ordering.specs.declared.votes.Phase.{Phase}
+use Rattle.ordering.specs.declared.votes.Phase.TheVariants as phases
 use Rattle.ordering.specs.declared.votes.Vote.{Vote}
 use Rattle.protocol.specs.System.Configuration.{Configuration, members}
 use Rattle.protocol.specs.System.Trace.{Entry, Has}
@@ -29,18 +31,17 @@ pub record SaysToOthers (o : OrdererData) (message : Message) (before after : Li
   pub posts : PostsToOthers o.endpoint message output
   pub given_is : after ≡ before ++ output ∷ []
 
--- the replica's own prepare, or commit, of a digest is counted
-pub record AddsPrepare (number : ℕ) (digest : List ℕ) (old new : OrdererData) : Type 0 where
-  pub vote : Vote
-  pub sender : vote.sender.0 ≡ old.log.me
-  pub digest_is : vote.digest ≡ digest
-  pub new_is : new ≡ record old { log = with_prepare old.log number vote }
+-- the message by which a replica votes in a phase
+abbrev pub vote_message : Phase → ℕ → ℕ → List ℕ → Message
+vote_message phases.Prepare view number digest = Prepare view number digest
+vote_message phases.Commit view number digest = Commit view number digest
 
-pub record AddsCommit (number : ℕ) (digest : List ℕ) (old new : OrdererData) : Type 0 where
+-- the replica's own vote for a digest is counted
+pub record AddsVote (phase : Phase) (number : ℕ) (digest : List ℕ) (old new : OrdererData) : Type 0 where
   pub vote : Vote
   pub sender : vote.sender.0 ≡ old.log.me
   pub digest_is : vote.digest ≡ digest
-  pub new_is : new ≡ record old { log = with_commit old.log number vote }
+  pub new_is : new ≡ record old { log = logs.with_vote_in phase old.log number vote }
 
 -- The orderer goes on, and the log asks for no more votes for numbers but this one.
 pub record SaysVote (number : ℕ) (old : OrdererData) (before : List Output) (new : OrdererData)
@@ -76,13 +77,18 @@ pub record SaysVotes (number : ℕ) (old : OrdererData) (before : List Output) (
 abbrev pub row_place : ℕ → ℕ
 row_place number = 3 * number + 1
 
+-- A vote comes so many places behind its batch.
+abbrev pub vote_place : Phase → ℕ
+vote_place phases.Prepare = 1
+vote_place phases.Commit = 2
+
 -- The message comes before a place in that order. A checkpoint comes last. A view change goes again alone.
 abbrev pub IsBelow : ℕ → Message → Type 0
 IsBelow place message = elim message [
   | NewView new ↦ 0 < place
   | PrePrepare v i batch ↦ row_place i < place
-  | Prepare v i digest ↦ row_place i + 1 < place
-  | Commit v i digest ↦ row_place i + 2 < place
+  | Prepare v i digest ↦ row_place i + vote_place phases.Prepare < place
+  | Commit v i digest ↦ row_place i + vote_place phases.Commit < place
   | _ ↦ ⊥
 ]
 
@@ -139,20 +145,16 @@ PostsBatch number o outs =
     (text : List ℕ) → o.log.me ≡ logs.primary o.log o.log.view → o.begun < number
     → logs.logged_batch o.log number ≡ Some text → Posted o (PrePrepare o.log.view number text) outs
 
--- the outputs have the replica's own prepare, or commit, that the log has
-abbrev pub PostsPrepare : ℕ → OrdererData → List Output → Type 0
-PostsPrepare number o outs =
-    (digest : List ℕ) → logs.prepare_of o.log number o.log.me ≡ Some digest
-    → Posted o (Prepare o.log.view number digest) outs
-
-abbrev pub PostsCommit : ℕ → OrdererData → List Output → Type 0
-PostsCommit number o outs =
-    (digest : List ℕ) → logs.commit_of o.log number o.log.me ≡ Some digest
-    → Posted o (Commit o.log.view number digest) outs
+-- the outputs have the replica's own vote that the log has
+abbrev pub PostsVote : Phase → ℕ → OrdererData → List Output → Type 0
+PostsVote phase number o outs =
+    (digest : List ℕ) → logs.vote_of phase o.log number o.log.me ≡ Some digest
+    → Posted o (vote_message phase o.log.view number digest) outs
 
 -- all three of a number
 abbrev pub PostsRow : ℕ → OrdererData → List Output → Type 0
-PostsRow number o outs = PostsBatch number o outs × PostsPrepare number o outs × PostsCommit number o outs
+PostsRow number o outs =
+    PostsBatch number o outs × PostsVote phases.Prepare number o outs × PostsVote phases.Commit number o outs
 
 -- the replica's new view, its last checkpoint, and its view change
 abbrev pub PostsNewView : OrdererData → List Output → Type 0

@@ -9,12 +9,12 @@ ghost use Rattle.wire_format.specs.Views.{message_data, texts_of};
 ghost use Rattle.posting.specs.Endpoint.{FitsFrame};
 ghost use Rattle.state_transfer.specs.Places.{IsPlace};
 ghost use Rattle.orderer.specs.Going.{KeepsParty};
-ghost use Rattle.orderer.specs.Saying.{PostsAll, PostsBatch, PostsCommit, PostsPrepare, PostsRow, SaysToOthers, SaysAlso, SaysOwnBatch, SaysLastAlso, row_place};
+ghost use Rattle.orderer.specs.Saying.{PostsAll, PostsBatch, PostsRow, PostsVote, SaysToOthers, SaysAlso, SaysOwnBatch, SaysLastAlso, row_place, vote_place};
 
 use crate::orderer::Orderer;
 use authenticator::SealFault;
 use events::{Outputs, Stop, give};
-use ordering::HashedBatch;
+use ordering::{HashedBatch, Phase};
 use posting::{fetch_message, pre_prepare_message};
 use state_transfer::Place;
 use std::alloc::Global;
@@ -80,8 +80,8 @@ impl Orderer {
         ensures same { self.new ≡ self.old }
     {
         self.say_batch_again(alloc, number, outputs)?;
-        self.say_prepare_again(alloc, number, outputs)?;
-        self.say_commit_again(alloc, number, outputs)
+        self.say_vote_again(alloc, Phase::Prepare, number, outputs)?;
+        self.say_vote_again(alloc, Phase::Commit, number, outputs)
     }
 
     fn say_batch_again(
@@ -106,38 +106,22 @@ impl Orderer {
         self.say_pre_prepare(alloc, number, batch.text(), outputs)
     }
 
-    fn say_prepare_again(
+    fn say_vote_again(
         &mut self,
         alloc: Global,
+        phase: Phase,
         number: Number,
         outputs: &mut Outputs,
     ) -> Result<(), Stop>
-        ensures ok { OnOk result (SaysAlso (row_place number.0 + 1) (row_place number.0 + 2) (PostsPrepare number.0)
+        ensures ok { OnOk result (SaysAlso (row_place number.0 + vote_place phase)
+            (row_place number.0 + (vote_place phase + 1)) (PostsVote phase number.0)
             self.old outputs.old.items self.new outputs.new.items) }
         ensures same { self.new ≡ self.old }
     {
         self.keeps();
         let me = self.log.me();
-        match self.log.prepare_of(number, me) {
-            Some(digest) => self.say_prepare(alloc, number, digest, outputs),
-            None => Ok(()),
-        }
-    }
-
-    fn say_commit_again(
-        &mut self,
-        alloc: Global,
-        number: Number,
-        outputs: &mut Outputs,
-    ) -> Result<(), Stop>
-        ensures ok { OnOk result (SaysAlso (row_place number.0 + 2) (row_place number.0 + 3) (PostsCommit number.0)
-            self.old outputs.old.items self.new outputs.new.items) }
-        ensures same { self.new ≡ self.old }
-    {
-        self.keeps();
-        let me = self.log.me();
-        match self.log.commit_of(number, me) {
-            Some(digest) => self.say_commit(alloc, number, digest, outputs),
+        match self.log.vote_of(phase, number, me) {
+            Some(digest) => self.say_vote(alloc, phase, number, digest, outputs),
             None => Ok(()),
         }
     }

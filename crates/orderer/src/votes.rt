@@ -1,16 +1,15 @@
 //! The replica's own prepares and commits, for which its log asks.
 
 ghost use Rattle.std.specs.Prelude.{◌≡◌, ◌==◌, true, false, OnOk};
-ghost use Rattle.wire_format.specs.Messages.{commit, prepare};
 ghost use Rattle.ordering.specs.Keeping.{IsLog};
 ghost use Rattle.ordering.specs.Log.{is_in_marks, primary};
 ghost use Rattle.orderer.specs.Going.{KeepsParty};
-ghost use Rattle.orderer.specs.Saying.{AddsCommit, AddsPrepare, SaysToOthers, SaysCommit, SaysPrepare, SaysVotes};
+ghost use Rattle.orderer.specs.Saying.{AddsVote, SaysToOthers, SaysCommit, SaysPrepare, SaysVotes, vote_message};
 ghost use Rattle.orderer.specs.State.{IsOrderer};
 
 use crate::orderer::Orderer;
 use events::{Outputs, Stop};
-use ordering::Vote;
+use ordering::{Phase, Vote};
 use posting::{commit_message, prepare_message};
 use std::alloc::Global;
 use terms::{Digest, Number};
@@ -58,11 +57,11 @@ impl Orderer {
         ensures party { KeepsParty self.old self.new }
     {
         self.keeps();
-        let Some(digest) = self.log.due_prepare(number) else {
+        let Some(digest) = self.log.due_vote(Phase::Prepare, number) else {
             return Ok(());
         };
-        self.say_prepare(alloc, number, digest, outputs)?;
-        self.add_prepare(number, digest);
+        self.say_vote(alloc, Phase::Prepare, number, digest, outputs)?;
+        self.add_vote(Phase::Prepare, number, digest);
         Ok(())
     }
 
@@ -77,64 +76,42 @@ impl Orderer {
         ensures party { KeepsParty self.old self.new }
     {
         self.keeps();
-        let Some(digest) = self.log.due_commit(number) else {
+        let Some(digest) = self.log.due_vote(Phase::Commit, number) else {
             return Ok(());
         };
         self.note_prepared(number)?;
-        self.say_commit(alloc, number, digest, outputs)?;
-        self.add_commit(number, digest);
+        self.say_vote(alloc, Phase::Commit, number, digest, outputs)?;
+        self.add_vote(Phase::Commit, number, digest);
         Ok(())
     }
 
-    // Counts the replica's own prepare.
-    fn add_prepare(&mut self, number: Number, digest: Digest)
+    // Counts the replica's own vote.
+    fn add_vote(&mut self, phase: Phase, number: Number, digest: Digest)
         requires { is_in_marks self.old.log number.0 ≡ true }
-        ensures { AddsPrepare number.0 digest self.old self.new }
+        ensures { AddsVote phase number.0 digest self.old self.new }
     {
         let sender = self.log.me();
         self.keeps();
-        self.log.add_prepare(number, Vote { sender, digest });
+        self.log.add_vote(phase, number, Vote { sender, digest });
     }
 
-    // Counts the replica's own commit.
-    fn add_commit(&mut self, number: Number, digest: Digest)
-        requires { is_in_marks self.old.log number.0 ≡ true }
-        ensures { AddsCommit number.0 digest self.old self.new }
-    {
-        let sender = self.log.me();
-        self.keeps();
-        self.log.add_commit(number, Vote { sender, digest });
-    }
-
-    /// Multicasts a prepare.
-    pub(crate) fn say_prepare(
+    /// Multicasts a prepare, or a commit.
+    pub(crate) fn say_vote(
         &mut self,
         alloc: Global,
+        phase: Phase,
         number: Number,
         digest: Digest,
         outputs: &mut Outputs,
     ) -> Result<(), Stop>
-        ensures said { OnOk result (SaysToOthers self.old (prepare self.old.log.view number.0 digest)
+        ensures said { OnOk result (SaysToOthers self.old (vote_message phase self.old.log.view number.0 digest)
             outputs.old.items outputs.new.items) }
         ensures same { self.new ≡ self.old }
     {
-        let message = prepare_message(self.log.view(), number, digest);
-        self.say(alloc, message, outputs)
-    }
-
-    /// Multicasts a commit.
-    pub(crate) fn say_commit(
-        &mut self,
-        alloc: Global,
-        number: Number,
-        digest: Digest,
-        outputs: &mut Outputs,
-    ) -> Result<(), Stop>
-        ensures said { OnOk result (SaysToOthers self.old (commit self.old.log.view number.0 digest)
-            outputs.old.items outputs.new.items) }
-        ensures same { self.new ≡ self.old }
-    {
-        let message = commit_message(self.log.view(), number, digest);
-        self.say(alloc, message, outputs)
+        let view = self.log.view();
+        match phase {
+            Phase::Prepare => self.say(alloc, prepare_message(view, number, digest), outputs),
+            Phase::Commit => self.say(alloc, commit_message(view, number, digest), outputs),
+        }
     }
 }

@@ -4,11 +4,12 @@ use Rattle.std.specs.List.{All}
 use Rattle.std.proofs.lemmas.Bool.{and_parts, ltb-true, leb-true}
 use Rattle.std.proofs.lemmas.List.{length-set, length-map}
 use Rattle.std.proofs.lemmas.List.Elements.{All-set, All-map}
+use Rattle.ordering.specs.declared.votes.Phase.{Phase}
+use Rattle.ordering.specs.declared.votes.Phase.TheVariants.{Prepare, Commit}
 use Rattle.ordering.specs.declared.votes.Vote.{Vote}
-use Rattle.ordering.specs.Votes.{with_vote}
-use Rattle.ordering.specs.Log.{Row, no_row, LogData, replicas, is_in_marks, place, entered_row}
+use Rattle.ordering.specs.Log.{Row, no_row, LogData, replicas, is_in_marks, place, entered_row, with_row_vote}
 use Rattle.ordering.specs.Keeping.{IsRow, IsLog}
-use Rattle.ordering.specs.Places.{batch_put, prepare_put, commit_put}
+use Rattle.ordering.specs.Places.{batch_put, vote_put}
 use Rattle.ordering.proofs.Voting.{with_vote_keeps}
 
 -- a number within the marks has a row
@@ -38,19 +39,15 @@ batch_kept m at text rows l is e =
     let k = held m at l is in
     row_put m at (record (slice_index_or m.rows at no_row) { batch = Some text }) rows is (record { prepares = k.prepares; commits = k.commits }) e
 
-pub prepare_kept : (m : LogData) (at : ℕ) (vote : Vote) (rows : List Row) → at < m.span → IsLog m → vote.sender.0 < replicas m → rows ≡ prepare_put m.rows at vote
-    → (let x : LogData = record m { rows = rows } in IsLog x)
-prepare_kept m at vote rows l is b e =
-    let k = held m at l is in
-    row_put m at (record (slice_index_or m.rows at no_row) { prepares = with_vote vote (slice_index_or m.rows at no_row).prepares }) rows is
-    (record { prepares = with_vote_keeps (replicas m) vote (slice_index_or m.rows at no_row).prepares k.prepares b; commits = k.commits }) e
+row_voted : (phase : Phase) (n : ℕ) (row : Row) (vote : Vote) → vote.sender.0 < n → IsRow n row → IsRow n (with_row_vote phase row vote)
+row_voted Prepare n row vote b k = record { prepares = with_vote_keeps n vote row.prepares k.prepares b; commits = k.commits }
+row_voted Commit n row vote b k = record { prepares = k.prepares; commits = with_vote_keeps n vote row.commits k.commits b }
 
-pub commit_kept : (m : LogData) (at : ℕ) (vote : Vote) (rows : List Row) → at < m.span → IsLog m → vote.sender.0 < replicas m → rows ≡ commit_put m.rows at vote
+pub vote_kept : (phase : Phase) (m : LogData) (at : ℕ) (vote : Vote) (rows : List Row) → at < m.span → IsLog m → vote.sender.0 < replicas m → rows ≡ vote_put phase m.rows at vote
     → (let x : LogData = record m { rows = rows } in IsLog x)
-commit_kept m at vote rows l is b e =
-    let k = held m at l is in
-    row_put m at (record (slice_index_or m.rows at no_row) { commits = with_vote vote (slice_index_or m.rows at no_row).commits }) rows is
-    (record { prepares = k.prepares; commits = with_vote_keeps (replicas m) vote (slice_index_or m.rows at no_row).commits k.commits b }) e
+vote_kept phase m at vote rows l is b e =
+    let row : Row = slice_index_or m.rows at no_row in
+    row_put m at (with_row_vote phase row vote) rows is (row_voted phase (replicas m) row vote b (held m at l is)) e
 
 -- ---- cutting
 

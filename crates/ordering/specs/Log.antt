@@ -7,6 +7,8 @@ use Rattle.sha2.specs.Sha256.{sha256}
 use Rattle.quorum.specs.Quorum.{count_below}
 use Rattle.quorum.specs.Votes.{has_digest}
 use Rattle.wire_format.specs.Messages.{CheckpointEntryData}
+use Rattle.ordering.specs.declared.votes.Phase.{Phase}
+use Rattle.ordering.specs.declared.votes.Phase.TheVariants.{Prepare, Commit}
 use Rattle.ordering.specs.declared.votes.Vote.{Vote}
 use Rattle.ordering.specs.Votes.{voted_digest, voters, with_vote}
 use Rattle.ordering.specs.Checkpoints.{with_checkpoint, says_checkpoint}
@@ -82,13 +84,19 @@ with_row m i row = record m { rows = slice_set m.rows (place m i) row }
 abbrev pub with_batch : LogData → ℕ → List ℕ → LogData
 with_batch m i text = with_row m i (record (row_of m i) { batch = Some text })
 
+-- a vote that is added in a phase, to a row or to that of a number
+abbrev pub with_row_vote : Phase → Row → Vote → Row
+with_row_vote Prepare row vote = record row { prepares = with_vote vote row.prepares }
+with_row_vote Commit row vote = record row { commits = with_vote vote row.commits }
+
+abbrev pub with_vote_in : Phase → LogData → ℕ → Vote → LogData
+with_vote_in phase m i vote = with_row m i (with_row_vote phase (row_of m i) vote)
+
 abbrev pub with_prepare : LogData → ℕ → Vote → LogData
-with_prepare m i vote =
-    with_row m i (record (row_of m i) { prepares = with_vote vote (row_of m i).prepares })
+with_prepare m i vote = with_vote_in Prepare m i vote
 
 abbrev pub with_commit : LogData → ℕ → Vote → LogData
-with_commit m i vote =
-    with_row m i (record (row_of m i) { commits = with_vote vote (row_of m i).commits })
+with_commit m i vote = with_vote_in Commit m i vote
 
 abbrev pub with_checkpoint_of : LogData → ℕ → CheckpointEntryData → LogData
 with_checkpoint_of m s entry =
@@ -115,12 +123,20 @@ logged_batch m i = if is_in_marks m i then (row_of m i).batch else None
 abbrev pub logged_digest : LogData → ℕ → Option (List ℕ)
 logged_digest m i = if is_in_marks m i then digest_of (row_of m i) else None
 
+-- a row's votes of a phase
+abbrev pub row_votes : Phase → Row → List Vote
+row_votes Prepare row = row.prepares
+row_votes Commit row = row.commits
+
 -- the digest that the replica s prepared, or committed
+abbrev pub vote_of : Phase → LogData → ℕ → ℕ → Option (List ℕ)
+vote_of phase m i s = if is_in_marks m i then voted_digest (row_votes phase (row_of m i)) s else None
+
 abbrev pub prepare_of : LogData → ℕ → ℕ → Option (List ℕ)
-prepare_of m i s = if is_in_marks m i then voted_digest (row_of m i).prepares s else None
+prepare_of m i s = vote_of Prepare m i s
 
 abbrev pub commit_of : LogData → ℕ → ℕ → Option (List ℕ)
-commit_of m i s = if is_in_marks m i then voted_digest (row_of m i).commits s else None
+commit_of m i s = vote_of Commit m i s
 
 -- ---- certificates
 
@@ -175,16 +191,22 @@ entered m view =
 
 -- ---- the votes that the replica still has to send, while it is active
 
--- The digest of the batch of a number, if a backup has logged but not prepared it.
-abbrev pub due_prepare : LogData → ℕ → Option (List ℕ)
-due_prepare m i =
-    if m.active && not (m.me == primary m m.view) && is_none (prepare_of m i m.me)
+-- A backup prepares what it logged, and each replica commits what is prepared.
+abbrev pub votes_in : Phase → LogData → ℕ → Bool
+votes_in Prepare m i = not (m.me == primary m m.view)
+votes_in Commit m i = is_prepared m i
+
+-- The digest of the batch of a number, if the replica votes for it and has not yet.
+abbrev pub due_vote : Phase → LogData → ℕ → Option (List ℕ)
+due_vote phase m i =
+    if m.active && votes_in phase m i && is_none (vote_of phase m i m.me)
     then logged_digest m i else None
 
--- The digest of the batch of a number, if it is prepared and the replica has not committed it.
+abbrev pub due_prepare : LogData → ℕ → Option (List ℕ)
+due_prepare m i = due_vote Prepare m i
+
 abbrev pub due_commit : LogData → ℕ → Option (List ℕ)
-due_commit m i =
-    if m.active && is_prepared m i && is_none (commit_of m i m.me) then logged_digest m i else None
+due_commit m i = due_vote Commit m i
 
 -- ---- stable checkpoints
 

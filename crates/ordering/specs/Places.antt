@@ -2,29 +2,19 @@
 use Rattle.std.specs.Prelude.{ℕ, zero, suc, Bool, false, ◌&&◌, nat_le, bytes_eq, List, [], ◌∷◌, ◌==◌, if◌then◌else◌, Some, slice_set, slice_index_or}
 use Rattle.wire_format.specs.Messages.{CheckpointEntryData}
 use Rattle.wire_format.specs.declared.messages.CheckpointEntry.{CheckpointEntry}
+use Rattle.ordering.specs.declared.votes.Phase.{Phase}
 use Rattle.ordering.specs.declared.votes.Vote.{Vote}
-use Rattle.ordering.specs.Votes.{with_vote}
 use Rattle.ordering.specs.Checkpoints.{with_checkpoint}
-use Rattle.ordering.specs.Log.{Row, no_row}
+use Rattle.ordering.specs.Log.{Row, no_row, with_row_vote}
 
 -- the rows with a batch, or one more vote, in the row at a place
 abbrev pub batch_put : List Row → ℕ → List ℕ → List Row
 batch_put rows at text =
     slice_set rows at (record (slice_index_or rows at no_row) { batch = Some text })
 
-abbrev pub prepare_put : List Row → ℕ → Vote → List Row
-prepare_put rows at vote =
-    slice_set rows at
-    (record (slice_index_or rows at no_row) {
-      prepares = with_vote vote (slice_index_or rows at no_row).prepares;
-    })
-
-abbrev pub commit_put : List Row → ℕ → Vote → List Row
-commit_put rows at vote =
-    slice_set rows at
-    (record (slice_index_or rows at no_row) {
-      commits = with_vote vote (slice_index_or rows at no_row).commits;
-    })
+abbrev pub vote_put : Phase → List Row → ℕ → Vote → List Row
+vote_put phase rows at vote =
+    slice_set rows at (with_row_vote phase (slice_index_or rows at no_row) vote)
 
 -- the checkpoints of all replicas, with one more of the replica at a place
 abbrev pub checkpoint_put : List (List CheckpointEntryData) → ℕ → CheckpointEntryData

@@ -19,8 +19,8 @@
 //! - The plain data (`LogData`) have a row for each number above the low mark, in order, and three checkpoints of each
 //!   replica. A row has the logged batch, and the votes in order of arrival.
 //! - `on_preprepare`, `on_prepare`, `on_commit` and `on_checkpoint` take a message, or say why it is dropped.
-//! - `put_batch`, `add_prepare`, `add_commit` and `add_checkpoint` take the own messages as they are sent.
-//! - `due_prepare`, `due_commit` and `next_batch` tell what a number still asks for.
+//! - `put_batch`, `add_vote` and `add_checkpoint` take the own messages as they are sent.
+//! - `due_vote` and `next_batch` tell what a number still asks for.
 //! - After `leave` a log asks for no vote. `enter` begins a later view. `next_batch` still gives a batch that was
 //!   committed before.
 //! - Votes and checkpoints have their room from the start. A batch lies behind an `Arc` with its digest, so it is
@@ -41,4 +41,4 @@ pub use batch::HashedBatch;
 pub use dropped::Dropped;
 pub use laws::{committed_stay, cuts_keep, first_votes_count, messages_are_read};
 pub use log::Log;
-pub use votes::Vote;
+pub use votes::{Phase, Vote};

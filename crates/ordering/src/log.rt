@@ -13,11 +13,10 @@ ghost use Rattle.ordering.specs.Log.{with_checkpoint_of};
 use crate::batch::HashedBatch;
 use crate::checkpoints::Checkpoints;
 use crate::places::{
-    add_checkpoint_at, add_commit_at, add_prepare_at, cut_slots, enter_slots, no_checkpoints,
-    no_slots, put_batch_at,
+    add_checkpoint_at, add_vote_at, cut_slots, enter_slots, no_checkpoints, no_slots, put_batch_at,
 };
 use crate::row::Slot;
-use crate::votes::Vote;
+use crate::votes::{Phase, Vote};
 use std::alloc::Global;
 use std::marker::Model;
 use std::sync::Arc;
@@ -201,24 +200,14 @@ impl Log {
         put_batch_at(&mut self.slots, at, batch);
     }
 
-    /// Counts a prepare, unless its sender has one. The replica's own is counted when it is sent.
-    pub fn add_prepare(&mut self, number: Number, vote: Vote)
+    /// Counts a vote, unless its sender has one in the phase. The replica's own is counted when it is sent.
+    pub fn add_vote(&mut self, phase: Phase, number: Number, vote: Vote)
         requires number { spec.is_in_marks self.old number.0 ≡ true }
         requires sender { vote.sender.0 < spec.replicas self.old }
-        ensures { self.new ≡ spec.with_prepare self.old number.0 vote }
+        ensures { self.new ≡ spec.with_vote_in phase self.old number.0 vote }
     {
         let at = (number.0 - self.low.0 - 1) as usize;
-        add_prepare_at(&mut self.slots, at, vote);
-    }
-
-    /// Counts a commit, unless its sender has one. The replica's own is counted when it is sent.
-    pub fn add_commit(&mut self, number: Number, vote: Vote)
-        requires number { spec.is_in_marks self.old number.0 ≡ true }
-        requires sender { vote.sender.0 < spec.replicas self.old }
-        ensures { self.new ≡ spec.with_commit self.old number.0 vote }
-    {
-        let at = (number.0 - self.low.0 - 1) as usize;
-        add_commit_at(&mut self.slots, at, vote);
+        add_vote_at(&mut self.slots, at, phase, vote);
     }
 
     /// The batch that is logged for the number.
@@ -241,24 +230,14 @@ impl Log {
         self.slot(number).digest()
     }
 
-    /// The digest that a replica prepared for the number.
-    pub fn prepare_of(&self, number: Number, sender: ReplicaId) -> Option<Digest>
-        ensures { result ≡ spec.prepare_of self.now number.0 sender.0 }
+    /// The digest that a replica prepared, or committed, for the number.
+    pub fn vote_of(&self, phase: Phase, number: Number, sender: ReplicaId) -> Option<Digest>
+        ensures { result ≡ spec.vote_of phase self.now number.0 sender.0 }
     {
         if !self.is_in_marks(number) {
             return None;
         }
-        self.slot(number).prepare_of(sender)
-    }
-
-    /// The digest that a replica committed for the number.
-    pub fn commit_of(&self, number: Number, sender: ReplicaId) -> Option<Digest>
-        ensures { result ≡ spec.commit_of self.now number.0 sender.0 }
-    {
-        if !self.is_in_marks(number) {
-            return None;
-        }
-        self.slot(number).commit_of(sender)
+        self.slot(number).vote_of(phase, sender)
     }
 
     /// Whether the number has a batch that is prepared.
@@ -290,23 +269,22 @@ impl Log {
         }
     }
 
-    /// The digest of a batch whose prepare the replica still has to send, while it is active.
-    pub fn due_prepare(&self, number: Number) -> Option<Digest>
-        ensures { result ≡ spec.due_prepare self.now number.0 }
+    // Whether the replica votes for a batch of this number.
+    fn votes_in(&self, phase: Phase, number: Number) -> bool
+        ensures { result ≡ spec.votes_in phase self.now number.0 }
     {
-        let is_primary = self.me.0 == self.primary(self.view).0;
-        if !self.active || is_primary || self.prepare_of(number, self.me).is_some() {
-            return None;
+        match phase {
+            Phase::Prepare => self.me.0 != self.primary(self.view).0,
+            Phase::Commit => self.is_prepared(number),
         }
-        self.logged_digest(number)
     }
 
-    /// The digest of a batch whose commit the replica still has to send, while it is active.
-    pub fn due_commit(&self, number: Number) -> Option<Digest>
-        ensures { result ≡ spec.due_commit self.now number.0 }
+    /// The digest of a batch for which the replica still has to vote, while it is active.
+    pub fn due_vote(&self, phase: Phase, number: Number) -> Option<Digest>
+        ensures { result ≡ spec.due_vote phase self.now number.0 }
     {
-        let is_said = self.commit_of(number, self.me).is_some();
-        if !self.active || is_said || !self.is_prepared(number) {
+        let is_said = self.vote_of(phase, number, self.me).is_some();
+        if !self.active || is_said || !self.votes_in(phase, number) {
             return None;
         }
         self.logged_digest(number)

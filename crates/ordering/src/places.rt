@@ -5,12 +5,12 @@ ghost use Rattle.std.specs.Arc.{arc_value};
 ghost use Rattle.wire_format.specs.Views.{checkpoint_entry_data};
 ghost use Rattle.ordering.specs.Keeping.{IsRow};
 ghost use Rattle.ordering.specs.Log.{cut_rows, entered_row, no_row};
-ghost use Rattle.ordering.specs.Places.{batch_put, prepare_put, commit_put, checkpoint_put};
+ghost use Rattle.ordering.specs.Places.{batch_put, vote_put, checkpoint_put};
 
 use crate::batch::HashedBatch;
 use crate::checkpoints::Checkpoints;
 use crate::row::Slot;
-use crate::votes::{MAX_REPLICAS, Vote};
+use crate::votes::{MAX_REPLICAS, Phase, Vote};
 use std::alloc::Global;
 use std::sync::Arc;
 use terms::{NoMemory, ReplicaId};
@@ -46,22 +46,13 @@ pub fn put_batch_at(slots: &mut Vec<Slot>, at: usize, batch: Arc<HashedBatch>)
     slot.put_batch(batch);
 }
 
-pub fn add_prepare_at(slots: &mut Vec<Slot>, at: usize, vote: Vote)
+pub fn add_vote_at(slots: &mut Vec<Slot>, at: usize, phase: Phase, vote: Vote)
     requires at { at < length slots.old.items }
     requires sender { vote.sender.0 < MAX_REPLICAS }
-    ensures { slots.new.items ≡ prepare_put slots.old.items at vote }
+    ensures { slots.new.items ≡ vote_put phase slots.old.items at vote }
 {
     let slot = &mut slots[at];
-    slot.add_prepare(vote);
-}
-
-pub fn add_commit_at(slots: &mut Vec<Slot>, at: usize, vote: Vote)
-    requires at { at < length slots.old.items }
-    requires sender { vote.sender.0 < MAX_REPLICAS }
-    ensures { slots.new.items ≡ commit_put slots.old.items at vote }
-{
-    let slot = &mut slots[at];
-    slot.add_commit(vote);
+    slot.add_vote(phase, vote);
 }
 
 pub fn add_checkpoint_at(lists: &mut Vec<Checkpoints>, at: usize, entry: CheckpointEntry)

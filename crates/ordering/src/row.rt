@@ -3,13 +3,13 @@
 ghost use Rattle.std.specs.Prelude.{◌≡◌, ℕ, ◌<◌, ◌≤◌, Some};
 ghost use Rattle.std.specs.Arc.{arc_value};
 ghost use Rattle.quorum.specs.Votes.{has_digest};
-ghost use Rattle.ordering.specs.Votes.{with_vote, voted_digest};
-ghost use Rattle.ordering.specs.Log.{no_row, digest_of, is_row_prepared, is_row_committed, entered_row};
+ghost use Rattle.ordering.specs.Votes.{voted_digest};
+ghost use Rattle.ordering.specs.Log.{no_row, digest_of, is_row_prepared, is_row_committed, entered_row, row_votes, with_row_vote};
 ghost use Rattle.ordering.specs.Keeping.{IsRow};
 ghost use Rattle.ordering.specs.RowView.{batch_lent};
 
 use crate::batch::HashedBatch;
-use crate::votes::{MAX_REPLICAS, Vote, Votes};
+use crate::votes::{MAX_REPLICAS, Phase, Vote, Votes};
 use std::alloc::Global;
 use std::marker::Model;
 use std::sync::Arc;
@@ -73,30 +73,23 @@ impl Slot {
         self.batch = Some(batch);
     }
 
-    pub fn add_prepare(&mut self, vote: Vote)
+    pub fn add_vote(&mut self, phase: Phase, vote: Vote)
         requires { vote.sender.0 < MAX_REPLICAS }
-        ensures { self.new ≡ record self.old { prepares = with_vote vote self.old.prepares } }
+        ensures { self.new ≡ with_row_vote phase self.old vote }
     {
-        self.prepares.add(vote);
+        match phase {
+            Phase::Prepare => self.prepares.add(vote),
+            Phase::Commit => self.commits.add(vote),
+        }
     }
 
-    pub fn add_commit(&mut self, vote: Vote)
-        requires { vote.sender.0 < MAX_REPLICAS }
-        ensures { self.new ≡ record self.old { commits = with_vote vote self.old.commits } }
+    pub fn vote_of(&self, phase: Phase, sender: ReplicaId) -> Option<Digest>
+        ensures { result ≡ voted_digest (row_votes phase self.now) sender.0 }
     {
-        self.commits.add(vote);
-    }
-
-    pub fn prepare_of(&self, sender: ReplicaId) -> Option<Digest>
-        ensures { result ≡ voted_digest self.now.prepares sender.0 }
-    {
-        self.prepares.vote_of(sender)
-    }
-
-    pub fn commit_of(&self, sender: ReplicaId) -> Option<Digest>
-        ensures { result ≡ voted_digest self.now.commits sender.0 }
-    {
-        self.commits.vote_of(sender)
+        match phase {
+            Phase::Prepare => self.prepares.vote_of(sender),
+            Phase::Commit => self.commits.vote_of(sender),
+        }
     }
 
     /// The logged batch.

@@ -8,7 +8,7 @@ ghost use Rattle.ordering.specs.Messages.{preprepare_fault_of, prepare_fault_of,
 use crate::batch::HashedBatch;
 use crate::dropped::Dropped;
 use crate::log::{Log, NUMBERS_END};
-use crate::votes::Vote;
+use crate::votes::{Phase, Vote};
 use sha2::{Digest as _, Sha256};
 use std::sync::Arc;
 use terms::{Digest, Number, ReplicaId, View};
@@ -90,7 +90,8 @@ impl Log {
         if let Some(fault) = self.ordering_fault(is_backup, prepare.view, prepare.number) {
             return Some(fault);
         }
-        fault_beside(self.prepare_of(prepare.number, sender), &prepare.digest)
+        let first = self.vote_of(Phase::Prepare, prepare.number, sender);
+        fault_beside(first, &prepare.digest)
     }
 
     /// Takes a backup's prepare.
@@ -105,7 +106,7 @@ impl Log {
             sender,
             digest: prepare.digest,
         };
-        self.add_prepare(prepare.number, vote);
+        self.add_vote(Phase::Prepare, prepare.number, vote);
         Ok(())
     }
 
@@ -116,7 +117,8 @@ impl Log {
         if let Some(fault) = self.ordering_fault(is_known, commit.view, commit.number) {
             return Some(fault);
         }
-        fault_beside(self.commit_of(commit.number, sender), &commit.digest)
+        let first = self.vote_of(Phase::Commit, commit.number, sender);
+        fault_beside(first, &commit.digest)
     }
 
     /// Takes a replica's commit.
@@ -131,7 +133,7 @@ impl Log {
             sender,
             digest: commit.digest,
         };
-        self.add_commit(commit.number, vote);
+        self.add_vote(Phase::Commit, commit.number, vote);
         Ok(())
     }
 

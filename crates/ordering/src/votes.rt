@@ -11,6 +11,13 @@ use terms::{Digest, ReplicaId};
 /// There are at most so many replicas.
 pub const MAX_REPLICAS: usize = 10;
 
+/// In which phase a replica votes for a batch: it prepares the batch, and commits it once the batch is prepared.
+#[derive(Clone, Copy)]
+pub enum Phase {
+    Prepare,
+    Commit,
+}
+
 /// The digest of the batch that a replica votes for, by a prepare or by a commit.
 #[derive(Clone, Copy, Drop)]
 pub struct Vote {

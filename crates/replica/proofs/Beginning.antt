@@ -71,7 +71,7 @@ use Rattle.replica.proofs.Parties.{one_self}
 use Rattle.orderer.proofs.Staying.{numbers_alike, numbers_beside, said_on, same_rows}
 use Rattle.desk.specs.DeskOf.{desk_of}
 use Rattle.orderer.proofs.Parties.{same_log}
-use Rattle.orderer.proofs.Voting.{due_prepare_elsewhere, due_commit_elsewhere}
+use Rattle.orderer.proofs.Voting.{due_elsewhere}
 
 -- ---- between events
 
@@ -252,7 +252,7 @@ pub prepare_taken : (r : JoinedData) (sender : ReplicaId) (p : WirePrepare) (new
 prepare_taken r sender p new one t bytes h =
     subst (λ (o : OrdererData). TakesBytes bytes r (touched.Row p.number) (record r { orderer = o }) []) (sym t.1)
     (takes_row r one bytes p.number (with_prepare r.orderer.log p.number.0 vote) r.orderer.claims (same_rows r.orderer.log (with_prepare r.orderer.log p.number.0 vote).rows) active
-    (λ i ne. (due_prepare_elsewhere r.orderer.log i p.number.0 _ inside ne, due_commit_elsewhere r.orderer.log i p.number.0 _ inside ne)) takes)
+    (λ i ne. due_elsewhere r.orderer.log i p.number.0 _ inside ne) takes)
   where
     vote : Vote
     vote = vote_by sender p.digest
@@ -280,7 +280,7 @@ pub commit_taken : (r : JoinedData) (sender : ReplicaId) (p : WireCommit) (new :
 commit_taken r sender p new one t bytes h =
     subst (λ (o : OrdererData). TakesBytes bytes r (touched.Row p.number) (record r { orderer = o }) []) (sym t.1)
     (takes_row r one bytes p.number (with_commit r.orderer.log p.number.0 vote) r.orderer.claims (same_rows r.orderer.log (with_commit r.orderer.log p.number.0 vote).rows) active
-    (λ i ne. (due_prepare_elsewhere r.orderer.log i p.number.0 _ inside ne, due_commit_elsewhere r.orderer.log i p.number.0 _ inside ne)) takes)
+    (λ i ne. due_elsewhere r.orderer.log i p.number.0 _ inside ne) takes)
   where
     vote : Vote
     vote = vote_by sender p.digest
@@ -375,7 +375,7 @@ pub batch_taken : (r : JoinedData) (sender : ReplicaId) (p : WirePrePrepare) (ne
 batch_taken r sender p new one (free, were_heard, (claims, adds, is)) bytes h =
     subst (λ (o : OrdererData). TakesBytes bytes r (touched.Row p.number) (record r { orderer = o }) []) (sym is)
     (takes_row r one bytes p.number (with_batch r.orderer.log p.number.0 p.batch.text.items) claims (same_rows r.orderer.log (with_batch r.orderer.log p.number.0 p.batch.text.items).rows) fits.active
-    (λ i ne. (due_prepare_elsewhere r.orderer.log i p.number.0 _ fits.within ne, due_commit_elsewhere r.orderer.log i p.number.0 _ fits.within ne)) takes)
+    (λ i ne. due_elsewhere r.orderer.log i p.number.0 _ fits.within ne) takes)
   where
     beside : Option Dropped
     beside = fault_beside (logs.logged_digest r.orderer.log p.number.0) (sha256 p.batch.text.items)

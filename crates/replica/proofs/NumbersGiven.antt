@@ -43,7 +43,7 @@ use Rattle.desk.proofs.WaitingKept.{few_unnumbered}
 use Rattle.orderer.proofs.Flags.{oldest_spelled}
 use Rattle.replica.proofs.Parties.{same_party, parties_twice}
 use Rattle.orderer.proofs.Parties.{orderers_twice}
-use Rattle.orderer.proofs.Voting.{due_prepare_elsewhere, due_commit_elsewhere}
+use Rattle.orderer.proofs.Voting.{none_elsewhere}
 
 -- ---- waiting requests
 
@@ -236,7 +236,7 @@ module _ (number : ℕ) (a b : JoinedData) (x y : List Output) (one : AreOne a.o
 
   voted_but : IsVotedAll a.orderer.log → IsVotedBut number b.orderer.log
   voted_but voted i ne = subst (λ (l : LogData). NoVoteIsDue l i) (sym n.says.log)
-      (due_prepare_elsewhere a.orderer.log i number _ inside ne ∙ (voted i).0, due_commit_elsewhere a.orderer.log i number _ inside ne ∙ (voted i).1)
+      (none_elsewhere a.orderer.log i number _ inside ne (voted i))
 
   fewer : count_unnumbered b.desk.waiting < count_unnumbered w
   fewer = subst (λ (d : DeskData). count_unnumbered d.waiting < count_unnumbered w) (sym n.waits)

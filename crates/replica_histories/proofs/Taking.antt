@@ -4,11 +4,12 @@ use Rattle.std.specs.Prelude.{◌==◌, option_and_then}
 use Rattle.std.specs.Bool.{then_some}
 use Rattle.quorum.specs.Votes.{or_else}
 use Rattle.wire_format.specs.Messages.{BodyData as Body, pre_prepare as PrePrepare, prepare as Prepare, commit as Commit}
+use Rattle.ordering.specs.declared.votes.Phase.TheVariants as phases
 use Rattle.ordering.specs.declared.votes.Vote.{Vote}
 use Rattle.ordering.specs.Log as logs
 use Rattle.ordering.specs.Log.{LogData}
 use Rattle.ordering.specs.Keeping.{IsLog}
-use Rattle.ordering.proofs.Keeping.{in_span, batch_kept, prepare_kept, commit_kept}
+use Rattle.ordering.proofs.Keeping.{in_span, batch_kept, vote_kept}
 use Rattle.ordering.proofs.Reading.{batches_are_logged, prepares_count, commits_count}
 use Rattle.protocol.specs.System.Configuration.{Configuration, primary}
 use Rattle.protocol.specs.Replica.Certificates.{are_genuine, checkpoint_from, with_checkpoint, batch_from, prepare_from, commit_from}
@@ -112,7 +113,7 @@ pub prepare_taken : (c : Configuration) (me s i : ℕ) (digest : List ℕ) (vote
     → vote.sender.0 ≡ s → vote.digest ≡ digest → LogTakesBody c me (Some (record { sender = s; message = Prepare log.view i digest })) log (logs.with_prepare log i vote)
 prepare_taken c me s i digest vote log is active within known backup sender same = record {
   stays = record {
-    is_log = prepare_kept log (logs.place log i) vote _ (in_span log i within) is (subst (λ (x : ℕ). x < logs.replicas log) (sym sender) known) refl;
+    is_log = vote_kept phases.Prepare log (logs.place log i) vote _ (in_span log i within) is (subst (λ (x : ℕ). x < logs.replicas log) (sym sender) known) refl;
     me = refl;
     faults = refl;
     span = refl;
@@ -142,7 +143,7 @@ pub commit_taken : (c : Configuration) (me s i : ℕ) (digest : List ℕ) (vote 
     → vote.sender.0 ≡ s → vote.digest ≡ digest → LogTakesBody c me (Some (record { sender = s; message = Commit log.view i digest })) log (logs.with_commit log i vote)
 commit_taken c me s i digest vote log is active within known sender same = record {
   stays = record {
-    is_log = commit_kept log (logs.place log i) vote _ (in_span log i within) is (subst (λ (x : ℕ). x < logs.replicas log) (sym sender) known) refl;
+    is_log = vote_kept phases.Commit log (logs.place log i) vote _ (in_span log i within) is (subst (λ (x : ℕ). x < logs.replicas log) (sym sender) known) refl;
     me = refl;
     faults = refl;
     span = refl;

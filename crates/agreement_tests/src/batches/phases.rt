@@ -1,7 +1,7 @@
 //! A number's way through the log of replica 1 among four, in view 0 and on to later ones, with marks of four numbers.
 
 use crate::answers::holds;
-use ordering::{HashedBatch, Log, Vote};
+use ordering::{HashedBatch, Log, Phase, Vote};
 use std::alloc::Global;
 use std::sync::Arc;
 use terms::{Digest, NoMemory, Number, ReplicaId, View};
@@ -40,10 +40,11 @@ fn batch_of(alloc: Global, text: &[u8]) -> Result<Arc<HashedBatch>, NoMemory> {
 fn is_logged(log: &mut Log, batch: Arc<HashedBatch>) -> bool {
     log.on_preprepare(ReplicaId(0), VIEW, FIRST, batch).is_ok()
         && log.logged_digest(FIRST) == Some(DIGEST)
-        && log.due_prepare(FIRST) == Some(DIGEST)
+        && log.due_vote(Phase::Prepare, FIRST) == Some(DIGEST)
 }
 
-fn says_prepare(log: &mut Log) -> bool {
+// The own vote is counted, and due no more.
+fn votes(log: &mut Log, phase: Phase) -> bool {
     if !log.is_in_marks(FIRST) || ME.0 >= log.replicas() {
         return false;
     }
@@ -51,8 +52,8 @@ fn says_prepare(log: &mut Log) -> bool {
         sender: ME,
         digest: DIGEST,
     };
-    log.add_prepare(FIRST, vote);
-    log.due_prepare(FIRST).is_none() && !log.is_prepared(FIRST)
+    log.add_vote(phase, FIRST, vote);
+    log.due_vote(phase, FIRST).is_none()
 }
 
 // The second of two backups prepares, and the own commit is due.
@@ -64,19 +65,7 @@ fn is_prepared(log: &mut Log) -> bool {
     };
     log.on_prepare(ReplicaId(2), &prepare).is_ok()
         && log.is_prepared(FIRST)
-        && log.due_commit(FIRST) == Some(DIGEST)
-}
-
-fn says_commit(log: &mut Log) -> bool {
-    if !log.is_in_marks(FIRST) || ME.0 >= log.replicas() {
-        return false;
-    }
-    let vote = Vote {
-        sender: ME,
-        digest: DIGEST,
-    };
-    log.add_commit(FIRST, vote);
-    log.due_commit(FIRST).is_none() && !log.is_committed(FIRST)
+        && log.due_vote(Phase::Commit, FIRST) == Some(DIGEST)
 }
 
 fn commits(log: &mut Log, sender: ReplicaId) -> bool {
@@ -101,17 +90,25 @@ fn has_text(log: &Log, text: &[u8]) -> bool {
 
 // The batch is logged and then prepared, with the own prepare.
 fn prepares(log: &mut Log, batch: Arc<HashedBatch>) -> bool {
-    is_logged(log, batch) && says_prepare(log) && is_prepared(log)
+    is_logged(log, batch)
+        && votes(log, Phase::Prepare)
+        && !log.is_prepared(FIRST)
+        && is_prepared(log)
 }
 
 fn prepares_and_commits(log: &mut Log, batch: Arc<HashedBatch>) -> bool {
-    prepares(log, batch) && says_commit(log) && is_committed(log)
+    prepares(log, batch)
+        && votes(log, Phase::Commit)
+        && !log.is_committed(FIRST)
+        && is_committed(log)
 }
 
 // After the replica left its view nothing is due.
 fn owes_nothing(log: &mut Log) -> bool {
     log.leave();
-    !log.is_active() && log.due_prepare(FIRST).is_none() && log.due_commit(FIRST).is_none()
+    !log.is_active()
+        && log.due_vote(Phase::Prepare, FIRST).is_none()
+        && log.due_vote(Phase::Commit, FIRST).is_none()
 }
 
 // In the later view nothing is logged and nobody voted.
@@ -120,8 +117,8 @@ fn is_empty_in(log: &mut Log, view: View) -> bool {
     log.is_active_in(view)
         && !log.is_active_in(VIEW)
         && log.logged_batch(FIRST).is_none()
-        && log.prepare_of(FIRST, ReplicaId(2)).is_none()
-        && log.commit_of(FIRST, ReplicaId(3)).is_none()
+        && log.vote_of(Phase::Prepare, FIRST, ReplicaId(2)).is_none()
+        && log.vote_of(Phase::Commit, FIRST, ReplicaId(3)).is_none()
 }
 
 fn keeps_committed(log: &mut Log) -> bool {
