@@ -3,14 +3,14 @@
 ghost use Rattle.std.specs.Prelude.{◌≡◌, Some, None, OnOk};
 ghost use Rattle.tuple_tree.specs.Items.{leaf};
 ghost use Rattle.tuple_tree.specs.Values.{actual, IsUtf8IfText};
-ghost use Rattle.tuple_tree.specs.Seen.{seen_datum};
+ghost use Rattle.tuple_tree.specs.Seen.{seen_datum, open_slot};
 ghost use Rattle.tuple_tree.specs.TupleView.{value_of};
 ghost use Rattle.tuple_tree.specs.TemplateView.{field_of};
 ghost use Rattle.tuple_text.specs.Parts.{ListBecomes, tuple_with, template_with};
 
 use crate::reader::Stop;
 use std::alloc::Allocator;
-use tuple_tree::{AtomRef, Field, Refusal, Template, Tuple, Value};
+use tuple_tree::{AtomRef, Field, Kind, Refusal, Template, Tuple, Value};
 
 // A list that gets too long isn't kept, but its bytes are still judged. The reader keeps the other limits itself.
 fn refuse<L: Drop>(list: &mut Option<L>, refusal: Refusal) -> Result<(), Stop>
@@ -75,6 +75,23 @@ pub(crate) fn add_actual<A: Allocator>(
         return Ok(());
     };
     match kept.push_atom(atom) {
+        Ok(()) => Ok(()),
+        Err(refusal) => refuse(template, refusal),
+    }
+}
+
+/// Adds the formal of a kind, or without one a field that each value matches, unless the template is too long.
+#[inline(always)]
+pub(crate) fn add_open<A: Allocator>(
+    template: &mut Option<Template<A>>,
+    kind: Option<Kind>,
+) -> Result<(), Stop>
+    ensures { ListBecomes result (template_with template.old (Some (leaf (open_slot kind)))) template.new }
+{
+    let Some(kept) = template else {
+        return Ok(());
+    };
+    match kept.push_open(kind) {
         Ok(()) => Ok(()),
         Err(refusal) => refuse(template, refusal),
     }

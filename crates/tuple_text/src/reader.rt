@@ -8,12 +8,12 @@ ghost use Rattle.tuple_text.specs.Reading.{fault_at, blanks, word, gap, finish, 
 ghost use Rattle.tuple_text.specs.Parts.{HasNoValueRoom, HasNoFieldRoom, datum_read, adding_atom, adding_slot, adding_tuple, adding_template, adding_value, adding_field, value_follows, field_follows, values_at, fields_at, close_tuple, close_template, MethodReads};
 
 use crate::faults::LineFault;
-use crate::growing::{add_actual, add_atom, add_field, add_value};
+use crate::growing::{add_actual, add_atom, add_field, add_open, add_value};
 use crate::literals::Literal;
 use crate::verbs::Verb;
 use std::alloc::Allocator;
 use tuple_codec::{Max, Op};
-use tuple_tree::{AtomRef, Field, Kind, MAX_FIELDS, Template, Tuple};
+use tuple_tree::{AtomRef, Kind, MAX_FIELDS, Template, Tuple};
 
 // The greatest number, and the greatest wide one.
 const MOST: u128 = 9223372036854775807;
@@ -495,12 +495,12 @@ impl<'a> Reader<'a> {
             [] => Err(Stop::BadByte),
             [b'*', rest @ ..] => {
                 self.rest = rest;
-                add_field(template, Field::Any)
+                add_open(template, None)
             }
             [b'?', rest @ ..] => {
                 self.rest = rest;
                 let kind = self.kind()?;
-                add_field(template, Field::Formal(kind))
+                add_open(template, Some(kind))
             }
             [_, ..] => {
                 if let Some(text) = self.plain_text() {

@@ -126,6 +126,15 @@ front_grown p f fixed len more longer a b m e =
     ] in
     cases (has_leaf is_open p) refl
 
+-- An open field lengthens no front.
+pub front_kept : (p : TemplateTree) (f : TreeItem Slot) (fixed : ℕ) → fixed ≡ length (front_of p) → field_front f ≡ [] → fixed ≡ length (front_of (with_last p f))
+front_kept p f fixed a o =
+    let cases : (b : Bool) → has_leaf is_open p ≡ b → fixed ≡ length (front_of (with_last p f)) = elim [
+      | true ↦ λ b. a ∙ ap length (sym (front_last_open p f b))
+      | false ↦ λ b. omega (arith, a, ap length (front_last_shut p f b), length-append (front_of p) (field_front f), ap length o)
+    ] in
+    cases (has_leaf is_open p) refl
+
 -- what a template keeps is that of the template which is read of its bytes
 pub closed_template : {count : ℕ} {bs : List ℕ} {extent : Extent} {fixed : ℕ} {p : TemplateTree} → IsFlatTemplate count bs extent fixed p → IsFlatTemplate count bs extent fixed (items_in slot_at 7 count bs)
 closed_template {count} {bs} {extent} {fixed} h = subst (IsFlatTemplate count bs extent fixed) (sym (items_are slot_leaves h.0)) h

@@ -1,12 +1,12 @@
 -- The plain values and fields that the Rust ones stand for where they lie.
+use Rattle.std.specs.Prelude.{Option, Some, None}
 use Rattle.tuple_tree.specs.Items.{TreeItem, leaf, inner}
 use Rattle.tuple_tree.specs.Values.{Datum, number, text, bytes, truth, wide, Slot, actual, any, formal}
+use Rattle.tuple_tree.specs.declared.atoms.Kind.{Kind}
 use Rattle.tuple_tree.specs.declared.values.AtomRef.{AtomRef}
 use Rattle.tuple_tree.specs.declared.values.AtomRef.TheVariants as atoms
 use Rattle.tuple_tree.specs.declared.values.ValueRef.{ValueRef}
 use Rattle.tuple_tree.specs.declared.values.ValueRef.TheVariants as values
-use Rattle.tuple_tree.specs.declared.fields.SlotRef.{SlotRef}
-use Rattle.tuple_tree.specs.declared.fields.SlotRef.TheVariants as slots
 use Rattle.tuple_tree.specs.declared.fields.FieldRef.{FieldRef}
 use Rattle.tuple_tree.specs.declared.fields.FieldRef.TheVariants as fields
 
@@ -21,10 +21,10 @@ abbrev pub seen_value : ValueRef → TreeItem Datum
 seen_value (values.Atom x) = leaf (seen_datum x)
 seen_value (values.Nested t) = inner t
 
-abbrev pub seen_slot : SlotRef → Slot
-seen_slot (slots.Actual x) = actual (seen_datum x)
-seen_slot slots.Any = any
-seen_slot (slots.Formal k) = formal k
+-- the field that each value of the kind matches, or without one each value
+abbrev pub open_slot : Option Kind → Slot
+open_slot None = any
+open_slot (Some k) = formal k
 
 abbrev pub seen_field : FieldRef → TreeItem Slot
 seen_field (fields.Actual x) = leaf (actual (seen_datum x))

@@ -1,13 +1,11 @@
 //! The fields of a template, where they lie in its bytes.
 
-ghost use Rattle.std.specs.Prelude.{◌≡◌, ◌+◌, ◌≤◌, length, IfSome, IfNone};
+ghost use Rattle.std.specs.Prelude.{◌≡◌, IfSome, IfNone};
 ghost use Rattle.tuple_tree.specs.Items.{none, item};
-ghost use Rattle.tuple_tree.specs.Fronts.{slot_front};
 ghost use Rattle.tuple_tree.specs.Gives.{Yields};
 ghost use Rattle.tuple_tree.specs.Reading.{inner_at, item_at};
 ghost use Rattle.tuple_tree.specs.Loose.{loose_slot_at};
-ghost use Rattle.tuple_tree.specs.Seen.{seen_field, seen_slot};
-ghost use Rattle.tuple_tree.specs.Values.{slot_length, is_wide_slot};
+ghost use Rattle.tuple_tree.specs.Seen.{seen_field};
 
 use crate::atoms::Kind;
 use crate::reading::read_byte;
@@ -22,51 +20,6 @@ pub enum FieldRef<'b> {
     Any,
     Formal(Kind),
     Nested(Fields<'b>),
-}
-
-/// A field that is no template, where it lies.
-#[derive(Clone, Copy)]
-pub enum SlotRef<'b> {
-    Actual(AtomRef<'b>),
-    Any,
-    Formal(Kind),
-}
-
-impl<'b> SlotRef<'b> {
-    /// The length of the encoding, in bytes. Constant time.
-    #[inline]
-    pub fn encoded_len(&self) -> usize
-        ensures { result ≡ slot_length (seen_slot self.now) }
-    {
-        match self {
-            SlotRef::Actual(atom) => atom.encoded_len(),
-            SlotRef::Any | SlotRef::Formal(_) => 1,
-        }
-    }
-
-    /// How many bytes of the encoding stand in each value that this field matches.
-    #[inline]
-    pub fn fixed_len(&self) -> usize
-        ensures value { result ≡ length (slot_front (seen_slot self.now)) }
-        ensures bound { result ≤ slot_length (seen_slot self.now) }
-    {
-        match self {
-            SlotRef::Actual(atom) => atom.encoded_len(),
-            SlotRef::Any | SlotRef::Formal(_) => 0,
-        }
-    }
-
-    /// Whether this field is a wide number or asks for one.
-    #[inline]
-    pub fn is_wide(&self) -> bool
-        ensures { result ≡ is_wide_slot (seen_slot self.now) }
-    {
-        match self {
-            SlotRef::Actual(atom) => atom.is_wide(),
-            SlotRef::Any => false,
-            SlotRef::Formal(kind) => matches!(*kind, Kind::Wide),
-        }
-    }
 }
 
 /// The fields of a template that are left to see.

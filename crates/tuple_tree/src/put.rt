@@ -1,14 +1,13 @@
 //! Spellings of values and fields appended to bytes.
 
 ghost use Rattle.std.specs.Prelude.{◌≡◌, ◌+◌, ◌≤◌, ◌∷◌, [], length};
-ghost use Rattle.tuple_tree.specs.Values.{datum_length, slot_length};
-ghost use Rattle.tuple_tree.specs.Seen.{seen_datum, seen_slot};
+ghost use Rattle.tuple_tree.specs.Values.{datum_length};
+ghost use Rattle.tuple_tree.specs.Seen.{seen_datum, open_slot};
 ghost use Rattle.tuple_tree.specs.Puts.{PutsText, HasRoom, FillsRoom};
 ghost use Rattle.tuple_tree.specs.Spelling.{datum_spelling, slot_spelling, formal_tag};
 ghost use Rattle.tuple_tree.specs.Spelling as Spelling;
 
 use crate::atoms::Kind;
-use crate::fields::SlotRef;
 use crate::values::AtomRef;
 use std::alloc::Allocator;
 use terms::NoMemory;
@@ -27,20 +26,6 @@ pub fn put_atom<A: Allocator>(atom: &AtomRef<'_>, out: &mut Vec<u8, A>)
         AtomRef::Bytes(bytes) => put_string(3, bytes, out),
         AtomRef::Truth(truth) => put_tagged(4, &[*truth as u8], out),
         AtomRef::Wide(number) => put_tagged(6, &wide_bytes(*number), out),
-    }
-}
-
-/// Puts the spelling of the field.
-#[inline(always)]
-pub fn put_slot<A: Allocator>(slot: &SlotRef<'_>, out: &mut Vec<u8, A>)
-    requires room { HasRoom out.old (slot_length (seen_slot slot.now)) }
-    requires short { slot_length (seen_slot slot.now) ≤ 1024 }
-    ensures { FillsRoom (slot_spelling (seen_slot slot.now)) out.old out.new }
-{
-    match slot {
-        SlotRef::Actual(atom) => put_atom(atom, out),
-        SlotRef::Any => put_tagged(0x10, &[], out),
-        SlotRef::Formal(kind) => put_tagged(kind_tag(*kind), &[], out),
     }
 }
 
@@ -112,6 +97,18 @@ pub fn put_bytes<B: Allocator>(bytes: &[u8], out: &mut Vec<u8, B>) -> Result<(),
     Ok(out.extend_from_slice(bytes)?)
 }
 
+/// The spelling of the formal of a kind, or of a field that each value matches.
+#[inline]
+pub fn open_tag(kind: Option<Kind>) -> u8
+    ensures { slot_spelling (open_slot kind) ≡ result ∷ [] }
+{
+    match kind {
+        None => 0x10,
+        Some(kind) => kind_tag(kind),
+    }
+}
+
+#[inline]
 pub fn kind_tag(kind: Kind) -> u8
     ensures { result ≡ formal_tag kind }
 {

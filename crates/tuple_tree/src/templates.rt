@@ -8,17 +8,17 @@ ghost use Rattle.tuple_tree.specs.Puts.{PutsText};
 ghost use Rattle.tuple_tree.specs.Fronts.{is_open, front_of};
 ghost use Rattle.tuple_tree.specs.Gives.{Yields};
 ghost use Rattle.tuple_tree.specs.Reading.{slot_at, items_at};
-ghost use Rattle.tuple_tree.specs.Seen.{seen_datum, seen_slot};
+ghost use Rattle.tuple_tree.specs.Seen.{seen_datum, open_slot};
 ghost use Rattle.tuple_tree.specs.Spelling.{slot_spelling, items_spelling, template_spelling};
 ghost use Rattle.tuple_tree.specs.Values.{actual, slot_length, is_wide_slot, IsSlot, IsUtf8IfText, IsTemplate};
 ghost use Rattle.tuple_tree.specs.TemplateView.{field_of};
 
 use crate::atoms::{Atom, Kind, note_bytes};
-use crate::fields::{Fields, SlotRef};
+use crate::fields::Fields;
 use crate::fronts::{longer_front, spelled_front};
 use crate::judging::judge_template;
 use crate::limits::{Extent, Refusal, Refused};
-use crate::put::{put_byte, put_bytes, put_nested, put_slot};
+use crate::put::{open_tag, put_atom, put_byte, put_bytes, put_nested};
 use crate::reading::read_byte;
 use crate::values::AtomRef;
 use std::alloc::Allocator;
@@ -284,8 +284,8 @@ impl<A: Allocator> Template<A> {
     {
         match field {
             Field::Actual(atom) => self.push_atom(atom.seen()),
-            Field::Any => self.add_slot(SlotRef::Any),
-            Field::Formal(kind) => self.add_slot(SlotRef::Formal(*kind)),
+            Field::Any => self.push_open(None),
+            Field::Formal(kind) => self.push_open(Some(*kind)),
             Field::Nested(template) => self.add_nested(template),
         }
     }
@@ -300,24 +300,31 @@ impl<A: Allocator> Template<A> {
         ensures refusal { AddsField result self.new (with_last self.old (leaf (actual (seen_datum atom.entry)))) }
     {
         atom.note_valid();
-        self.add_slot(SlotRef::Actual(atom))
-    }
-
-    #[inline(always)]
-    fn add_slot(&mut self, slot: SlotRef<'_>) -> Result<(), Refusal>
-        requires { IsSlot (seen_slot slot) }
-        ensures ok { OnOk result (self.new ≡ with_last self.old (leaf (seen_slot slot.entry))) }
-        ensures err { OnErr result (self.new ≡ self.old) }
-        ensures refusal { AddsField result self.new (with_last self.old (leaf (seen_slot slot.entry))) }
-    {
-        let len = slot.encoded_len();
+        let len = atom.encoded_len();
         let extent = self
             .extent
-            .with_room(self.count, 0, len, slot.is_wide(), &mut self.fields)?;
-        let fixed = longer_front(self.fixed, self.extent, slot.fixed_len());
-        put_slot(&slot, &mut self.fields);
+            .with_room(self.count, 0, len, atom.is_wide(), &mut self.fields)?;
+        let fixed = longer_front(self.fixed, self.extent, len);
+        put_atom(&atom, &mut self.fields);
         self.count += 1;
         self.fixed = fixed;
+        self.extent = extent;
+        Ok(())
+    }
+
+    /// Adds the formal of a kind, or without one a field that each value matches, as [`Template::push`] does.
+    // Its spelling is one byte, and the front never reaches beyond it.
+    #[inline]
+    pub fn push_open(&mut self, kind: Option<Kind>) -> Result<(), Refusal>
+        ensures ok { OnOk result (self.new ≡ with_last self.old (leaf (open_slot kind))) }
+        ensures err { OnErr result (self.new ≡ self.old) }
+        ensures refusal { AddsField result self.new (with_last self.old (leaf (open_slot kind))) }
+    {
+        let extent = self
+            .extent
+            .with_room(self.count, 0, 1, asks_for_wide(kind), &mut self.fields)?;
+        self.fields.push_reserved(open_tag(kind));
+        self.count += 1;
         self.extent = extent;
         Ok(())
     }
@@ -342,6 +349,14 @@ impl<A: Allocator> Template<A> {
         self.extent = extent;
         Ok(())
     }
+}
+
+// Whether a field that is open asks for wide numbers.
+#[inline]
+fn asks_for_wide(kind: Option<Kind>) -> bool
+    ensures { result ≡ is_wide_slot (open_slot kind) }
+{
+    matches!(kind, Some(Kind::Wide))
 }
 
 /// Appends the spelling of the template. After an `Err` a part of it may follow the bytes.
