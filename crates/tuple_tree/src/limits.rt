@@ -103,6 +103,10 @@ impl Extent {
         ensures kept { out.new.items ≡ out.old.items }
     {
         let extent = self.with_item(len, item_depth, item_len, item_wide)?;
+        // Mostly there is room, and then a call is saved.
+        if item_len <= out.capacity() - out.len() {
+            return Ok(extent);
+        }
         let room = if len == 0 {
             item_len.max(FIRST_ROOM)
         } else {
