@@ -3,7 +3,7 @@ use Rattle.std.specs.Prelude.{◌≡◌, ℕ, Bool, codes, Result, Ok, Err, Opti
 use Rattle.tuple_tree.specs.Items.{TreeItem, inner, Items}
 use Rattle.tuple_tree.specs.Seen.{seen_datum}
 use Rattle.tuple_tree.specs.Values.{Datum, text, bytes, Slot, TupleTree, TemplateTree, datum_length, slot_length}
-use Rattle.tuple_text.specs.Reading.{◌>>=◌, got, stop, Reading, named, datum, slot, begins_datum, begins_slot, full, further, no_room, kept_with, leaf_item, item_at, items_at, close, ReadingGives}
+use Rattle.tuple_text.specs.Reading.{◌>>=◌, got, stop, Reading, named, datum, slot, actual_slot, begins_datum, begins_slot, full, further, no_room, kept_with, leaf_item, item_at, items_at, close, ReadingGives}
 use Rattle.tuple_text.specs.declared.literals.Literal.{Literal}
 use Rattle.tuple_text.specs.declared.literals.Literal.TheVariants.{Scalar, Text, Bytes}
 use Rattle.tuple_text.specs.declared.reader.Reader.{Reader}
@@ -75,6 +75,9 @@ adding_atom t = adding tuple_with plain_value t
 
 abbrev pub adding_slot : Option TemplateTree → Reading (Option TemplateTree)
 adding_slot p = adding template_with plain_slot p
+
+abbrev pub adding_actual : Option TemplateTree → Reading (Option TemplateTree)
+adding_actual p = adding template_with (leaf_item slot_length begins_slot actual_slot) p
 
 abbrev pub adding_tuple : Option TupleTree → Option TupleTree → Reading (Option TupleTree)
 adding_tuple nested t = adding tuple_with (closed nested) t

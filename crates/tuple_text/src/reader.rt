@@ -1,11 +1,12 @@
 //! The reader of lines, a method for each part of the grammar.
 
 ghost use Rattle.std.specs.Prelude.{◌≡◌, ◌+◌, ◌-◌, ◌≤◌, ◌<◌, ◌^◌, codes, true, length, pos, negsuc, ◌≤ℤ◌, IfOk, IfErr, OnOk, IsTrue, ◌↔◌, Option, option_map};
-ghost use Rattle.tuple_tree.specs.Values.{truth as truth_datum};
+ghost use Rattle.tuple_tree.specs.Seen.{seen_datum};
+ghost use Rattle.tuple_tree.specs.Values.{truth as truth_datum, IsUtf8IfText};
 ghost use Rattle.tuple_codec.specs.OperationView.{operation_of};
 ghost use Rattle.tuple_text.specs.Texts.{AreBlanks};
-ghost use Rattle.tuple_text.specs.Reading.{fault_at, blanks, word, gap, finish, digits, positive, signed, numeral, wide_numeral, datum, kind, named, behind_b, behind_t, slot_item, turn, follows, got, stop, opens, tuple, template, argument, ending, last, operation, line, out_line, cas_line, upgrade_line, one_line, all_line, verb_line, lone_template};
-ghost use Rattle.tuple_text.specs.Parts.{HasNoValueRoom, HasNoFieldRoom, datum_read, adding_atom, adding_slot, adding_tuple, adding_template, adding_value, adding_field, value_follows, field_follows, values_at, fields_at, close_tuple, close_template, MethodReads};
+ghost use Rattle.tuple_text.specs.Reading.{fault_at, blanks, word, gap, finish, digits, positive, signed, numeral, wide_numeral, truth_or_number, datum, kind, named, behind_b, behind_t, slot_item, turn, follows, got, stop, opens, tuple, template, argument, ending, last, operation, line, out_line, cas_line, upgrade_line, one_line, all_line, verb_line, lone_template};
+ghost use Rattle.tuple_text.specs.Parts.{HasNoValueRoom, HasNoFieldRoom, datum_read, adding_atom, adding_slot, adding_actual, adding_tuple, adding_template, adding_value, adding_field, value_follows, field_follows, values_at, fields_at, close_tuple, close_template, MethodReads};
 
 use crate::faults::LineFault;
 use crate::growing::{add_actual, add_atom, add_field, add_open, add_value};
@@ -220,11 +221,12 @@ impl<'a> Reader<'a> {
     }
 
     #[tactic(auto, unfolding(crate::specs::Reading::numeral))]
-    fn numeral<A: Allocator>(&mut self) -> Result<Literal<A>, Stop>
-        ensures { MethodReads datum_read result numeral self.old self.new }
+    fn numeral(&mut self) -> Result<AtomRef<'static>, Stop>
+        ensures gives { MethodReads seen_datum result numeral self.old self.new }
+        ensures utf8 { IfOk result (λ x. IsUtf8IfText (seen_datum x)) }
     {
         let number = self.signed(MOST)?;
-        Ok(Literal::Scalar(AtomRef::Number(number as i64)))
+        Ok(AtomRef::Number(number as i64))
     }
 
     // A wide number, after its `w`.
@@ -238,15 +240,29 @@ impl<'a> Reader<'a> {
     }
 
     // A word that stands for a truth value.
-    fn truth<A: Allocator>(&mut self, letters: &[u8], truth: bool) -> Result<Literal<A>, Stop>
-        ensures { MethodReads datum_read result (named letters.now (truth_datum truth)) self.old self.new }
+    fn truth(&mut self, letters: &[u8], truth: bool) -> Result<AtomRef<'static>, Stop>
+        ensures gives { MethodReads seen_datum result (named letters.now (truth_datum truth)) self.old self.new }
+        ensures utf8 { IfOk result (λ x. IsUtf8IfText (seen_datum x)) }
     {
         self.word(letters)?;
-        Ok(Literal::Scalar(AtomRef::Truth(truth)))
+        Ok(AtomRef::Truth(truth))
     }
 
-    // A value that is no tuple. Inlined, so that its kind is known where it is added.
+    // A number or a truth value. Inlined, so that its kind is known where it is added.
     #[inline(always)]
+    fn scalar(&mut self) -> Result<AtomRef<'static>, Stop>
+        ensures gives { MethodReads seen_datum result truth_or_number self.old self.new }
+        ensures utf8 { IfOk result (λ x. IsUtf8IfText (seen_datum x)) }
+    {
+        match self.rest {
+            [] => Err(Stop::BadByte),
+            [b't', ..] => self.truth(b"true", true),
+            [b'f', ..] => self.truth(b"false", false),
+            [_, ..] => self.numeral(),
+        }
+    }
+
+    // A value that is no tuple.
     #[tactic(auto, unfolding(crate::specs::Reading::datum))]
     fn literal<A: Allocator + Copy>(&mut self, alloc: A) -> Result<Literal<A>, Stop>
         ensures { MethodReads datum_read result datum self.old self.new }
@@ -256,9 +272,10 @@ impl<'a> Reader<'a> {
             [b'"', ..] => self.text_literal(alloc),
             [b'x', ..] => self.bytes_literal(alloc),
             [b'w', ..] => self.wide_numeral(),
-            [b't', ..] => self.truth(b"true", true),
-            [b'f', ..] => self.truth(b"false", false),
-            [_, ..] => self.numeral(),
+            [_, ..] => {
+                let scalar = self.scalar()?;
+                Ok(Literal::Scalar(scalar))
+            }
         }
     }
 
@@ -370,7 +387,21 @@ impl<'a> Reader<'a> {
         matches!(self.rest, [b'(', ..])
     }
 
-    // Reads a value that is no tuple, and adds it.
+    // Reads a value that is no tuple, and adds it. Most values need no memory, so the others have a call of their own.
+    #[inline(never)]
+    fn add_literal<A: Allocator + Copy>(
+        &mut self,
+        alloc: A,
+        tuple: &mut Option<Tuple<A>>,
+    ) -> Result<(), Stop>
+        ensures { MethodReads (λ _. tuple.new) result (adding_atom tuple.old) self.old self.new }
+    {
+        let literal = self.literal(alloc)?;
+        add_atom(tuple, literal.atom())
+    }
+
+    // The same, without a call where no memory is needed.
+    #[tactic(auto, unfolding(crate::specs::Reading::datum))]
     fn add_atom<A: Allocator + Copy>(
         &mut self,
         alloc: A,
@@ -381,8 +412,13 @@ impl<'a> Reader<'a> {
         if let Some(text) = self.plain_text() {
             return add_atom(tuple, AtomRef::Text(text));
         }
-        let literal = self.literal(alloc)?;
-        add_atom(tuple, literal.atom())
+        match self.rest {
+            [b'"' | b'x' | b'w', ..] => self.add_literal(alloc, tuple),
+            _ => {
+                let scalar = self.scalar()?;
+                add_atom(tuple, scalar)
+            }
+        }
     }
 
     // Passes the closing parenthesis of a nested tuple, and adds it.
@@ -482,6 +518,20 @@ impl<'a> Reader<'a> {
         self.close_tuple(tuple)
     }
 
+    // Reads an actual, and adds it. Most actuals are plain texts, so the others have a call of their own.
+    #[inline(never)]
+    #[tactic(auto, unfolding(crate::specs::Reading::actual_slot))]
+    fn add_literal_actual<A: Allocator + Copy>(
+        &mut self,
+        alloc: A,
+        template: &mut Option<Template<A>>,
+    ) -> Result<(), Stop>
+        ensures { MethodReads (λ _. template.new) result (adding_actual template.old) self.old self.new }
+    {
+        let literal = self.literal(alloc)?;
+        add_actual(template, literal.atom())
+    }
+
     // Reads a field that is no template, and adds it.
     #[tactic(auto, unfolding(crate::specs::Reading::slot, crate::specs::Reading::formal_slot, crate::specs::Reading::actual_slot))]
     fn add_plain_field<A: Allocator + Copy>(
@@ -506,8 +556,7 @@ impl<'a> Reader<'a> {
                 if let Some(text) = self.plain_text() {
                     return add_actual(template, AtomRef::Text(text));
                 }
-                let literal = self.literal(alloc)?;
-                add_actual(template, literal.atom())
+                self.add_literal_actual(alloc, template)
             }
         }
     }

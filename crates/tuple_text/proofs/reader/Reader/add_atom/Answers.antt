@@ -1,10 +1,6 @@
-use Rattle.std.proofs.Common.{subst, sym}
-use Rattle.tuple_tree.specs.Values.{text, IsUtf8IfText}
+use Rattle.tuple_tree.specs.Values.{text}
 use Rattle.tuple_text.proofs.Leaves.{read_utf8_if_text}
 use Rattle.tuple_text.proofs.reader.Reader.add_atom.Goals as goal
 
 pub add_atom-requires : goal.add_atom-requires
 add_atom-requires g c = read_utf8_if_text c.args.self.now.rest.now (text c.in-Some.text.now) c.plain_text.new.self.rest.now ((c.in-Some.ensures {u = tt}).some)
-
-pub add_atom-requires-2 : goal.add_atom-requires-2
-add_atom-requires-2 g c = subst IsUtf8IfText (sym c.atom.ensures) (read_utf8_if_text c.plain_text.new.self.rest.now _ c.literal.new.self.rest.now c.in_ok-literal.ensures)
