@@ -21,8 +21,8 @@ const MOST: u128 = 9223372036854775807;
 
 const MOST_WIDE: u128 = 170141183460469231731687303715884105727;
 
-// Any digit may follow a number below this one within 64 bits.
-const SHORT: u64 = 1844674407370955161;
+// Any digit may follow a number below this one, and the longer number is no greater than the greatest.
+const SHORT: u64 = 922337203685477580;
 
 // How many levels may lie below the outermost list.
 const BELOW: usize = 7;
@@ -129,29 +129,26 @@ impl<'a> Reader<'a> {
         }
     }
 
-    // Passes digits as long as the number surely fits 64 bits, since sums of 128 take longer.
-    fn short_digits(&mut self, limit: u128, first: u64) -> Result<u64, Stop>
-        requires low { 9 ≤ limit }
+    // Passes digits as long as the number surely is no greater than the greatest, since sums of 128 bits take longer.
+    fn short_digits(&mut self, limit: u128, first: u64) -> u64
         requires first { first ≤ limit }
         requires positive { 1 ≤ first }
-        ensures ok { IfOk result (λ n. digits limit n self.new.rest.now ≡ digits limit first self.old.rest.now) }
-        ensures err { IfErr result (λ s. digits limit first self.old.rest.now ≡ stop s self.new.rest.now) }
-        ensures low { IfOk result (λ n. 1 ≤ n) }
-        ensures high { IfOk result (λ n. n ≤ limit) }
+        ensures gives { digits limit result self.new.rest.now ≡ digits limit first self.old.rest.now }
+        ensures low { 1 ≤ result }
+        ensures high { result ≤ limit }
     {
+        if limit < MOST {
+            return first;
+        }
         let mut number = first;
         while let [byte @ b'0'..=b'9', rest @ ..] = self.rest {
             if number >= SHORT {
-                return Ok(number);
+                return number;
             }
-            let longer = number * 10 + u64::from(*byte - b'0');
-            if u128::from(longer) > limit {
-                return Err(Stop::BadByte);
-            }
-            number = longer;
+            number = number * 10 + u64::from(*byte - b'0');
             self.rest = rest;
         }
-        Ok(number)
+        number
     }
 
     // The digits after `first`, the number that the digits before them spell.
@@ -187,7 +184,7 @@ impl<'a> Reader<'a> {
         match self.rest {
             [byte @ b'1'..=b'9', rest @ ..] => {
                 self.rest = rest;
-                let number = self.short_digits(limit, u64::from(*byte - b'0'))?;
+                let number = self.short_digits(limit, u64::from(*byte - b'0'));
                 self.digits(limit, u128::from(number))
             }
             _ => Err(Stop::BadByte),
