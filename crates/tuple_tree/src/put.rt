@@ -24,7 +24,10 @@ pub fn put_atom<A: Allocator>(atom: &AtomRef<'_>, out: &mut Vec<u8, A>)
         AtomRef::Number(number) => put_tagged(1, &number.to_be_bytes(), out),
         AtomRef::Text(text) => put_string(2, text, out),
         AtomRef::Bytes(bytes) => put_string(3, bytes, out),
-        AtomRef::Truth(truth) => put_tagged(4, &[*truth as u8], out),
+        AtomRef::Truth(truth) => {
+            out.push_reserved(4);
+            out.push_reserved(*truth as u8);
+        }
         AtomRef::Wide(number) => put_tagged(6, &wide_bytes(*number), out),
     }
 }
@@ -36,7 +39,7 @@ fn wide_bytes(number: i128) -> [u8; 16]
     number.to_be_bytes()
 }
 
-#[inline]
+#[inline(always)]
 fn put_string<A: Allocator>(tag: u8, string: &[u8], out: &mut Vec<u8, A>)
     requires room { HasRoom out.old (3 + length string.now) }
     requires short { length string.now ≤ 1021 }
@@ -57,7 +60,8 @@ pub fn put_nested<A: Allocator>(count: u8, items: &[u8], out: &mut Vec<u8, A>)
 }
 
 /// Puts a tag and the bytes after it.
-#[inline]
+// Where the number of the bytes is known, they are copied without a call.
+#[inline(always)]
 pub fn put_tagged<A: Allocator>(tag: u8, bytes: &[u8], out: &mut Vec<u8, A>)
     requires { HasRoom out.old (1 + length bytes.now) }
     ensures { FillsRoom (tag ∷ bytes.now) out.old out.new }
@@ -67,7 +71,7 @@ pub fn put_tagged<A: Allocator>(tag: u8, bytes: &[u8], out: &mut Vec<u8, A>)
 }
 
 /// Puts bytes where there is room for them.
-#[inline]
+#[inline(always)]
 pub fn put_reserved<A: Allocator>(bytes: &[u8], out: &mut Vec<u8, A>)
     requires { HasRoom out.old (length bytes.now) }
     ensures { FillsRoom bytes.now out.old out.new }
