@@ -45,7 +45,10 @@ fn put_string<A: Allocator>(tag: u8, string: &[u8], out: &mut Vec<u8, A>)
     requires short { length string.now ≤ 1021 }
     ensures { FillsRoom (tag ∷ Spelling.string string.now) out.old out.new }
 {
-    put_tagged(tag, &(string.len() as u16).to_be_bytes(), out);
+    let [high, low] = (string.len() as u16).to_be_bytes();
+    out.push_reserved(tag);
+    out.push_reserved(high);
+    out.push_reserved(low);
     put_reserved(string, out);
 }
 
