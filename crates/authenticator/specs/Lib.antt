@@ -1,7 +1,7 @@
 pub mod Headers
 pub mod Authentic
 pub mod Faults
-pub mod Giving
+pub mod Results
 pub mod Kept
 pub mod Keys
 pub mod Laws

@@ -41,8 +41,8 @@ impl CodedText {
 }
 
 /// The keys between the parties of one configuration. The ring derives each when it first needs it, and keeps it. It
-/// also keeps the last genuine request of each client, since a replica hears most requests twice: from the client, and
-/// in the batch that orders them.
+/// also keeps the last genuine request of each client, since a replica receives most requests twice: from the client,
+/// and in the batch that orders them.
 #[derive(Drop)]
 pub struct Ring {
     alloc: Global,

@@ -12,7 +12,7 @@ ghost use Rattle.authenticator.specs.Keys.{mac_between};
 ghost use Rattle.authenticator.specs.Opening.{RefusesFrame};
 ghost use Rattle.authenticator.specs.Headers.{is_authenticated};
 ghost use Rattle.wire.specs.Headers.{header_data};
-ghost use Rattle.authenticator.specs.Giving.{AreMacsFor, SealsBody, TellsTooLong, IsOpened, OpensEach, refusal_of_header};
+ghost use Rattle.authenticator.specs.Results.{AreMacsFor, SealsBody, TellsTooLong, IsOpened, OpensEach, refusal_of_header};
 
 use crate::mac::same;
 use crate::ring::Ring;

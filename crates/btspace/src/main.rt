@@ -7,7 +7,7 @@
 //! linearizable unless two different texts of it have one digest. At a fault `run` writes nothing, unless the writer
 //! failed. If the words are no request, the status follows from the reason.
 //!
-//! Tests show that a faulty party is refused before the script is read, and what is shown while it runs.
+//! Tests show that a faulty party is refused before the script is read, and what the program shows while it runs.
 #![tactic(auto)]
 
 ghost use Rattle.std.specs.Prelude.{◌≡◌};

@@ -1,9 +1,7 @@
-//! Digests: their order and their length.
+//! The order of digests.
 
 ghost use Rattle.std.specs.Prelude.{◌≡◌};
-ghost use Rattle.wire_format.specs.Spelling.{IsDigest, bytes_before};
-
-use terms::Digest;
+ghost use Rattle.wire_format.specs.Spelling.{bytes_before};
 
 /// Whether the one comes before the other, by the first byte that differs.
 pub fn is_less(digest: &[u8], other: &[u8]) -> bool
@@ -16,11 +14,4 @@ pub fn is_less(digest: &[u8], other: &[u8]) -> bool
         return false;
     };
     *x < *y || (*x == *y && is_less(xs, ys))
-}
-
-/// Tells a proof that a digest has 32 bytes.
-pub fn note_digest(digest: &Digest)
-    ensures { IsDigest digest.now }
-{
-    let _first = digest[0];
 }

@@ -5,8 +5,8 @@ ghost use Rattle.wire_format.specs.Lists.{Each};
 ghost use Rattle.wire_format.specs.Spelling.{IsBatchEntry, IsCheckpointEntry};
 ghost use Rattle.wire_format.specs.Views.{batch_entry_data, checkpoint_entry_data};
 
-use crate::digests::note_digest;
 use wire::{BatchEntry, CheckpointEntry};
+use wire_format::note_digest;
 
 /// Tells a proof that a message may have each of these batch entries.
 pub(crate) fn note_entries(entries: &[BatchEntry])

@@ -24,6 +24,6 @@ mod laws;
 mod making;
 
 pub use claims::Claims;
-pub use digests::{is_less, note_digest};
+pub use digests::is_less;
 pub use laws::claims_are_recorded;
 pub use making::make;

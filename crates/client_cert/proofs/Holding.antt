@@ -9,12 +9,12 @@ use Rattle.terms.specs.declared.order.Mode.{Mode}
 use Rattle.terms.specs.declared.order.Mode.TheVariants as modes
 use Rattle.wire_format.specs.Messages.{request as Request, reply as Reply}
 use Rattle.wire_format.specs.Words.{said}
-use Rattle.signing.specs.Heard.{heard}
+use Rattle.signing.specs.AuthenticBody.{authentic}
 use Rattle.protocol.specs.System.Configuration.{Configuration, members}
 use Rattle.protocol.specs.System.Frames.{same_mode}
 use Rattle.protocol.specs.System.Trace.{Entry}
 use Rattle.protocol.specs.System.Trace.Entry.{Invoke, Got, Tick, Sent, Accepted}
-use Rattle.protocol.specs.Client.RightClient.{Vote, vote_of, later_vote, latest, went_ordered, is_ordered_request_of}
+use Rattle.protocol.specs.Client.RightClient.{Vote, reply_vote, later_vote, latest, went_ordered, is_ordered_request_of}
 use Rattle.client_cert.specs.State.{CallState, TakesReply, ballot_of, ballots_of, held, went}
 use Rattle.client_cert.specs.Fits.{FitsWithinEvents}
 
@@ -41,7 +41,7 @@ pub holds_closed : (c : Configuration) (me p t : ℕ) (bytes : List ℕ) (histor
 holds_closed c me p t bytes history h = record { last_is = h.last_is; call_is = h.call_is }
 
 pub holds_got : (c : Configuration) (me p t : ℕ) (bytes : List ℕ) (history : List Entry) (call : CallState)
-    → ((s : ℕ) → option_and_then (vote_of me t s) (heard (members c) me bytes) ≡ None) → FitsWithinEvents c me history t (Some call) → FitsWithinEvents c me (Got p bytes ∷ history) t (Some call)
+    → ((s : ℕ) → option_and_then (reply_vote me t s) (authentic (members c) me bytes) ≡ None) → FitsWithinEvents c me history t (Some call) → FitsWithinEvents c me (Got p bytes ∷ history) t (Some call)
 unfolding latest
 holds_got c me p t bytes history call none h =
     record {
@@ -73,14 +73,14 @@ and_trues true b c p q = ap (λ x. x && c) p ∙ q
 and_trues false b c p q = refl
 
 pub vote_heard : (me t s sender : ℕ) (mode : Mode) (number : ℕ) (answer : Outcome)
-    → vote_of me t s (record { sender = sender; message = Reply me t mode number answer })
+    → reply_vote me t s (record { sender = sender; message = Reply me t mode number answer })
     ≡ then_some (sender == s) (record { mode = mode; number = number; answer = answer })
 vote_heard me t s sender mode number answer =
     ap (λ b. then_some b (let v : Vote = record { mode = mode; number = number; answer = answer } in v)) (and_trues (sender == s) (me == me) (t == t) (eq-eqb me me refl) (eq-eqb t t refl))
 
 pub holds_noted : (c : Configuration) (me p t : ℕ) (bytes : List ℕ) (history : List Entry) (call more : CallState)
     (sender : ℕ) (mode : Mode) (number : ℕ) (answer : Outcome)
-    → heard (members c) me bytes ≡ Some (record { sender = sender; message = Reply me t mode number answer })
+    → authentic (members c) me bytes ≡ Some (record { sender = sender; message = Reply me t mode number answer })
     → TakesReply call mode sender (ballot_of (record { mode = mode; number = number; answer = answer })) more
     → FitsWithinEvents c me history t (Some call) → FitsWithinEvents c me (Got p bytes ∷ history) t (Some more)
 unfolding latest
@@ -94,7 +94,7 @@ holds_noted c me p t bytes history call more sender mode number answer is takes 
             takes.at m s
             ∙ ap (cond (same_mode mode m && (sender == s)) (Some (ballot_of (record { mode = mode; number = number; answer = answer })))) (h.call_is.ballots_are m s)
             ∙ sym (later (sender == s) mode m number answer (latest c me history t m s))
-            ∙ ap (λ v. option_map ballot_of (later_vote m v (latest c me history t m s))) (sym (ap (option_and_then (vote_of me t s)) is ∙ vote_heard me t s sender mode number answer));
+            ∙ ap (λ v. option_map ballot_of (later_vote m v (latest c me history t m s))) (sym (ap (option_and_then (reply_vote me t s)) is ∙ vote_heard me t s sender mode number answer));
       };
     }
 

@@ -19,7 +19,7 @@ use Rattle.tuple_codec.proofs.Lengths.{operation_short}
 use Rattle.authenticator.specs.Membership.{Membership}
 use Rattle.authenticator.specs.Sealing.{sealed_for, IsSealable, IsTooLong}
 use Rattle.protocol.specs.System.Configuration.{Configuration, members, replicas}
-use Rattle.protocol.proofs.Words.Posting.{sealed_is_posted}
+use Rattle.protocol.proofs.Words.Posting.{sealed_is_outgoing}
 use Rattle.events.specs.Outputs.{receivers_in}
 use Rattle.events.proofs.Meant.{sealed_is_for}
 use Rattle.client_cert.specs.Asking.{AsksWith, IsShort}
@@ -34,7 +34,7 @@ SpellsSealed m body bytes = SpellsFrame bytes (sealed_for m.seed body (range_wit
 asks_with : (m : Membership) (me t : ℕ) (mode : Mode) (op : Operation) (bytes : List ℕ) → SpellsSealed m (request_body me t mode op) bytes → AsksWith m me mode t op bytes
 asks_with m me t mode op bytes spells c known =
     let here : SpellsSealed (members c) (request_body me t mode op) bytes = subst (λ (x : Membership). SpellsSealed x (request_body me t mode op) bytes) (sym known) spells in
-    sealed_is_posted c (request_body me t mode op) (range_with_len 0 (3 * c.faults + 1)) bytes here
+    sealed_is_outgoing c (request_body me t mode op) (range_with_len 0 (3 * c.faults + 1)) bytes here
 
 -- ---- such a request may be sealed
 

@@ -8,15 +8,15 @@ use Rattle.tuple_codec.specs.OperationView.{outcome_of}
 use Rattle.tuple_codec.specs.declared.operations.Answer.{Answer}
 use Rattle.std.proofs.lemmas.Bool.{eq-eqb}
 use Rattle.authenticator.specs.Membership.{Membership}
-use Rattle.signing.specs.Heard.{heard}
+use Rattle.signing.specs.AuthenticBody.{authentic}
 use Rattle.protocol.specs.System.Configuration.{Configuration, members}
 use Rattle.protocol.specs.System.Frames.{same_mode}
 use Rattle.protocol.specs.System.Trace.{Entry}
 use Rattle.protocol.specs.System.Trace.Entry.{Got, Tick, Sent, Accepted}
 use Rattle.protocol.specs.Client.RightClient.{Reacts, reaction}
 use Rattle.protocol.specs.Client.RightClient.Reaction.{nothing, asks, accepts}
-use Rattle.client_cert.specs.declared.hearing.Heard.{Heard}
-use Rattle.client_cert.specs.Hearing.{HearsAnswer, HearsVote, IsAnswerIn, reply_body}
+use Rattle.client_cert.specs.declared.receiving.ReceivedReply.{ReceivedReply}
+use Rattle.client_cert.specs.Receiving.{ReceivesAnswer, ReceivesVote, IsAnswerIn, reply_body}
 use Rattle.client_cert.specs.State.Turn.{accepts_it}
 use Rattle.client_cert.specs.State.{Ballot, CallState, ClientState, TakesReply, Turn, turn_of, ballot_of, ballots_of, held, me_of, went}
 use Rattle.client_cert.specs.Fits.{FitsWithinEvents, Fits}
@@ -28,9 +28,9 @@ use Rattle.client_cert.proofs.Fitting.{gives_none, gives_request, gives_answer, 
 
 -- ---- an open call after bytes
 
-pub weigh_none : (m : Membership) (me t : ℕ) (call : CallState) (bytes : List ℕ) → HearsVote me t (heard m me bytes) None → CallWeighsBytes m me t call bytes call nothing
-weigh_none m me t call bytes hears c history known h =
-    let here : HearsVote me t (heard (members c) me bytes) None = subst (λ (x : Membership). HearsVote me t (heard x me bytes) None) (sym known) hears in
+pub weigh_none : (m : Membership) (me t : ℕ) (call : CallState) (bytes : List ℕ) → ReceivesVote me t (authentic m me bytes) None → CallWeighsBytes m me t call bytes call nothing
+weigh_none m me t call bytes receives c history known h =
+    let here : ReceivesVote me t (authentic (members c) me bytes) None = subst (λ (x : Membership). ReceivesVote me t (authentic x me bytes) None) (sym known) receives in
     (holds_got c me me t bytes history call here h, no_reaction c me me t bytes history call here h)
 
 -- the key of the sender's own reply
@@ -42,15 +42,15 @@ taken : (call more : CallState) (mode : Mode) (sender : ℕ) (ballot : Ballot) �
 taken call more mode sender ballot takes =
     takes.at mode sender ∙ ap (λ b. cond b (Some ballot) (held (ballots_of mode call) sender)) (same_key mode sender)
 
-pub weigh_reply : (m : Membership) (me t faults : ℕ) (call more : CallState) (bytes : List ℕ) (x : Heard) (ballot : Ballot) (turn : Turn)
-    → (v : HearsAnswer me t (heard m me bytes) x)
+pub weigh_reply : (m : Membership) (me t faults : ℕ) (call more : CallState) (bytes : List ℕ) (x : ReceivedReply) (ballot : Ballot) (turn : Turn)
+    → (v : ReceivesAnswer me t (authentic m me bytes) x)
     → faults ≡ m.faults
     → ballot ≡ record { number = x.number.0; text = x.text.now }
     → TakesReply call x.mode x.sender ballot more
     → turn_of faults more x.mode x.sender ≡ turn
     → CallWeighsBytes m me t call bytes more (turns turn t more.op v.answer)
 weigh_reply m me t faults call more bytes x ballot turn v size kept takes turned c history known h =
-    let here : heard (members c) me bytes ≡ Some (reply_body me t x v.answer) = ap (λ (k : Membership). heard k me bytes) known ∙ v.heard_is in
+    let here : authentic (members c) me bytes ≡ Some (reply_body me t x v.answer) = ap (λ (k : Membership). authentic k me bytes) known ∙ v.heard_is in
     let is : ballot ≡ ballot_of (record { mode = x.mode; number = x.number.0; answer = v.answer }) =
     kept ∙ ap (λ text. let b : Ballot = record { number = x.number.0; text = text } in b) v.spelled.spelled in
     let now : FitsWithinEvents c me (Got me bytes ∷ history) t (Some more) =
@@ -64,8 +64,8 @@ weigh_reply m me t faults call more bytes x ballot turn v size kept takes turned
     )
 
 -- the answer that its text spells is accepted
-pub weigh_accepts : (m : Membership) (me t faults : ℕ) (call more : CallState) (bytes : List ℕ) (x : Heard) (ballot : Ballot)
-    → (v : HearsAnswer me t (heard m me bytes) x)
+pub weigh_accepts : (m : Membership) (me t faults : ℕ) (call more : CallState) (bytes : List ℕ) (x : ReceivedReply) (ballot : Ballot)
+    → (v : ReceivesAnswer me t (authentic m me bytes) x)
     → faults ≡ m.faults
     → ballot ≡ record { number = x.number.0; text = x.text.now }
     → TakesReply call x.mode x.sender ballot more

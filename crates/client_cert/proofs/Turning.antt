@@ -9,11 +9,11 @@ use Rattle.terms.specs.declared.order.Mode.{Mode}
 use Rattle.terms.specs.declared.order.Mode.TheVariants as modes
 use Rattle.wire_format.specs.Messages.{BodyData as Body, reply as Reply}
 use Rattle.quorum.specs.Quorum.{count_below}
-use Rattle.signing.specs.Heard.{heard}
+use Rattle.signing.specs.AuthenticBody.{authentic}
 use Rattle.protocol.specs.System.Configuration.{Configuration, members, replicas}
 use Rattle.protocol.specs.System.Trace.{Entry}
 use Rattle.protocol.specs.System.Trace.Entry.{Got, Tick}
-use Rattle.protocol.specs.Client.RightClient.{Vote, vote_of, latest, newest_vote, went_ordered, is_alike, count_alike as count_votes, is_complete, is_answered, Reaction, reaction, on_reply, on_got}
+use Rattle.protocol.specs.Client.RightClient.{Vote, reply_vote, latest, newest_vote, went_ordered, is_alike, count_alike as count_votes, is_complete, is_answered, Reaction, reaction, on_reply, on_got}
 use Rattle.protocol.specs.Client.RightClient.Reaction.{nothing, asks, accepts}
 use Rattle.client_cert.specs.State.{CallState, ballot_of, ballots_of, held, is_like, count_like, count_alike, count_held, Turn, turn_of}
 use Rattle.client_cert.specs.State.Turn.{waits, asks_ordered, accepts_it}
@@ -75,15 +75,15 @@ module _ (c : Configuration) (me t : ℕ) (now : List Entry) (call : CallState) 
       ∙ ap (λ o. turn_by c.faults o (count_votes c me now t vote) (count_below (λ s. is_some (latest c me now t modes.ReadOnly s)) (replicas c))) (sym h.ordered_is)))
 
 newest_is : (c : Configuration) (me p t : ℕ) (bytes : List ℕ) (history : List Entry) (sender : ℕ) (mode : Mode) (number : ℕ) (answer : Outcome)
-    → heard (members c) me bytes ≡ Some (record { sender = sender; message = Reply me t mode number answer })
+    → authentic (members c) me bytes ≡ Some (record { sender = sender; message = Reply me t mode number answer })
     → newest_vote c me (Got p bytes ∷ history) t ≡ Some (record { mode = mode; number = number; answer = answer })
 newest_is c me p t bytes history sender mode number answer is =
-    ap (option_and_then (λ body. vote_of me t body.sender body)) is ∙ vote_heard me t sender sender mode number answer
+    ap (option_and_then (λ body. reply_vote me t body.sender body)) is ∙ vote_heard me t sender sender mode number answer
     ∙ ap (λ b. then_some b (let v : Vote = record { mode = mode; number = number; answer = answer } in v)) (eq-eqb sender sender refl)
 
 -- a reply to the call, once it is kept
 pub reaction_is : (c : Configuration) (me p t : ℕ) (bytes : List ℕ) (history : List Entry) (call : CallState) (sender : ℕ) (mode : Mode) (number : ℕ) (answer : Outcome)
-    → heard (members c) me bytes ≡ Some (record { sender = sender; message = Reply me t mode number answer })
+    → authentic (members c) me bytes ≡ Some (record { sender = sender; message = Reply me t mode number answer })
     → FitsWithinEvents c me (Got p bytes ∷ history) t (Some call)
     → held (ballots_of mode call) sender ≡ Some (ballot_of (record { mode = mode; number = number; answer = answer }))
     → reaction c me (Got p bytes ∷ history) ≡ turns (turn_of c.faults call mode sender) t call.op answer
@@ -94,12 +94,12 @@ reaction_is c me p t bytes history call sender mode number answer is h kept =
 
 -- anything else
 pub no_reaction : (c : Configuration) (me p t : ℕ) (bytes : List ℕ) (history : List Entry) (call : CallState)
-    → ((s : ℕ) → option_and_then (vote_of me t s) (heard (members c) me bytes) ≡ None) → FitsWithinEvents c me history t (Some call) → reaction c me (Got p bytes ∷ history) ≡ nothing
+    → ((s : ℕ) → option_and_then (reply_vote me t s) (authentic (members c) me bytes) ≡ None) → FitsWithinEvents c me history t (Some call) → reaction c me (Got p bytes ∷ history) ≡ nothing
 no_reaction c me p t bytes history call unheard h =
     ap (λ o. option_map_or (on_got c me (Got p bytes ∷ history)) o nothing) h.call_is.open_is
-    ∙ ap (λ v. option_map_or (on_reply c me (Got p bytes ∷ history) (record { timestamp = t; op = call.op })) v nothing) (none (heard (members c) me bytes) unheard)
+    ∙ ap (λ v. option_map_or (on_reply c me (Got p bytes ∷ history) (record { timestamp = t; op = call.op })) v nothing) (none (authentic (members c) me bytes) unheard)
   where
-    none : (o : Option Body) → ((s : ℕ) → option_and_then (vote_of me t s) o ≡ None) → option_and_then (λ body. vote_of me t body.sender body) o ≡ None
+    none : (o : Option Body) → ((s : ℕ) → option_and_then (reply_vote me t s) o ≡ None) → option_and_then (λ body. reply_vote me t body.sender body) o ≡ None
     none None unheard = refl
     none (Some body) unheard = unheard body.sender
 

@@ -1,6 +1,6 @@
 pub mod Asking
 pub mod Fits
-pub mod Hearing
+pub mod Receiving
 pub mod State
 pub mod Steps
 pub mod TurnView

@@ -17,8 +17,8 @@ use Rattle.events.specs.declared.output.Output.{Output}
 use Rattle.events.specs.Outputs.{entry_of, after_event, AreSentAsMeant}
 use Rattle.client_cert.specs.declared.client.Event.{Event}
 use Rattle.client_cert.specs.declared.client.Event.TheVariants as events
-use Rattle.client_cert.specs.declared.hearing.Turned.{Turned}
-use Rattle.client_cert.specs.declared.hearing.Turned.TheVariants as turned
+use Rattle.client_cert.specs.declared.receiving.Turned.{Turned}
+use Rattle.client_cert.specs.declared.receiving.Turned.TheVariants as turned
 use Rattle.client_cert.specs.State.{CallState, ClientState, me_of, went}
 use Rattle.client_cert.specs.Asking.{AsksWith}
 use Rattle.client_cert.specs.Fits.{FitsWithinEvents, Fits}

@@ -12,9 +12,9 @@ ghost use Rattle.client_cert.specs.Steps.{SendsRequest, BytesLead, KeepsWhetherO
 
 use crate::asking::{all_replicas, first_mode};
 use crate::call::{Call, request};
-use crate::hearing::{Turned, weigh};
+use crate::receiving::{Turned, weigh};
 use authenticator::Ring;
-use events::{Output, Outputs, SharedBytes, Stop, give};
+use events::{Output, Outputs, SharedBytes, Stop, emit};
 use signing::PublicKeys;
 use std::alloc::Global;
 use std::marker::Model;
@@ -301,6 +301,6 @@ fn sole(alloc: Global, output: Output) -> Result<Outputs, Stop>
     ensures { IfOk result (λ outs. outs.items ≡ output ∷ []) }
 {
     let mut outputs = Vec::new(alloc);
-    give(&mut outputs, output)?;
+    emit(&mut outputs, output)?;
     Ok(outputs)
 }

@@ -38,6 +38,6 @@ mod asking;
 mod ballots;
 mod call;
 mod client;
-mod hearing;
+mod receiving;
 
 pub use client::{Client, Event, InvokeFault};

@@ -15,7 +15,7 @@
 //! That `run` returns: it waits for the threads, and these for replies. Tests (`btspace`) show that a run goes on
 //! without a primary that takes no event or has stopped. They show that it ends if more nodes have stopped than may
 //! fail, and that its journal takes no more entries than its limit. Only the code shows when the clients and the
-//! replicas hear that time went by, and which fault a run gives that fails after its start.
+//! replicas learn that time went by, and which fault a run gives that fails after its start.
 #![tactic(auto)]
 
 mod calling;

@@ -1,11 +1,11 @@
-//! When the replicas hear that time went by.
+//! When the replicas learn that time went by.
 
-// Seconds without an answer before the replicas hear of it for the first time.
+// Seconds without an answer before the replicas learn of it for the first time.
 const FIRST: u64 = 3;
 
 /// How many seconds no operation was answered, and how many such seconds may pass.
 ///
-/// Each time that the replicas hear of it, they may change their view, and each has 64 signatures. So the time that
+/// Each time that the replicas learn of it, they may change their view, and each has 64 signatures. So the time that
 /// may pass doubles each time, and never falls again.
 #[derive(Clone, Copy, Drop)]
 pub(crate) struct Patience {

@@ -10,7 +10,7 @@ const PAUSE: u64 = 250;
 /// How often it looks in a second.
 pub(crate) const LOOKS_A_SECOND: u64 = 4;
 
-/// Hears of the progress of a run.
+/// Is told of the progress of a run.
 pub trait Watch {
     /// About so many seconds went by, and so many operations are answered.
     fn note(&mut self, seconds: u64, answered: u64);

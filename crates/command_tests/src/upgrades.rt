@@ -149,7 +149,7 @@ struct Heard {
 
 impl Heard {
     // Judges a line of a client other than client 0.
-    fn hear(&mut self, call: Call, client: usize, round: usize, line: &str) -> bool {
+    fn authenticate(&mut self, call: Call, client: usize, round: usize, line: &str) -> bool {
         match call {
             Call::PutWide => self.hear_put(round as u64, line),
             Call::FindWide => self.hear_found(client, line),
@@ -244,7 +244,7 @@ fn is_answer(place: usize, line: &str, heard: &mut [Heard]) -> bool {
         heard.get_mut(client),
     ) {
         (Some(first), _, _) if client == 0 => line == *first,
-        (_, Some(call), Some(heard)) => heard.hear(*call, client, round, line),
+        (_, Some(call), Some(heard)) => heard.authenticate(*call, client, round, line),
         _ => client == 0 && is_listing(line, heard),
     }
 }

@@ -6,7 +6,7 @@ use Rattle.terms.specs.declared.state.Level.TheVariants as levels
 use Rattle.wire_format.specs.Lists.{Each}
 use Rattle.wire_format.specs.Messages.{MessageData as Message, meta as Meta, page as Page}
 use Rattle.wire_format.specs.Spelling.{last_index}
-use Rattle.posting.specs.Endpoint.{FitsFrame}
+use Rattle.frame_endpoint.specs.Endpoint.{FitsFrame}
 use Rattle.partition_tree.specs.Levels.{children_of}
 use Rattle.execution.proofs.Measuring.{pages_are_short}
 use Rattle.execution.proofs.Renewing.{page_there}

@@ -6,13 +6,13 @@ use Rattle.space.specs.Births.{tuples_of}
 use Rattle.wire_format.specs.Messages.{MessageData as Message, reply as Reply}
 use Rattle.wire_format.specs.declared.messages.Reply.{Reply as WireReply}
 use Rattle.read_only.specs.declared.answering.Shelf.{Shelf}
-use Rattle.read_only.specs.declared.hearing.ReadRequest.{ReadRequest}
-use Rattle.read_only.specs.Hearing.{HearsRead}
+use Rattle.read_only.specs.declared.receiving.ReadRequest.{ReadRequest}
+use Rattle.read_only.specs.Receiving.{AuthenticatesRead}
 use Rattle.read_only.specs.Answering as answers
 use Rattle.events.specs.declared.output.Output.{Output}
 use Rattle.replica_histories.specs.Questions.{read_from, read_reply}
 use Rattle.desk.specs.State.{DeskData}
-use Rattle.desk.specs.Desking.{SaysTo, message_of}
+use Rattle.desk.specs.Desking.{SendsToClient, message_of}
 use Rattle.desk.specs.Reading.{AnswersBytes}
 
 -- the client that a reply is for
@@ -21,16 +21,16 @@ named message = elim message [ Reply client t mode number outcome ↦ client | _
 
 -- The answer to the received read, from the executed state, goes to its client.
 pub answered : (d : DeskData) (bytes : List ℕ) (shelf : Shelf) (request : ReadRequest) (reply : WireReply) (before after : List Output)
-    → HearsRead d.membership d.me bytes request.client.number request.timestamp.0 request.op.now → answers.RepliesToRead shelf request reply
+    → AuthenticatesRead d.membership d.me bytes request.client.number request.timestamp.0 request.op.now → answers.RepliesToRead shelf request reply
     → shelf.space.now ≡ d.executed.state.space → shelf.number.0 ≡ d.executed.state.number
-    → SaysTo d reply.client (message_of reply) before after → AnswersBytes d bytes before after
+    → SendsToClient d reply.client (message_of reply) before after → AnswersBytes d bytes before after
 answered d bytes shelf request reply before after h answer space number says = inl (record {
   client = reply.client;
   timestamp = t;
   op = h.op;
-  hears = h.hears ∙ ap (λ k. Some (read_from k t h.op)) (sym same);
+  receives = h.receives ∙ ap (λ k. Some (read_from k t h.op)) (sym same);
   is_read = a.read;
-  says = subst (λ (m : Message). SaysTo d reply.client m before after) said_is says;
+  says = subst (λ (m : Message). SendsToClient d reply.client m before after) said_is says;
 })
   where
     t : ℕ

@@ -9,7 +9,7 @@ use Rattle.replica_histories.specs.Desk.{snapshot_of}
 use Rattle.desk.specs.Keeping.{newest_with}
 use Rattle.desk.specs.State.{DeskData}
 use Rattle.desk.specs.Waiting.{WaitingData, forgotten}
-use Rattle.desk.specs.Desking.{HoldsState, RepliesToAll, RunsBatch, SaysReply, above_number, checkpoint_is_due, keeping_due, keeping_state, snapshots_with}
+use Rattle.desk.specs.Desking.{HoldsState, RepliesToAll, RunsBatch, SendsReply, above_number, checkpoint_is_due, keeping_due, keeping_state, snapshots_with}
 use Rattle.desk.specs.Fetching.{closing_reached}
 
 -- ---- executions
@@ -69,6 +69,6 @@ pub replies_end : (d : DeskData) (due left : List Ran) (x y : List Output) → l
 replies_end d due left x y none p = p y (subst (λ (xs : List Ran). RepliesToAll d xs y y) (sym none) refl)
 
 pub replies_next : (d cur : DeskData) (due : List Ran) (it : Ran) (xs ys : List Ran) (x y z : List Output) → cur ≡ d → xs ≡ it ∷ ys → RepliesLeft d due x xs y
-    → SaysReply cur it.client (told it).1 y z → RepliesLeft d due x ys z
+    → SendsReply cur it.client (told it).1 y z → RepliesLeft d due x ys z
 replies_next d cur due it xs ys x y z same items p says end h =
-    p end (subst (λ (rs : List Ran). RepliesToAll d rs y end) (sym items) (z, subst (λ (e : DeskData). SaysReply e it.client (told it).1 y z) same says, h))
+    p end (subst (λ (rs : List Ran). RepliesToAll d rs y end) (sym items) (z, subst (λ (e : DeskData). SendsReply e it.client (told it).1 y z) same says, h))

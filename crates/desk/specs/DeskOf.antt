@@ -1,4 +1,4 @@
--- The desk of a history that a desk's data stand for, and what is right about them.
+-- The desk of a history that a desk's data stand for, and their invariants.
 use Rattle.std.specs.Prelude.{◌≡◌, ◌≢◌, ◌≤◌, ℕ, List, map, Option, Some, option_map, AllPairs}
 use Rattle.std.specs.Option.{ForSome, option_map_or}
 use Rattle.tuple_codec.specs.Operations.{Operation, upgrade as Upgrade}
@@ -36,7 +36,7 @@ desk_of c d = record {
   transfer = option_map (λ o. o.transfer) d.transfer;
 }
 
--- ---- what is right about it
+-- ---- its invariants
 
 -- each request's frame spells its call
 abbrev pub SpellCalls : Configuration → List WaitingRequest → Type 0

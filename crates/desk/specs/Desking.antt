@@ -13,7 +13,7 @@ use Rattle.wire_format.specs.Lists.{Each}
 use Rattle.wire_format.specs.Views.{message_data}
 use Rattle.partition_tree.specs.Digests.{root_of as root_of_pages}
 use Rattle.reply_cache.specs.Replies.{Kept}
-use Rattle.posting.specs.Endpoint.{SealsForOne}
+use Rattle.frame_endpoint.specs.Endpoint.{SealsForOne}
 use Rattle.events.specs.declared.output.Output.{Output}
 use Rattle.events.specs.Outputs.{entry_of}
 use Rattle.execution.specs.Executed.{ExecutesBatchText, told}
@@ -53,26 +53,27 @@ abbrev pub message_of : Reply → Message
 message_of reply = message_data (messages.Reply reply)
 
 -- the message goes to the client, after the earlier outputs
-pub record SaysTo (d : DeskData) (client : ClientId) (message : Message) (before after : List Output) : Type 0 where
+pub record SendsToClient (d : DeskData) (client : ClientId) (message : Message)
+    (before after : List Output) : Type 0 where
   pub output : Output
   pub posts : SealsForOne d.membership d.me message (parties.Client client) output
   pub given_is : after ≡ before ++ output ∷ []
 
 -- so does the kept reply
-abbrev pub SaysReply : DeskData → ClientId → Kept → List Output → List Output → Type 0
-SaysReply d client kept before after = SaysTo d client (reply_of client.number kept) before after
+abbrev pub SendsReply : DeskData → ClientId → Kept → List Output → List Output → Type 0
+SendsReply d client kept before after = SendsToClient d client (reply_of client.number kept) before after
 
 -- Each request that ran gets its reply, one after another.
 abbrev pub RepliesToAll : DeskData → List Ran → List Output → List Output → Type 0
 RepliesToAll d [] before after = after ≡ before
 RepliesToAll d (ran ∷ rest) before after = (between : List Output)
-    × SaysReply d ran.client (told ran).1 before between × RepliesToAll d rest between after
+    × SendsReply d ran.client (told ran).1 before between × RepliesToAll d rest between after
 
 -- The kept reply to the client's last request, of this timestamp, goes again.
 abbrev pub RepliesAgain : DeskData → ClientId → Timestamp → List Output → List Output → Type 0
 RepliesAgain d client timestamp before after =
     (kept : Kept) × (kept_of d.executed.state client.number ≡ Some kept) × (kept.timestamp ≡ timestamp.0)
-    × SaysReply d client kept before after
+    × SendsReply d client kept before after
 
 -- whether there is one
 abbrev pub HasReply : DeskData → ClientId → Timestamp → Bool → Type 0

@@ -12,7 +12,7 @@ use Rattle.wire_format.specs.declared.messages.Message.{Message}
 use Rattle.wire_format.specs.declared.messages.Fetch.{Fetch}
 use Rattle.wire_format.specs.declared.messages.Meta.{Meta}
 use Rattle.wire_format.specs.declared.messages.Page.{Page}
-use Rattle.posting.specs.Endpoint.{SealsForOne}
+use Rattle.frame_endpoint.specs.Endpoint.{SealsForOne}
 use Rattle.events.specs.declared.output.Output.{Output}
 use Rattle.partition_tree.specs.Digests.{root_of as root_of_pages}
 use Rattle.state_transfer.specs.declared.place.Place.{Place}
@@ -26,7 +26,7 @@ use Rattle.desk.specs.declared.open_transfer.Taken.{Taken}
 use Rattle.desk.specs.State.{OpenData, DeskData}
 use Rattle.desk.specs.Waiting.{forgotten}
 use Rattle.desk.specs.Desking.{above_number}
-use Rattle.desk.specs.Transferring.{started, moved, AreOtherDigests, IsOtherPage, TakesDigestsOf, TakesPageOf, is_given_back, AsksPlace}
+use Rattle.desk.specs.Transferring.{started, moved, AreOtherDigests, IsOtherPage, TakesDigestsOf, TakesPageOf, is_put_back, AsksPlace}
 
 -- ---- answers
 
@@ -44,8 +44,8 @@ MessageHasPart d fetch (Some message) = (pages : List (List ℕ)) × HasKept d f
 MessageHasPart d fetch None = KeepsNoState d fetch.number.0
 
 -- The desk sends that part to the asking replica alone; if no state of the number is kept, it sends nothing.
-abbrev pub GivesPart : DeskData → ReplicaId → Fetch → List Output → List Output → Type 0
-GivesPart d asker fetch before after = ((after ≡ before) × KeepsNoState d fetch.number.0)
+abbrev pub SendsPart : DeskData → ReplicaId → Fetch → List Output → List Output → Type 0
+SendsPart d asker fetch before after = ((after ≡ before) × KeepsNoState d fetch.number.0)
     ⊎ ((pages : List (List ℕ)) × (output : Output) × HasKept d fetch.number.0 pages
     × SealsForOne d.membership d.me (answer_by pages fetch.number.0 fetch.level fetch.index)
     (parties.Replica asker) output
@@ -54,21 +54,21 @@ GivesPart d asker fetch before after = ((after ≡ before) × KeepsNoState d fet
 -- ---- a transfer gets its target
 
 -- the number above which a checkpoint's state is fetched
-abbrev pub aimed_at : DeskData → ℕ
-aimed_at d = elim d.transfer [ Some o ↦ o.transfer.number | None ↦ d.executed.state.number ]
+abbrev pub target_number : DeskData → ℕ
+target_number d = elim d.transfer [ Some o ↦ o.transfer.number | None ↦ d.executed.state.number ]
 
 -- the transfer of a checkpoint's state: a new one, or the open one, moved to it
 abbrev pub opened_transfer : State → Option OpenData → CheckpointEntry → OpenData
 opened_transfer st None entry = started st entry
 opened_transfer st (Some o) entry = moved o entry
 
-abbrev pub aiming : CheckpointEntry → DeskData → DeskData
-aiming entry d = record d { transfer = Some (opened_transfer d.executed.state d.transfer entry) }
+abbrev pub with_target : CheckpointEntry → DeskData → DeskData
+with_target entry d = record d { transfer = Some (opened_transfer d.executed.state d.transfer entry) }
 
 -- The transfer's target becomes a checkpoint above that number; else nothing changes.
-abbrev pub AimsAt : CheckpointEntry → DeskData → DeskData → Bool → Type 0
-AimsAt entry old new true = (aimed_at old < entry.number) × (new ≡ aiming entry old)
-AimsAt entry old new false = (entry.number ≤ aimed_at old) × (new ≡ old)
+abbrev pub SetsTarget : CheckpointEntry → DeskData → DeskData → Bool → Type 0
+SetsTarget entry old new true = (target_number old < entry.number) × (new ≡ with_target entry old)
+SetsTarget entry old new false = (entry.number ≤ target_number old) × (new ≡ old)
 
 -- the number and place that the open transfer asks for
 abbrev pub IsAskedFor : DeskData → Option (Number × Place) → Type 0
@@ -96,10 +96,10 @@ TakesPage old page new (Some taken) = (o : OpenData) × (n : OpenData) × (old.t
     × (new ≡ with_transfer n old) × TakesPageOf o page n (Some taken)
 TakesPage old page new None = (new ≡ old) × ForSome old.transfer (λ o. IsOtherPage o page)
 
-abbrev pub GivesBack : DeskData → Taken → DeskData → Type 0
-GivesBack old taken new = ((old.transfer ≡ None) × (new ≡ old))
+abbrev pub PutsBack : DeskData → Taken → DeskData → Type 0
+PutsBack old taken new = ((old.transfer ≡ None) × (new ≡ old))
     ⊎ ((o : OpenData) × (n : OpenData) × (old.transfer ≡ Some o) × (new ≡ with_transfer n old)
-    × is_given_back o taken n)
+    × is_put_back o taken n)
 
 -- a transfer of a reached state is closed
 abbrev pub closing_reached : DeskData → DeskData

@@ -24,9 +24,9 @@ moved o entry = record o { transfer = moved_to o.transfer entry.number entry.dig
 
 -- ---- parts
 
--- Digests that a message may say: those of 32 children, below the root or an inner part.
-abbrev pub MayBeSaid : Meta → Type 0
-MayBeSaid meta = IsMessage (MetaMessage meta.number.0 meta.level meta.index meta.digests.items)
+-- Digests that a message may have: those of 32 children, below the root or an inner part.
+abbrev pub MayBeSent : Meta → Type 0
+MayBeSent meta = IsMessage (MetaMessage meta.number.0 meta.level meta.index meta.digests.items)
 
 -- digests, or a page, that the transfer does not await
 abbrev pub AreOtherDigests : OpenData → Meta → Type 0
@@ -63,8 +63,8 @@ TakesPageOf old page new (Some taken) =
 TakesPageOf old page new None = (new ≡ old) × IsOtherPage old page
 
 -- the transfer gives back what it took
-abbrev pub is_given_back : OpenData → Taken → OpenData → Type 0
-is_given_back old taken new =
+abbrev pub is_put_back : OpenData → Taken → OpenData → Type 0
+is_put_back old taken new =
     new ≡ record { transfer = given_back old.transfer taken.replaced; rests_at = taken.rests_at.0 }
 
 -- ---- the next part

@@ -105,7 +105,7 @@ without_client client w = keeping (λ r. not (is_of client r)) w
 abbrev pub forgotten : State → WaitingData → WaitingData
 forgotten st w = keeping (is_new st) w
 
--- ---- what is kept
+-- ---- kept requests
 
 -- the frame is that of an ordered request
 abbrev pub HasRequestFrame : WaitingRequest → Type 0

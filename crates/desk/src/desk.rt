@@ -8,23 +8,23 @@ ghost use Rattle.wire_format.specs.Spelling.{IsCarried, is_ordered_request};
 ghost use Rattle.wire_format.specs.Views.{texts_of};
 ghost use Rattle.desk.specs.State.{IsDesk, IsSameDesk};
 ghost use Rattle.desk.specs.Waiting.{count_unnumbered, texts, unnumbered, with_numbered};
-ghost use Rattle.desk.specs.Desking.{IsNewDesk, HasReply, RepliesAgain, RepliesToAll, RunsBatch, RunsWhole, SaysTo, RequestWaits, message_of};
+ghost use Rattle.desk.specs.Desking.{IsNewDesk, HasReply, RepliesAgain, RepliesToAll, RunsBatch, RunsWhole, SendsToClient, RequestWaits, message_of};
 
 use crate::keeping::pages_of;
 use crate::open_transfer::OpenTransfer;
 use crate::snapshots::Snapshots;
 use crate::waiting::Waiting;
 use authenticator::{Ring, SealFault};
-use events::{Config, Output, Outputs, SharedBytes, Stop, give};
+use events::{Config, Output, Outputs, SharedBytes, Stop, emit};
 use execution::{Executed, Ran};
-use posting::{reply_message, seal_for_one};
+use frame_endpoint::{reply_message, seal_for_one};
 use std::alloc::Global;
 use std::marker::Model;
 use terms::{ClientId, Mode, NoMemory, Number, Party, ReplicaId, Timestamp};
 use tuple_codec::Answer;
 use wire::Reply;
 
-/// The executed state, what is kept of earlier ones, and what waits for execution.
+/// The executed state, the kept earlier ones, and the requests that wait for execution.
 #[derive(Drop)]
 pub struct Desk {
     pub(crate) me: ReplicaId,
@@ -127,7 +127,7 @@ impl Desk {
         let copy = Vec::from_slice(alloc, text)?;
         let batch = SharedBytes::new(copy)?;
         let executed = &*self.executed;
-        give(outputs, Output::Executed(executed.number(), batch))?;
+        emit(outputs, Output::Executed(executed.number(), batch))?;
         self.waiting.forget(executed);
         self.close_reached();
         Ok(ran)
@@ -258,7 +258,7 @@ impl Desk {
         outputs: &mut Outputs,
     ) -> Result<(), Stop>
         ensures said { OnOk result
-            (SaysTo self.old reply.client (message_of reply) outputs.old.items outputs.new.items) }
+            (SendsToClient self.old reply.client (message_of reply) outputs.old.items outputs.new.items) }
         ensures same { self.new ≡ self.old }
     {
         let Reply {
@@ -271,7 +271,7 @@ impl Desk {
         let message = reply_message(client, timestamp, kind, number, answer);
         let party = Party::Client(client);
         match seal_for_one(&mut *self.ring, alloc, self.me, message, party) {
-            Ok(output) => give(outputs, output),
+            Ok(output) => emit(outputs, output),
             Err(SealFault::NoMemory) => Err(Stop::NoMemory),
             // Each reply fits a frame.
             Err(SealFault::TooLarge) => unreachable!(),

@@ -3,17 +3,17 @@
 ghost use Rattle.std.specs.Prelude.{◌≡◌, ◌≤◌, false, IfOk, IfSome, OnOk, option_map};
 ghost use Rattle.wire_format.specs.Views.{checkpoint_entry_data, message_data};
 ghost use Rattle.wire_format.specs.Spelling.{IsMessage, is_signed, last_index};
-ghost use Rattle.posting.specs.Endpoint.{FitsFrame};
+ghost use Rattle.frame_endpoint.specs.Endpoint.{FitsFrame};
 ghost use Rattle.state_transfer.specs.Places.{IsPlace};
 ghost use Rattle.desk.specs.State.{IsSameDesk};
-ghost use Rattle.desk.specs.Fetching.{AimsAt, AsksPart, GivesBack, GivesPart, MessageHasPart, InstallsHeldPages, IsAskedFor, TakesDigests, TakesPage, aimed_at, closing_reached};
-ghost use Rattle.desk.specs.Transferring.{MayBeSaid};
+ghost use Rattle.desk.specs.Fetching.{SetsTarget, AsksPart, PutsBack, SendsPart, MessageHasPart, InstallsHeldPages, IsAskedFor, TakesDigests, TakesPage, target_number, closing_reached};
+ghost use Rattle.desk.specs.Transferring.{MayBeSent};
 
 use crate::desk::Desk;
 use crate::open_transfer::{OpenTransfer, Taken};
 use authenticator::SealFault;
-use events::{Outputs, Stop, give};
-use posting::{meta_message, page_message, seal_for_one};
+use events::{Outputs, Stop, emit};
+use frame_endpoint::{meta_message, page_message, seal_for_one};
 use state_transfer::Place;
 use std::alloc::Global;
 use terms::{Level, NoMemory, Number, Party, ReplicaId};
@@ -21,7 +21,7 @@ use wire::{CheckpointEntry, Fetch, Message, Meta, Page};
 
 impl Desk {
     /// Sends the requested part to the asking replica alone, if the state is kept.
-    pub fn give_part(
+    pub fn send_part(
         &mut self,
         alloc: Global,
         asker: ReplicaId,
@@ -29,7 +29,7 @@ impl Desk {
         outputs: &mut Outputs,
     ) -> Result<(), Stop>
         requires { fetch.now.index ≤ last_index fetch.now.level }
-        ensures ok { OnOk result (GivesPart self.old asker fetch.now outputs.old.items outputs.new.items) }
+        ensures ok { OnOk result (SendsPart self.old asker fetch.now outputs.old.items outputs.new.items) }
         ensures same { self.new ≡ self.old }
     {
         let Some(message) = self.part_message(alloc, fetch)? else {
@@ -37,7 +37,7 @@ impl Desk {
         };
         let party = Party::Replica(asker);
         match seal_for_one(&mut *self.ring, alloc, self.me, message, party) {
-            Ok(output) => give(outputs, output),
+            Ok(output) => emit(outputs, output),
             Err(SealFault::NoMemory) => Err(Stop::NoMemory),
             // Each part of a state fits a frame.
             Err(SealFault::TooLarge) => unreachable!(),
@@ -75,8 +75,8 @@ impl Desk {
     }
 
     // A checkpoint's state is fetched only above this number: the fetched state's, or else the executed one's.
-    fn aimed_at(&self) -> Number
-        ensures { result.0 ≡ aimed_at self.now }
+    fn target_number(&self) -> Number
+        ensures { result.0 ≡ target_number self.now }
     {
         match &self.transfer {
             Some(open) => open.entry().number,
@@ -87,10 +87,10 @@ impl Desk {
     /// Opens a transfer to this checkpoint's state, or moves the open one to it, if it is above the executed state and
     /// the fetched one. Returns whether. NoMemory if memory runs out.
     pub fn set_target(&mut self, alloc: Global, entry: &CheckpointEntry) -> Result<bool, NoMemory>
-        ensures ok { IfOk result (AimsAt (checkpoint_entry_data entry.now) self.old self.new) }
+        ensures ok { IfOk result (SetsTarget (checkpoint_entry_data entry.now) self.old self.new) }
         ensures party { IsSameDesk self.old self.new }
     {
-        if entry.number.0 <= self.aimed_at().0 {
+        if entry.number.0 <= self.target_number().0 {
             return Ok(false);
         }
         match &mut self.transfer {
@@ -114,7 +114,7 @@ impl Desk {
 
     /// Takes the digests below a place if the transfer awaits them. Returns whether. Takes no memory.
     pub fn take_digests(&mut self, meta: &Meta) -> bool
-        requires { MayBeSaid meta.now }
+        requires { MayBeSent meta.now }
         ensures { TakesDigests self.old meta.now self.new result }
     {
         match &mut self.transfer {
@@ -171,11 +171,11 @@ impl Desk {
     }
 
     /// Forgets the page that was taken last, as if it had not arrived. Takes no memory.
-    pub fn give_back(&mut self, taken: Taken)
-        ensures { GivesBack self.old taken self.new }
+    pub fn put_back(&mut self, taken: Taken)
+        ensures { PutsBack self.old taken self.new }
     {
         if let Some(open) = &mut self.transfer {
-            open.give_back(taken);
+            open.put_back(taken);
         }
     }
 

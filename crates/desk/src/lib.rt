@@ -16,7 +16,7 @@
 //! `arrival_of` tells a new request from one that waits and from an older one (`IsArrival`). A client has one waiting
 //! request, the latest. `note_begun` and `note_numbered` say which of them have a number in the view.
 //!
-//! At most three states are kept, the newest first, and none below the low mark. `give_part` sends a part of one of
+//! At most three states are kept, the newest first, and none below the low mark. `send_part` sends a part of one of
 //! them to the replica that asks for it, and to no other. `set_target`, `take_digests`, `take_page` and `has_next_part`
 //! fetch a state that is ahead. `install` puts it in place of the executed one, only if its root is the wanted one and
 //! no client's timestamp falls (`Installs`).

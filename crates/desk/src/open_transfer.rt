@@ -5,7 +5,7 @@ ghost use Rattle.wire_format.specs.Views.{checkpoint_entry_data};
 ghost use Rattle.partition_tree.specs.Digests.{root_of};
 ghost use Rattle.state_transfer.specs.Places.{IsPlace};
 ghost use Rattle.execution.specs.Installing.{HasPagesAt, NoneFalls, NoneReplaces};
-ghost use Rattle.desk.specs.Transferring.{AsksPlace, IsRestedAt, MayBeSaid, TakesDigestsOf, TakesPageOf, is_given_back, moved, started};
+ghost use Rattle.desk.specs.Transferring.{AsksPlace, IsRestedAt, MayBeSent, TakesDigestsOf, TakesPageOf, is_put_back, moved, started};
 
 use execution::Executed;
 use state_transfer::{PartFault, Place, Replaced, Transfer};
@@ -87,7 +87,7 @@ impl OpenTransfer {
 
     /// Takes the digests below a place if the transfer awaits them. Returns whether. Takes no memory.
     pub(crate) fn take_digests(&mut self, meta: &Meta) -> bool
-        requires { MayBeSaid meta.now }
+        requires { MayBeSent meta.now }
         ensures { TakesDigestsOf self.old meta.now self.new result }
     {
         let Ok(digests) = <&[_; 32]>::try_from(meta.digests.as_slice()) else {
@@ -163,10 +163,10 @@ impl OpenTransfer {
     }
 
     /// Forgets the page that was taken last, as if it had not arrived. Takes no memory.
-    pub(crate) fn give_back(&mut self, taken: Taken)
-        ensures { is_given_back self.old taken self.new }
+    pub(crate) fn put_back(&mut self, taken: Taken)
+        ensures { is_put_back self.old taken self.new }
     {
-        self.transfer.give_back(taken.replaced);
+        self.transfer.put_back(taken.replaced);
         self.rests_at = taken.rests_at;
     }
 }

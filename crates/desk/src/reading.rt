@@ -7,7 +7,7 @@ ghost use Rattle.desk.specs.Reading.{AnswersBytes};
 use crate::desk::Desk;
 use bumpalo::Bump;
 use events::{Outputs, Stop};
-use read_only::{ReadFault, Shelf, answer, hear_read};
+use read_only::{ReadFault, Shelf, answer, authenticate_read};
 use std::alloc::Global;
 
 impl Desk {
@@ -24,7 +24,7 @@ impl Desk {
         ensures ok { OnOk result (AnswersBytes self.old bytes.now outputs.old.items outputs.new.items) }
         ensures same { self.new ≡ self.old }
     {
-        let Some(request) = hear_read(&mut *self.ring, self.me, bytes) else {
+        let Some(request) = authenticate_read(&mut *self.ring, self.me, bytes) else {
             return Ok(());
         };
         let executed = &*self.executed;

@@ -9,7 +9,7 @@ use Rattle.wire_format.specs.Spelling.{IsAuthenticator, SpellsFrame}
 use Rattle.wire_format.specs.Words.{frame_of, receivers_of}
 use Rattle.wire_format.proofs.Saying.{reads_frames, says_what_is_spelled}
 use Rattle.protocol.specs.System.Configuration.{Configuration, replicas}
-use Rattle.protocol.specs.System.Frames.{IsPosted}
+use Rattle.protocol.specs.System.Frames.{IsOutgoing}
 use Rattle.protocol.specs.System.Schedule.{meant_for}
 use Rattle.protocol.specs.Replica.RightReplica.{others}
 use Rattle.protocol.proofs.Words.Elements.{each_append}
@@ -63,23 +63,23 @@ others_are c me l = without me 0 me (replicas c - suc me) (replicas c) (omega ar
 -- ---- outgoing frames
 
 -- the frame that the bytes of an outgoing frame spell
-posted_frame : (c : Configuration) (me : ℕ) (message : Message) (parties bytes : List ℕ) → IsPosted c me message parties bytes
+outgoing_frame : (c : Configuration) (me : ℕ) (message : Message) (parties bytes : List ℕ) → IsOutgoing c me message parties bytes
     → (frame : Frame) × SpellsFrame bytes frame × (receivers_in c me bytes ≡ meant_for c me frame.authenticator) × (receivers_of frame.authenticator ≡ parties)
-posted_frame c me message parties bytes posted =
+outgoing_frame c me message parties bytes posted =
     let (frame, spells, same) = (says_what_is_spelled bytes (record { sender = me; message = message })).0 posted.says in
     let is = (reads_frames bytes frame).1 spells in
     (frame, spells, in_frame c me bytes frame is, (posted.is_sealed frame is).1)
 
 -- A frame with MACs for some parties is for these.
-pub sealed_is_for : (c : Configuration) (me : ℕ) (message : Message) (parties bytes : List ℕ) → 1 ≤ length parties → IsPosted c me message parties bytes → receivers_in c me bytes ≡ parties
+pub sealed_is_for : (c : Configuration) (me : ℕ) (message : Message) (parties bytes : List ℕ) → 1 ≤ length parties → IsOutgoing c me message parties bytes → receivers_in c me bytes ≡ parties
 sealed_is_for c me message parties bytes some posted =
-    let (frame, spells, is, so) = posted_frame c me message parties bytes posted in
+    let (frame, spells, is, so) = outgoing_frame c me message parties bytes posted in
     is ∙ named c me parties frame.authenticator some so
 
 -- A signed frame is for all other replicas.
-pub signed_is_for : (c : Configuration) (me : ℕ) (message : Message) (bytes : List ℕ) → me < replicas c → IsPosted c me message [] bytes → receivers_in c me bytes ≡ others c me
+pub signed_is_for : (c : Configuration) (me : ℕ) (message : Message) (bytes : List ℕ) → me < replicas c → IsOutgoing c me message [] bytes → receivers_in c me bytes ≡ others c me
 signed_is_for c me message bytes l posted =
-    let (frame, spells, is, none) = posted_frame c me message [] bytes posted in
+    let (frame, spells, is, none) = outgoing_frame c me message [] bytes posted in
     is ∙ unnamed c me frame.authenticator spells.valid.authenticator none ∙ sym (others_are c me l)
 
 -- ---- outputs

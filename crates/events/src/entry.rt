@@ -10,7 +10,7 @@ use std::sync::Arc;
 use terms::{ClientId, Digest, NoMemory, Number, Party, ReplicaId, Timestamp};
 use tuple_codec::{Answer, Op};
 
-/// What happened at a party. A history has many entries and keeps them all, so what is large lies in memory once and
+/// What happened at a party. A history has many entries and keeps them all, so large parts lie in memory once and
 /// is shared.
 #[derive(Drop)]
 pub enum EntryKind {

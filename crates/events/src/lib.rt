@@ -23,5 +23,5 @@ mod shared_bytes;
 
 pub use config::{BadConfig, Config};
 pub use entry::{Entry, EntryKind};
-pub use output::{Output, Outputs, Stop, give};
+pub use output::{Output, Outputs, Stop, emit};
 pub use shared_bytes::SharedBytes;

@@ -69,7 +69,7 @@ impl From<NoMemory> for Stop {
 }
 
 /// Appends an output.
-pub fn give(outputs: &mut Outputs, output: Output) -> Result<(), Stop>
+pub fn emit(outputs: &mut Outputs, output: Output) -> Result<(), Stop>
     ensures given { OnOk result (outputs.new.items ≡ outputs.old.items ++ output ∷ []) }
     ensures memory { IfErr result (λ stop. stop ≡ Stop.NoMemory) }
 {

@@ -8,10 +8,10 @@ use Rattle.terms.specs.declared.order.Mode.TheVariants as modes
 use Rattle.terms.specs.declared.state.Level.TheVariants as levels
 use Rattle.wire_format.specs.Messages.{BodyData as Body, CheckpointEntryData as CheckpointEntry, request as Request, reply as Reply, fetch as Fetch, meta as Meta, page as Page, view_change as ViewChange}
 use Rattle.protocol.specs.System.Configuration.{Configuration, members}
-use Rattle.signing.specs.Heard.{heard}
+use Rattle.signing.specs.AuthenticBody.{authentic}
 use Rattle.protocol.specs.System.Trace.{Entry}
 use Rattle.protocol.specs.System.Trace.Entry.{Got, Sent}
-use Rattle.protocol.specs.Replica.Certificates.{says_checkpoint, checkpoints_of, count_checkpoints, Prepared}
+use Rattle.protocol.specs.Replica.Certificates.{lists_checkpoint, checkpoints_of, count_checkpoints, Prepared}
 use Rattle.protocol.specs.Replica.Selection.{is_quorum}
 use Rattle.protocol.specs.Replica.State.{Call, opening, kept_of, last_time, kept_by, call_in, run_frame, run_call}
 use Rattle.protocol.specs.Replica.RightReplica.{waiting_after, with_waiting, reply_of, MaySend, IsStep}
@@ -65,14 +65,14 @@ module _ (o : Part) where
   last_is : last_time (after c batch) 0 ≡ 1
   last_is = ap (λ (k : Option Kept). option_map_or (λ (x : Kept). x.timestamp) k 0) kept_is
 
-  hears : heard (members c) me w.request ≡ Some (asks op)
-  hears = steps.hears_request o
+  receives : authentic (members c) me w.request ≡ Some (asks op)
+  receives = steps.hears_request o
 
   -- the request waits no more
   quiet : done c batch ≡ record (done c batch) { ran = []; waiting = waiting_after c me (done c batch) w.request }
   quiet =
       sym (ap (point_of (after c batch) [])
-      (ap (λ (body : Option Body). option_map_or (with_waiting (after c batch) []) (option_and_then (call_in c) body) []) hears
+      (ap (λ (body : Option Body). option_map_or (with_waiting (after c batch) []) (option_and_then (call_in c) body) []) receives
       ∙ ap (λ (call : Option Call). option_map_or (with_waiting (after c batch) []) call []) (steps.calls o)
       ∙ ap (λ (t : ℕ). cond (nat_lt t 1 && true) (the_call op ∷ []) []) last_is))
 
@@ -89,7 +89,7 @@ module _ (o : Part) where
     at_request : Stage o.clients o.seed batch me asked true p k
     at_request =
         stage_request o.clients o.seed batch me past (Got me w.request) 256 1 modes.Ordered op true p k st
-        (got o.clients o.seed batch me past w.request (asks op) st.plain hears tt)
+        (got o.clients o.seed batch me past w.request (asks op) st.plain receives tt)
 
     at_now : Stage o.clients o.seed batch me now true p k
     at_now =
@@ -101,8 +101,8 @@ module _ (o : Part) where
     abbrev IsOrdered : Body → Type 0
     IsOrdered body = elim body.message [ Request t mode o ↦ (body.sender ≡ 256) × (mode ≡ modes.Ordered) | _ ↦ ⊥ ]
 
-    is_ordered : (body : Body) → heard (members c) me w.request ≡ Some body → IsOrdered body
-    is_ordered body h = subst IsOrdered (some_injective (asks op) body (sym hears ∙ h)) (refl, refl)
+    is_ordered : (body : Body) → authentic (members c) me w.request ≡ Some body → IsOrdered body
+    is_ordered body h = subst IsOrdered (some_injective (asks op) body (sym receives ∙ h)) (refl, refl)
 
     -- ---- what the replica owes
 
@@ -115,12 +115,12 @@ module _ (o : Part) where
 
     no_quorum : (checkpoint : CheckpointEntry) → is_quorum c (count_checkpoints c now checkpoint) ≡ true → ⊥
     no_quorum checkpoint h =
-        let same : count_checkpoints c now checkpoint ≡ 0 = count_same (λ s. says_checkpoint checkpoint (checkpoints_of c now s)) (λ s. false) (λ s. ap (says_checkpoint checkpoint) (at_now.checkpoints_are s)) 4 in
+        let same : count_checkpoints c now checkpoint ≡ 0 = count_same (λ s. lists_checkpoint checkpoint (checkpoints_of c now s)) (λ s. false) (λ s. ap (lists_checkpoint checkpoint) (at_now.checkpoints_are s)) 4 in
         absurd (let worse : false ≡ true = subst (λ (n : ℕ). is_quorum c n ≡ true) same h in cc)
 
     -- the request counts, since its client's last reply is to it
     not_dropped : IsDropped c me past (done c batch) w.request → ⊥
-    not_dropped drops = drops (asks op) hears (0, refl, inl (the_kept, kept_is, refl))
+    not_dropped drops = drops (asks op) receives (0, refl, inl (the_kept, kept_is, refl))
 
     owes : Owes c me past (Got me w.request) outputs now (done c batch) (done c batch)
     owes = record {
@@ -158,7 +158,7 @@ module _ (o : Part) where
     may : MaySend c me asked (done c batch) (Sent me (w.reply me)) (w.reply me)
     may =
         steps.may_send o asked (done c batch) (w.reply me) (Reply 256 1 modes.Ordered 1 (first_answer op)) (256 ∷ []) (o.are_frames.replies me o.within) (λ rs is. is) tt
-        (inr (0, the_kept, kept_is, refl, (op, hears))) (λ here. here)
+        (inr (0, the_kept, kept_is, refl, (op, receives))) (λ here. here)
 
     sends : IsStep c me asked (done c batch) (Sent me (w.reply me)) (done c batch)
     sends = record { own = refl; may = may; moves = refl }

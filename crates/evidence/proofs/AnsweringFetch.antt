@@ -7,15 +7,15 @@ use Rattle.terms.specs.declared.order.Mode.TheVariants as modes
 use Rattle.terms.specs.declared.state.Level.{Level}
 use Rattle.terms.specs.declared.state.Level.TheVariants as levels
 use Rattle.wire_format.specs.Messages.{BodyData as Body, FrameData as Frame, AuthenticatorData as Authenticator, CheckpointEntryData as CheckpointEntry, macs, signature, request as Request, pre_prepare as PrePrepare, fetch as Fetch, meta as Meta, page as Page, view_change as ViewChange}
-use Rattle.signing.specs.Heard.{heard}
+use Rattle.signing.specs.AuthenticBody.{authentic}
 use Rattle.wire_format.specs.Words.{receivers_of, frame_of}
 use Rattle.protocol.specs.System.Trace.{Entry, Has}
 use Rattle.protocol.specs.System.Trace.Entry.{Got, Sent}
-use Rattle.protocol.specs.Replica.Certificates.{low, says_checkpoint, checkpoints_of, count_checkpoints}
+use Rattle.protocol.specs.Replica.Certificates.{low, lists_checkpoint, checkpoints_of, count_checkpoints}
 use Rattle.protocol.specs.Replica.Selection.{is_quorum}
 use Rattle.protocol.specs.Replica.State.{State, Call, opening, call_in}
 use Rattle.protocol.specs.Replica.RightReplica.{Point, first_point, with_waiting, waiting_after, Executes, IsAddressed, IsStep, MaySend, KeptState, kept_states, digests_at}
-use Rattle.protocol.specs.Replica.Owed.{Owes, IsReplica, GivesTo}
+use Rattle.protocol.specs.Replica.Owed.{Owes, IsReplica, SendsMessageTo}
 use Rattle.evidence.specs.Examples.{four}
 use Rattle.evidence.specs.ExamplesOfAnswers.{IsAnswer, FirstFetchIsAnswered}
 use Rattle.protocol.proofs.Words.Moving.{no_reason}
@@ -41,16 +41,16 @@ module _ (clients : ℕ) (seed : List ℕ) (me other : ℕ) (fetch digests : Lis
   abbrev now : List Entry
   now = Sent me digests ∷ Got me fetch ∷ []
 
-  module _ (hears : heard (members c) me fetch ≡ Some asked) (frame : Frame) (spells : frame_of digests ≡ Some frame) (a : IsAnswer c me other answer.message digests) where
+  module _ (receives : authentic (members c) me fetch ≡ Some asked) (frame : Frame) (spells : frame_of digests ≡ Some frame) (a : IsAnswer c me other answer.message digests) where
     behind : Stage clients seed [] me (Got me fetch ∷ []) false none none
-    behind = stage_fetch clients seed [] me [] (Got me fetch) other 0 0 levels.Root false none none (first_stage clients seed [] me) (got clients seed [] me [] fetch asked tt hears tt)
+    behind = stage_fetch clients seed [] me [] (Got me fetch) other 0 0 levels.Root false none none (first_stage clients seed [] me) (got clients seed [] me [] fetch asked tt receives tt)
 
     stage : Stage clients seed [] me now false none none
     stage = stage_meta clients seed [] me (Got me fetch ∷ []) (Sent me digests) me 0 0 levels.Root (digests_at opening levels.Root 0) false none none behind (sent clients seed [] me (Got me fetch ∷ []) digests answer a.says tt)
 
     no_quorum : (checkpoint : CheckpointEntry) → is_quorum c (count_checkpoints c now checkpoint) ≡ true → ⊥
     no_quorum checkpoint h =
-        let same : count_checkpoints c now checkpoint ≡ 0 = count_same (λ s. says_checkpoint checkpoint (checkpoints_of c now s)) (λ s. false) (λ s. ap (says_checkpoint checkpoint) (stage.checkpoints_are s)) 4 in
+        let same : count_checkpoints c now checkpoint ≡ 0 = count_same (λ s. lists_checkpoint checkpoint (checkpoints_of c now s)) (λ s. false) (λ s. ap (lists_checkpoint checkpoint) (stage.checkpoints_are s)) 4 in
         absurd (let worse : false ≡ true = subst (λ (n : ℕ). is_quorum c n ≡ true) same h in cc)
 
     -- the message that the replica receives is this fetch
@@ -60,8 +60,8 @@ module _ (clients : ℕ) (seed : List ℕ) (me other : ℕ) (fetch digests : Lis
     abbrev IsFetch : Body → Type 0
     IsFetch body = elim body.message [ Fetch k level index ↦ (body.sender ≡ other) × (k ≡ 0) × (level ≡ levels.Root) × (index ≡ 0) | _ ↦ ⊥ ]
 
-    only_fetch : (body : Body) → heard (members c) me fetch ≡ Some body → IsFetch body
-    only_fetch body h = subst IsFetch (some_injective asked body (sym hears ∙ h)) (refl, refl, refl, refl)
+    only_fetch : (body : Body) → authentic (members c) me fetch ≡ Some body → IsFetch body
+    only_fetch body h = subst IsFetch (some_injective asked body (sym receives ∙ h)) (refl, refl, refl, refl)
 
     same_bytes : (bytes : List ℕ) → Got me fetch ≡ Got me bytes → fetch ≡ bytes
     same_bytes bytes h = cc
@@ -81,13 +81,13 @@ module _ (clients : ℕ) (seed : List ℕ) (me other : ℕ) (fetch digests : Lis
         go (inr x) = absurd x
 
     gives : (s k index : ℕ) (level : Level) (st : State) → (s ≡ other) × (k ≡ 0) × (level ≡ levels.Root) × (index ≡ 0) → opening ≡ st
-        → GivesTo me s (Meta k level index (digests_at st level index)) (Sent me digests ∷ [])
+        → SendsMessageTo me s (Meta k level index (digests_at st level index)) (Sent me digests ∷ [])
     gives s k index level st is same =
-        subst (λ (x : State). GivesTo me s (Meta k level index (digests_at x level index)) (Sent me digests ∷ [])) same
-        (subst (λ (x : ℕ). GivesTo me x (Meta k level index (digests_at opening level index)) (Sent me digests ∷ [])) (sym is.0)
-        (subst (λ (x : ℕ). GivesTo me other (Meta x level index (digests_at opening level index)) (Sent me digests ∷ [])) (sym is.1)
-        (subst (λ (x : Level). GivesTo me other (Meta 0 x index (digests_at opening x index)) (Sent me digests ∷ [])) (sym is.2)
-        (subst (λ (x : ℕ). GivesTo me other (Meta 0 levels.Root x (digests_at opening levels.Root x)) (Sent me digests ∷ [])) (sym is.3)
+        subst (λ (x : State). SendsMessageTo me s (Meta k level index (digests_at x level index)) (Sent me digests ∷ [])) same
+        (subst (λ (x : ℕ). SendsMessageTo me x (Meta k level index (digests_at opening level index)) (Sent me digests ∷ [])) (sym is.0)
+        (subst (λ (x : ℕ). SendsMessageTo me other (Meta x level index (digests_at opening level index)) (Sent me digests ∷ [])) (sym is.1)
+        (subst (λ (x : Level). SendsMessageTo me other (Meta 0 x index (digests_at opening x index)) (Sent me digests ∷ [])) (sym is.2)
+        (subst (λ (x : ℕ). SendsMessageTo me other (Meta 0 levels.Root x (digests_at opening levels.Root x)) (Sent me digests ∷ [])) (sym is.3)
         (inl (a.says, ap (λ (o : Option Frame). option_map_or (λ (f : Frame). receivers_of f.authenticator) o []) spells ∙ (a.is_sealed frame spells).1))))))
 
     root_page : levels.Page ≡ levels.Root → ⊥
@@ -114,16 +114,16 @@ module _ (clients : ℕ) (seed : List ℕ) (me other : ℕ) (fetch digests : Lis
       fetches_again = λ n index level tick asked_for above. absurd tick;
       view_changes = λ vc bytes moves may within says. absurd (no_reason c me [] fetch [] vc.view (λ s x asks. only_fetch (record { sender = s; message = ViewChange x }) asks) moves);
       new_views = λ new can. absurd (let left = can.left in let sent = (still c me now stage.plain).target_is in omega (arith, left, sent));
-      dropped = λ bytes same drops. absurd (drops asked (subst (λ (bs : List ℕ). heard (members c) me bs ≡ Some asked) (same_bytes bytes same) hears) (kept_at [] (low_at_first c me) (λ st. Rattle.std.specs.Prelude.⊤) tt));
+      dropped = λ bytes same drops. absurd (drops asked (subst (λ (bs : List ℕ). authentic (members c) me bs ≡ Some asked) (same_bytes bytes same) receives) (kept_at [] (low_at_first c me) (λ st. Rattle.std.specs.Prelude.⊤) tt));
     }
 
     quiet : first_point ≡ record first_point { ran = []; waiting = waiting_after c me first_point fetch }
     quiet =
         ap (λ (calls : List Call). let p : Point = record first_point { waiting = calls } in p)
-        (sym (ap (λ (o : Option Body). option_map_or (with_waiting opening []) (option_and_then (call_in c) o) []) hears))
+        (sym (ap (λ (o : Option Body). option_map_or (with_waiting opening []) (option_and_then (call_in c) o) []) receives))
 
     addressed : (authenticator : Authenticator) → receivers_of authenticator ≡ other ∷ [] → IsAddressed c me (Got me fetch ∷ []) answer.message authenticator
-    addressed (macs entries) h = (other, h, inl hears)
+    addressed (macs entries) h = (other, h, inl receives)
     addressed (signature s) h = tt
 
     may : MaySend c me (Got me fetch ∷ []) first_point (Sent me digests) digests
@@ -132,7 +132,7 @@ module _ (clients : ℕ) (seed : List ℕ) (me other : ℕ) (fetch digests : Lis
       says = a.says;
       own = refl;
       seen = tt;
-      say = (kept_at (Got me fetch ∷ []) (still c me (Got me fetch ∷ []) behind.plain).low_is (λ st. digests_at opening levels.Root 0 ≡ digests_at st levels.Root 0) refl, (other, inl hears));
+      allowed = (kept_at (Got me fetch ∷ []) (still c me (Got me fetch ∷ []) behind.plain).low_is (λ st. digests_at opening levels.Root 0 ≡ digests_at st levels.Root 0) refl, (other, inl receives));
       is_sealed = λ f is. let s = a.is_sealed f is in (s.0, addressed f.authenticator s.1);
       leaf = unsigned_have_no_leaf (Got me fetch ∷ []) digests (answer) (a.says) refl;
       once = λ here. here;
@@ -146,4 +146,4 @@ module _ (clients : ℕ) (seed : List ℕ) (me other : ℕ) (fetch digests : Lis
         inl (first_point, (first_point, sends, (first_point, record { own = refl; may = tt; moves = quiet }, (owes, (refl, refl)))))
 
 pub first_fetch_is_answered : FirstFetchIsAnswered
-first_fetch_is_answered clients seed me other fetch digests frame hears spells a = is_right clients seed me other fetch digests hears frame spells a
+first_fetch_is_answered clients seed me other fetch digests frame receives spells a = is_right clients seed me other fetch digests receives frame spells a

@@ -8,11 +8,11 @@ use Rattle.protocol.specs.System.Configuration.{Configuration, members}
 use Rattle.terms.specs.declared.order.Mode.TheVariants as modes
 use Rattle.terms.specs.declared.state.Level.TheVariants as levels
 use Rattle.wire_format.specs.Messages.{BodyData as Body, MessageData as Message, AuthenticatorData as Authenticator, CheckpointEntryData as CheckpointEntry, macs, signature, request as Request, pre_prepare as PrePrepare, reply as Reply, fetch as Fetch, meta as Meta, page as Page, view_change as ViewChange}
-use Rattle.signing.specs.Heard.{heard}
+use Rattle.signing.specs.AuthenticBody.{authentic}
 use Rattle.wire_format.specs.Words.{receivers_of}
 use Rattle.protocol.specs.System.Trace.{Entry, Has}
 use Rattle.protocol.specs.System.Trace.Entry.{Got, Sent}
-use Rattle.protocol.specs.Replica.Certificates.{says_checkpoint, checkpoints_of, count_checkpoints}
+use Rattle.protocol.specs.Replica.Certificates.{lists_checkpoint, checkpoints_of, count_checkpoints}
 use Rattle.protocol.specs.Replica.Selection.{is_quorum}
 use Rattle.protocol.specs.Replica.State.{Call, opening, call_in}
 use Rattle.protocol.specs.Replica.RightReplica.{Point, first_point, with_waiting, waiting_after, Executes, IsAddressed, IsStep, MaySend}
@@ -41,26 +41,26 @@ module _ (clients : ℕ) (seed : List ℕ) (me client timestamp : ℕ) (op : Ope
   abbrev now : List Entry
   now = Sent me reply ∷ Got me read ∷ []
 
-  module _ (hears : heard (members c) me read ≡ Some asked) (is : is_read_only op ≡ true) (a : IsAnswer c me client answer.message reply) where
+  module _ (receives : authentic (members c) me read ≡ Some asked) (is : is_read_only op ≡ true) (a : IsAnswer c me client answer.message reply) where
     behind : Stage clients seed [] me (Got me read ∷ []) false none none
-    behind = stage_request clients seed [] me [] (Got me read) client timestamp modes.ReadOnly op false none none (first_stage clients seed [] me) (got clients seed [] me [] read asked tt hears tt)
+    behind = stage_request clients seed [] me [] (Got me read) client timestamp modes.ReadOnly op false none none (first_stage clients seed [] me) (got clients seed [] me [] read asked tt receives tt)
 
     stage : Stage clients seed [] me now false none none
     stage = stage_reply clients seed [] me (Got me read ∷ []) (Sent me reply) me client timestamp 0 modes.ReadOnly (outcome no_tuples (client - 256) op) false none none behind (sent clients seed [] me (Got me read ∷ []) reply answer a.says tt)
 
-    heard_is : (other : Body) → heard (members c) me read ≡ Some other → asked ≡ other
-    heard_is other h = some_injective asked other (sym hears ∙ h)
+    heard_is : (other : Body) → authentic (members c) me read ≡ Some other → asked ≡ other
+    heard_is other h = some_injective asked other (sym receives ∙ h)
 
     no_quorum : (checkpoint : CheckpointEntry) → is_quorum c (count_checkpoints c now checkpoint) ≡ true → ⊥
     no_quorum checkpoint h =
-        let same : count_checkpoints c now checkpoint ≡ 0 = count_same (λ s. says_checkpoint checkpoint (checkpoints_of c now s)) (λ s. false) (λ s. ap (says_checkpoint checkpoint) (stage.checkpoints_are s)) 4 in
+        let same : count_checkpoints c now checkpoint ≡ 0 = count_same (λ s. lists_checkpoint checkpoint (checkpoints_of c now s)) (λ s. false) (λ s. ap (lists_checkpoint checkpoint) (stage.checkpoints_are s)) 4 in
         absurd (let worse : false ≡ true = subst (λ (n : ℕ). is_quorum c n ≡ true) same h in cc)
 
     -- the message that the replica receives is a read
     abbrev IsRead : Body → Type 0
     IsRead body = elim body.message [ Request t mode o ↦ mode ≡ modes.ReadOnly | _ ↦ ⊥ ]
 
-    only_read : (other : Body) → heard (members c) me read ≡ Some other → IsRead other
+    only_read : (other : Body) → authentic (members c) me read ≡ Some other → IsRead other
     only_read other h = subst IsRead (heard_is other h) refl
 
     same_bytes : (bytes : List ℕ) → Got me read ≡ Got me bytes → read ≡ bytes
@@ -95,13 +95,13 @@ module _ (clients : ℕ) (seed : List ℕ) (me client timestamp : ℕ) (op : Ope
       fetches_again = λ n index level tick asked_for above. absurd tick;
       view_changes = λ vc bytes moves may within says. absurd (no_reason c me [] read [] vc.view (λ s x asks. only_read (record { sender = s; message = ViewChange x }) asks) moves);
       new_views = λ new can. absurd (let left = can.left in let sent = (still c me now stage.plain).target_is in omega (arith, left, sent));
-      dropped = λ bytes same drops. absurd (drops asked (subst (λ (bs : List ℕ). heard (members c) me bs ≡ Some asked) (same_bytes bytes same) hears) is);
+      dropped = λ bytes same drops. absurd (drops asked (subst (λ (bs : List ℕ). authentic (members c) me bs ≡ Some asked) (same_bytes bytes same) receives) is);
     }
 
     quiet : first_point ≡ record first_point { ran = []; waiting = waiting_after c me first_point read }
     quiet =
         ap (λ (calls : List Call). let p : Point = record first_point { waiting = calls } in p)
-        (sym (ap (λ (o : Option Body). option_map_or (with_waiting opening []) (option_and_then (call_in c) o) []) hears))
+        (sym (ap (λ (o : Option Body). option_map_or (with_waiting opening []) (option_and_then (call_in c) o) []) receives))
 
     addressed : (authenticator : Authenticator) → receivers_of authenticator ≡ client ∷ [] → IsAddressed c me (Got me read ∷ []) answer.message authenticator
     addressed (macs entries) h = h
@@ -113,7 +113,7 @@ module _ (clients : ℕ) (seed : List ℕ) (me client timestamp : ℕ) (op : Ope
       says = a.says;
       own = refl;
       seen = tt;
-      say = record { op = op; is_read = is; heard = inl hears; answer_is = refl; number_is = refl };
+      allowed = record { op = op; is_read = is; authentic = inl receives; answer_is = refl; number_is = refl };
       is_sealed = λ frame spells. let s = a.is_sealed frame spells in (s.0, addressed frame.authenticator s.1);
       leaf = unsigned_have_no_leaf (Got me read ∷ []) reply (answer) (a.says) refl;
       once = λ here. here;
@@ -127,4 +127,4 @@ module _ (clients : ℕ) (seed : List ℕ) (me client timestamp : ℕ) (op : Ope
         inl (first_point, (first_point, sends, (first_point, record { own = refl; may = tt; moves = quiet }, (owes, (refl, refl)))))
 
 pub first_read_is_answered : FirstReadIsAnswered
-first_read_is_answered clients seed me client timestamp op read reply hears is a = is_right clients seed me client timestamp op read reply hears is a
+first_read_is_answered clients seed me client timestamp op read reply receives is a = is_right clients seed me client timestamp op read reply receives is a

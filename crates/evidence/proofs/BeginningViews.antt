@@ -7,7 +7,7 @@ use Rattle.quorum.specs.Votes.{or_else}
 use Rattle.wire_format.specs.Messages.{BodyData as Body, NewViewData, CheckpointEntryData as CheckpointEntry, pre_prepare as PrePrepare, new_view as NewView}
 use Rattle.wire_format.specs.Words.{said}
 use Rattle.wire.proofs.Skipping.{none_chosen}
-use Rattle.signing.specs.Heard.{signed_body}
+use Rattle.signing.specs.AuthenticBody.{signed_body}
 use Rattle.protocol.specs.System.Configuration.{Configuration, members}
 use Rattle.protocol.specs.System.Frames.{leaf_of}
 use Rattle.protocol.specs.System.Trace.{Entry, Has}
@@ -133,7 +133,7 @@ module _ (clients : ℕ) (seed root first second own new_view : List ℕ) (x : C
     due : Due c 1 h1 second (Sent 1 own ∷ e ∷ []) now
     due = record {
       body = joining.changing clients seed 1 2 3 first second own 3;
-      hears = joining.hears clients seed 1 2 3 first second own apart first_other second_other x y z 3 second second_other y;
+      receives = joining.receives clients seed 1 2 3 first second own apart first_other second_other x y z 3 second second_other y;
       of_change = tt;
       checkpoints_are = λ s. same_checkpoints c h3 e begins says tt s ∙ joining.checks3 clients seed 1 2 3 first second own apart first_other second_other x y z s;
       low_is = low_is;
@@ -145,7 +145,7 @@ module _ (clients : ℕ) (seed root first second own new_view : List ℕ) (x : C
       no_view = λ other can.
           omega (arith, can.left, view_is, same_target, target_now clients seed first second own x y z);
       dropped = λ drops. absurd (drops (joining.changing clients seed 1 2 3 first second own 3)
-          (joining.hears clients seed 1 2 3 first second own apart first_other second_other x y z 3 second second_other y)
+          (joining.receives clients seed 1 2 3 first second own apart first_other second_other x y z 3 second second_other y)
           (joining.counts clients seed 1 2 3 first second own apart first_other second_other x y z));
     }
 
@@ -170,7 +170,7 @@ module _ (clients : ℕ) (seed root first second own new_view : List ℕ) (x : C
       says = says;
       own = refl;
       seen = (inl (inl refl), (inr (inr (inl (inl refl))), (inr (inl (inl refl)), tt)));
-      say = (refl, inl takes);
+      allowed = (refl, inl takes);
       is_sealed = λ frame is. joining.signed_is_sealed c 1 h3 new_view begins frame signed is;
       leaf = λ leaf sent is was before. absurd (keys (ap leaf_of (own_alone sent before) ∙ was ∙ sym is));
       once = unsent;

@@ -9,7 +9,7 @@ use Rattle.wire_format.specs.Messages.{BodyData as Body, MessageData as Message,
 use Rattle.protocol.specs.System.Trace.{Entry, party_of, history_of, Once, SendsBody}
 use Rattle.protocol.specs.System.Trace.Entry.{Invoke, Got, Sent}
 use Rattle.protocol.specs.Replica.Certificates.{view, target, is_later, is_active_in, new_view_in, new_view_from, taken, checkpoint_from, low, is_in_marks, are_genuine, batch_from, batch_begun, proposal, entry_proposal, logged, commit_from, vote_in, commit_of}
-use Rattle.protocol.specs.Replica.RightReplica.{Point, MaySay, MaySend, May}
+use Rattle.protocol.specs.Replica.RightReplica.{Point, MaySendMessage, MaySend, May}
 use Rattle.protocol.specs.Laws.Histories.{TakesOrSendsNewView}
 use Rattle.evidence.specs.Certified.{EntryBringsBody, ExecutesWithOwnCommit, ExecutesNotByOthersAlone, ExecutesWhatItCommits, TakesLater, TakesInOrder, LogsInMarks, LogsWhatBegins}
 use Rattle.protocol.proofs.Words.Temporal.{once_weaker, once_stays_from, once_in_trace}
@@ -87,13 +87,13 @@ proposal_other c me v i batch sender _ h = absurd cc
 
 -- the number that a right replica proposes a batch for is in the marks
 proposed_in_marks : (c : Configuration) (me v i : ℕ) (batch : List ℕ) (past : List Entry) (point : Point) (e : Entry) (bytes : List ℕ) (sender : ℕ) (message : Message)
-    → MaySay c me past point e bytes message → batch_from c me v i (record { sender = sender; message = message }) ≡ Some batch → is_in_marks c (low c me past) i ≡ true
-proposed_in_marks c me v i batch past point e bytes sender (PrePrepare w number b) say h =
+    → MaySendMessage c me past point e bytes message → batch_from c me v i (record { sender = sender; message = message }) ≡ Some batch → is_in_marks c (low c me past) i ≡ true
+proposed_in_marks c me v i batch past point e bytes sender (PrePrepare w number b) allowed h =
     let g = then_some_gives ((w == v) && (number == i) && (sender == primary c v) && are_genuine c me b) b batch h in
     let p = and_parts ((w == v) && (number == i) && (sender == primary c v)) (are_genuine c me b) g.0 in
     let q = and_parts ((w == v) && (number == i)) (sender == primary c v) p.0 in
-    subst (λ (n : ℕ). is_in_marks c (low c me past) n ≡ true) (eqb-true number i (and_parts (w == v) (number == i) q.0).1) say.in_marks
-proposed_in_marks c me v i batch past point e bytes sender _ say h = absurd cc
+    subst (λ (n : ℕ). is_in_marks c (low c me past) n ≡ true) (eqb-true number i (and_parts (w == v) (number == i) q.0).1) allowed.in_marks
+proposed_in_marks c me v i batch past point e bytes sender _ allowed h = absurd cc
 
 -- if an entry logs a pre-prepare, the pre-prepare's number is in the marks
 entry_in_marks : (c : Configuration) (me v i : ℕ) (batch : List ℕ) (e : Entry) (past : List Entry) (point : Point) → May c me past point e → entry_proposal c me past e v i ≡ Some batch
@@ -108,8 +108,8 @@ entry_in_marks c me v i batch (Sent p bytes) past point may h =
     let other = proposal_other c me v i batch t.1.0.sender t.1.0.message t.1.2 in
     let same = low_same c me past (Sent p bytes) (ap (option_and_then checkpoint_from) t.1.1 ∙ other.0) refl (ap (option_and_then (new_view_from c)) t.1.1 ∙ other.1) in
     let m : MaySend c me past point (Sent p bytes) bytes = may in
-    let say : MaySay c me past point (Sent p bytes) bytes t.1.0.message = subst (λ (x : Body). MaySay c me past point (Sent p bytes) bytes x.message) (some_injective m.body t.1.0 (sym m.says ∙ t.1.1)) m.say in
-    subst (λ (h : ℕ). is_in_marks c h i ≡ true) (sym same) (proposed_in_marks c me v i batch past point (Sent p bytes) bytes t.1.0.sender t.1.0.message say t.1.2)
+    let allowed : MaySendMessage c me past point (Sent p bytes) bytes t.1.0.message = subst (λ (x : Body). MaySendMessage c me past point (Sent p bytes) bytes x.message) (some_injective m.body t.1.0 (sym m.says ∙ t.1.1)) m.allowed in
+    subst (λ (h : ℕ). is_in_marks c h i ≡ true) (sym same) (proposed_in_marks c me v i batch past point (Sent p bytes) bytes t.1.0.sender t.1.0.message allowed t.1.2)
 entry_in_marks c me v i batch (Invoke x y z) past point may h = absurd cc
 entry_in_marks c me v i batch _ past point may h = absurd cc
 

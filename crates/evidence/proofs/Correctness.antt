@@ -3,7 +3,7 @@ use Rattle.std.proofs.Common.{◌≡◌, true, subst}
 use Rattle.std.specs.Prelude.{All}
 use Rattle.wire_format.specs.Messages.{FrameData as Frame, AuthenticatorData as Authenticator, macs, signature}
 use Rattle.authenticator.specs.Authentic.{mac_of}
-use Rattle.signing.specs.Heard.{has_signature}
+use Rattle.signing.specs.AuthenticBody.{has_signature}
 use Rattle.protocol.specs.System.Configuration.{Configuration}
 use Rattle.evidence.specs.Correct.{ClientsHaveOwn, SealsRequests, AsksItsCall, ReplicasAreSafe, ClientsAreSafe}
 use Rattle.protocol.proofs.Words.Reacting.{is_replica_right, is_client_right, asks_its_call as call_asked}

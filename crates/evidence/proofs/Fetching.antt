@@ -11,8 +11,8 @@ use Rattle.protocol.specs.System.Configuration.{Configuration, is_correct_client
 use Rattle.terms.specs.declared.state.Level.{Level}
 use Rattle.terms.specs.declared.state.Level.TheVariants as levels
 use Rattle.wire_format.specs.Messages.{BodyData as Body, CheckpointEntryData as CheckpointEntry, checkpoint as Checkpoint, fetch as Fetch, meta as Meta, page as Page}
-use Rattle.signing.specs.Heard.{heard}
-use Rattle.protocol.specs.System.Trace.{Entry, party_of, history_of, Once, Always, Hears}
+use Rattle.signing.specs.AuthenticBody.{authentic}
+use Rattle.protocol.specs.System.Trace.{Entry, party_of, history_of, Once, Always, Receives}
 use Rattle.protocol.specs.System.Trace.Entry.{Got, Sent}
 use Rattle.protocol.specs.Replica.State.{opening, all_pages, page_text}
 use Rattle.protocol.specs.Replica.Transfers.{fetching, took, in_place, DiffersFirst}
@@ -126,14 +126,14 @@ module _ (clients : ℕ) (seed : List ℕ) (page : ℕ → List ℕ) (w : FetchF
     pub stage : At past (Some (16, (levels.Page, n))) 16
     pub proceeds : HistoryIsPrompt c 0 past [] first_point first_point
     pub quorum : HadQuorum c checkpoint past
-    pub root_got : Once (Hears c 0 root_given) past
-    pub inner_got : Once (Hears c 0 (inner_given (n / 32))) past
+    pub root_got : Once (Receives c 0 root_given) past
+    pub inner_got : Once (Receives c 0 (inner_given (n / 32))) past
     pub taken : (next : Option ℕ) (i : ℕ) → took c 0 next past i ≡ then_some (nat_lt i n) (page i)
 
   -- The facts before the replica receives a part that counts.
   pub record Ready (n : ℕ) (before : List Entry) (bytes : List ℕ) : Type 0 where
     pub body : Body
-    pub hears : heard (members c) 0 bytes ≡ Some body
+    pub receives : authentic (members c) 0 bytes ≡ Some body
     pub given : IsGiven body.message
     pub of_16 : (m : ℕ) → IsPartOf m body.message → 16 ≡ m
     pub counts : Counts c 0 before first_point bytes body.sender body.message
@@ -142,7 +142,7 @@ module _ (clients : ℕ) (seed : List ℕ) (page : ℕ → List ℕ) (w : FetchF
     pub is_fetching : fetching before ≡ 16
     pub proceeds : HistoryIsPrompt c 0 before [] first_point first_point
     pub quorum : HadQuorum c checkpoint before
-    pub root_got : Once (Hears c 0 root_given) (Got 0 bytes ∷ before)
+    pub root_got : Once (Receives c 0 root_given) (Got 0 bytes ∷ before)
     pub taken : (i : ℕ) → took c 0 (Some 16) (Got 0 bytes ∷ before) i ≡ then_some (nat_lt i n) (page i)
 
   -- ---- the pages in place
@@ -153,7 +153,7 @@ module _ (clients : ℕ) (seed : List ℕ) (page : ℕ → List ℕ) (w : FetchF
       ∙ either_text (nat_lt i n) (page i) (page_text opening i)
 
   -- the inner part of the page n is the first that differs
-  abbrev part_differs : (n : ℕ) (past : List Entry) → n < 1024 → AreDifferentPages page n → ((i : ℕ) → took c 0 (Some 16) past i ≡ then_some (nat_lt i n) (page i)) → Once (Hears c 0 root_given) past
+  abbrev part_differs : (n : ℕ) (past : List Entry) → n < 1024 → AreDifferentPages page n → ((i : ℕ) → took c 0 (Some 16) past i ≡ then_some (nat_lt i n) (page i)) → Once (Receives c 0 root_given) past
       → DiffersFirst c 0 past (in_place c 0 16 past opening) root (n / 32)
   part_differs n past small differ taken got = record {
     digests = inner_digests (all_pages page);
@@ -182,7 +182,7 @@ module _ (clients : ℕ) (seed : List ℕ) (page : ℕ → List ℕ) (w : FetchF
     next = inl (tt, part_differs n (Got 0 bytes ∷ before) small differ r.taken r.root_got);
   }
 
-  fetches_page : (n : ℕ) (before : List Entry) (bytes : List ℕ) → n < 1024 → AreDifferentPages page n → Ready n before bytes → Once (Hears c 0 (inner_given (n / 32))) (Got 0 bytes ∷ before)
+  fetches_page : (n : ℕ) (before : List Entry) (bytes : List ℕ) → n < 1024 → AreDifferentPages page n → Ready n before bytes → Once (Receives c 0 (inner_given (n / 32))) (Got 0 bytes ∷ before)
       → MayFetch c 0 (Got 0 bytes ∷ before) first_point 16 levels.Page n
   fetches_page n before bytes small differ r got = record {
     root = root;
@@ -212,11 +212,11 @@ module _ (clients : ℕ) (seed : List ℕ) (page : ℕ → List ℕ) (w : FetchF
 
   -- ---- from one part to the next
 
-  asks_page : (n : ℕ) (before : List Entry) (bytes : List ℕ) → n < 1024 → AreDifferentPages page n → Ready n before bytes → Once (Hears c 0 (inner_given (n / 32))) (Got 0 bytes ∷ before)
+  asks_page : (n : ℕ) (before : List Entry) (bytes : List ℕ) → n < 1024 → AreDifferentPages page n → Ready n before bytes → Once (Receives c 0 (inner_given (n / 32))) (Got 0 bytes ∷ before)
       → Asks n (Sent 0 (w.fetch_page n) ∷ Got 0 bytes ∷ before)
   asks_page n before bytes small differ r got = record {
     stage = stage;
-    proceeds = goes_on clients seed root before bytes (w.fetch_page n) r.body n levels.Page p3 r.hears r.given r.of_16 (f.asks_page n small) stage (fetches_page n before bytes small differ r got) (inl r.is_fetching) r.counts r.proceeds;
+    proceeds = goes_on clients seed root before bytes (w.fetch_page n) r.body n levels.Page p3 r.receives r.given r.of_16 (f.asks_page n small) stage (fetches_page n before bytes small differ r got) (inl r.is_fetching) r.counts r.proceeds;
     quorum = inr (inr r.quorum);
     root_got = inr r.root_got;
     inner_got = inr got;
@@ -229,18 +229,18 @@ module _ (clients : ℕ) (seed : List ℕ) (page : ℕ → List ℕ) (w : FetchF
   ready_inner : (n : ℕ) (before : List Entry) (bytes : List ℕ) → n < 1024 → AreDifferentPages page n → Ready n before bytes → Ready n (Sent 0 (w.fetch_inner (n / 32)) ∷ Got 0 bytes ∷ before) (w.below_inner (n / 32))
   ready_inner n before bytes small differ r = record {
     body = inner_given (n / 32);
-    hears = hears;
+    receives = receives;
     given = tt;
     of_16 = λ m part. part;
     counts = (stage.asked_is, omega arith, (root, inner_digests (all_pages page), inl (inr (inr r.quorum)), (refl, (1, 16, inr r.root_got)), inner_at (all_pages page) (n / 32) low));
     asked = Some (16, (levels.Inner, n / 32));
-    stage = stage_meta clients seed root past (w.below_inner (n / 32)) 1 16 (n / 32) levels.Inner (page_digests (all_pages page) (n / 32)) p3 (Some (16, (levels.Inner, n / 32))) 16 stage refl hears;
+    stage = stage_meta clients seed root past (w.below_inner (n / 32)) 1 16 (n / 32) levels.Inner (page_digests (all_pages page) (n / 32)) p3 (Some (16, (levels.Inner, n / 32))) 16 stage refl receives;
     is_fetching = stage.fetching_is;
-    proceeds = goes_on clients seed root before bytes (w.fetch_inner (n / 32)) r.body (n / 32) levels.Inner p3 r.hears r.given r.of_16 asks stage (fetches_inner n before bytes small differ r) (inl r.is_fetching) r.counts r.proceeds;
+    proceeds = goes_on clients seed root before bytes (w.fetch_inner (n / 32)) r.body (n / 32) levels.Inner p3 r.receives r.given r.of_16 asks stage (fetches_inner n before bytes small differ r) (inl r.is_fetching) r.counts r.proceeds;
     quorum = inr (inr r.quorum);
     root_got = inr (inr r.root_got);
     taken = λ i.
-        others_take_none c 0 16 i past (w.below_inner (n / 32)) (inner_given (n / 32)) hears tt
+        others_take_none c 0 16 i past (w.below_inner (n / 32)) (inner_given (n / 32)) receives tt
         ∙ Taken.fetches_tell c 0 16 (n / 32) i levels.Inner None (Got 0 bytes ∷ before) (w.fetch_inner (n / 32)) asks.says
         ∙ r.taken i;
   }
@@ -254,30 +254,30 @@ module _ (clients : ℕ) (seed : List ℕ) (page : ℕ → List ℕ) (w : FetchF
       asks : IsFrameFrom c 0 (Fetch 16 levels.Inner (n / 32)) (others c 0) (w.fetch_inner (n / 32))
       asks = f.asks_inner (n / 32) low
 
-      hears : heard (members c) 0 (w.below_inner (n / 32)) ≡ Some (inner_given (n / 32))
-      hears = (f.gives_inner (n / 32) low).is_heard 0 (inl refl)
+      receives : authentic (members c) 0 (w.below_inner (n / 32)) ≡ Some (inner_given (n / 32))
+      receives = (f.gives_inner (n / 32) low).is_authentic_to 0 (inl refl)
 
       stage : At past (Some (16, (levels.Inner, n / 32))) 16
       stage = stage_fetch clients seed root (Got 0 bytes ∷ before) (w.fetch_inner (n / 32)) (n / 32) levels.Inner p3 r.asked 16 r.stage refl (omega arith) asks.says
 
   -- the fetch of a page, with that of its inner part before it if it is its first
-  asks : (n : ℕ) (before : List Entry) (bytes : List ℕ) → n < 1024 → AreDifferentPages page n → Ready n before bytes → ((n % 32 == 0) ≡ false → Once (Hears c 0 (inner_given (n / 32))) (Got 0 bytes ∷ before))
+  asks : (n : ℕ) (before : List Entry) (bytes : List ℕ) → n < 1024 → AreDifferentPages page n → Ready n before bytes → ((n % 32 == 0) ≡ false → Once (Receives c 0 (inner_given (n / 32))) (Got 0 bytes ∷ before))
       → Asks n (fetching_page w (Got 0 bytes ∷ before) n)
   asks n before bytes small differ r got = go (n % 32 == 0) refl
     where
-      hears : heard (members c) 0 (w.below_inner (n / 32)) ≡ Some (inner_given (n / 32))
-      hears = (f.gives_inner (n / 32) (omega arith)).is_heard 0 (inl refl)
+      receives : authentic (members c) 0 (w.below_inner (n / 32)) ≡ Some (inner_given (n / 32))
+      receives = (f.gives_inner (n / 32) (omega arith)).is_authentic_to 0 (inl refl)
 
       go : (b : Bool) → (n % 32 == 0) ≡ b
           → Asks n (Sent 0 (w.fetch_page n) ∷ cond b (Got 0 (w.below_inner (n / 32)) ∷ Sent 0 (w.fetch_inner (n / 32)) ∷ Got 0 bytes ∷ before) (Got 0 bytes ∷ before))
-      go true is = asks_page n (Sent 0 (w.fetch_inner (n / 32)) ∷ Got 0 bytes ∷ before) (w.below_inner (n / 32)) small differ (ready_inner n before bytes small differ r) (inl hears)
+      go true is = asks_page n (Sent 0 (w.fetch_inner (n / 32)) ∷ Got 0 bytes ∷ before) (w.below_inner (n / 32)) small differ (ready_inner n before bytes small differ r) (inl receives)
       go false is = asks_page n before bytes small differ r (got is)
 
   -- a page that was asked for comes
   pub ready_page : (n : ℕ) (past : List Entry) → n < 1024 → Asks n past → Ready (suc n) past (w.page n)
   ready_page n past small a = record {
     body = page_given n;
-    hears = hears;
+    receives = receives;
     given = tt;
     of_16 = λ m part. part;
     counts = (
@@ -292,7 +292,7 @@ module _ (clients : ℕ) (seed : List ℕ) (page : ℕ → List ℕ) (w : FetchF
       ),
     );
     asked = Some (16, (levels.Page, n));
-    stage = stage_page clients seed root past (w.page n) 1 16 n (page n) p3 (Some (16, (levels.Page, n))) 16 a.stage refl hears;
+    stage = stage_page clients seed root past (w.page n) 1 16 n (page n) p3 (Some (16, (levels.Page, n))) 16 a.stage refl receives;
     is_fetching = a.stage.fetching_is;
     proceeds = a.proceeds;
     quorum = a.quorum;
@@ -303,13 +303,13 @@ module _ (clients : ℕ) (seed : List ℕ) (page : ℕ → List ℕ) (w : FetchF
       place : 32 * (n / 32) + n % 32 ≡ n
       place = omega arith
 
-      hears : heard (members c) 0 (w.page n) ≡ Some (page_given n)
-      hears = (f.gives_page n small).is_heard 0 (inl refl)
+      receives : authentic (members c) 0 (w.page n) ≡ Some (page_given n)
+      receives = (f.gives_page n small).is_authentic_to 0 (inl refl)
 
       go : (i : ℕ) (b : Bool) → (n == i) ≡ b → took c 0 (Some 16) (Got 0 (w.page n) ∷ past) i ≡ then_some (nat_lt i (suc n)) (page i)
       go i true is =
           subst (λ (k : ℕ). took c 0 (Some 16) (Got 0 (w.page n) ∷ past) k ≡ then_some (nat_lt k (suc n)) (page k)) (eqb-true n i is)
-          (Taken.answers_are_taken c 0 1 16 n past (w.page n) (page n) hears a.stage.asked_is
+          (Taken.answers_are_taken c 0 1 16 n past (w.page n) (page n) receives a.stage.asked_is
           ∙ ap (λ (b : Bool). then_some b (page n)) (sym (lt-ltb n (suc n) (omega arith))))
       go i false is =
           Taken.others_are_left c 0 16 i past (w.page n)
@@ -338,17 +338,17 @@ module _ (clients : ℕ) (seed : List ℕ) (page : ℕ → List ℕ) (w : FetchF
   abbrev h4 : List Entry
   h4 = Sent 0 w.fetch_root ∷ h3
 
-  hears_1 : heard (members c) 0 (w.checkpoint 1) ≡ Some (checkpoint_of 1)
-  hears_1 = (f.checkpoints 1 (omega arith) (omega arith)).is_heard 0 (inl refl)
+  hears_1 : authentic (members c) 0 (w.checkpoint 1) ≡ Some (checkpoint_of 1)
+  hears_1 = (f.checkpoints 1 (omega arith) (omega arith)).is_authentic_to 0 (inl refl)
 
-  hears_2 : heard (members c) 0 (w.checkpoint 2) ≡ Some (checkpoint_of 2)
-  hears_2 = (f.checkpoints 2 (omega arith) (omega arith)).is_heard 0 (inl refl)
+  hears_2 : authentic (members c) 0 (w.checkpoint 2) ≡ Some (checkpoint_of 2)
+  hears_2 = (f.checkpoints 2 (omega arith) (omega arith)).is_authentic_to 0 (inl refl)
 
-  hears_3 : heard (members c) 0 (w.checkpoint 3) ≡ Some (checkpoint_of 3)
-  hears_3 = (f.checkpoints 3 (omega arith) (omega arith)).is_heard 0 (inl refl)
+  hears_3 : authentic (members c) 0 (w.checkpoint 3) ≡ Some (checkpoint_of 3)
+  hears_3 = (f.checkpoints 3 (omega arith) (omega arith)).is_authentic_to 0 (inl refl)
 
-  hears_root : heard (members c) 0 w.below_root ≡ Some root_given
-  hears_root = f.gives_root.is_heard 0 (inl refl)
+  hears_root : authentic (members c) 0 w.below_root ≡ Some root_given
+  hears_root = f.gives_root.is_authentic_to 0 (inl refl)
 
   s1 : Stage clients seed root h1 p1 None 0
   s1 = stage_checkpoint clients seed root [] (w.checkpoint 1) 1 (λ s. false) None 0 (first_stage clients seed root) refl hears_1
@@ -391,7 +391,7 @@ module _ (clients : ℕ) (seed : List ℕ) (page : ℕ → List ℕ) (w : FetchF
   ready_first : Ready 0 h4 w.below_root
   ready_first = record {
     body = root_given;
-    hears = hears_root;
+    receives = hears_root;
     given = tt;
     of_16 = λ m part. part;
     counts = (s4.asked_is, omega arith, inl (inr quorum_at_3));
@@ -422,7 +422,7 @@ module _ (clients : ℕ) (seed : List ℕ) (page : ℕ → List ℕ) (w : FetchF
   all_asked (suc n) small differ =
       let was = all_asked n (omega arith) (fewer n differ) in
       asks (suc n) (fetching_pages w n) (w.page n) small differ (ready_page n (fetching_pages w n) (omega arith) was)
-      (λ other. inr (subst (λ (j : ℕ). Once (Hears c 0 (inner_given j)) (fetching_pages w n)) (same_part n other) was.inner_got))
+      (λ other. inr (subst (λ (j : ℕ). Once (Receives c 0 (inner_given j)) (fetching_pages w n)) (same_part n other) was.inner_got))
 
 -- ---- the history is a replica's, and alone it is a run
 

@@ -19,7 +19,7 @@ use Rattle.evidence.specs.Examples.{four}
 use Rattle.evidence.specs.Fetched.{FetchFrames, AreFetchFrames, FitFrames, FetchFramesExist}
 use Rattle.protocol.proofs.Words.Roots.{inner_is, pages_part}
 use Rattle.evidence.proofs.FirstFrames.{AreFew, is_digest, may_seal, others_few, never_own}
-use Rattle.evidence.proofs.FirstFramesSealed.{MaySeal, sealed_is_heard}
+use Rattle.evidence.proofs.FirstFramesSealed.{MaySeal, sealed_is_authentic}
 
 -- ---- 32 digests
 
@@ -71,8 +71,8 @@ module _ (clients : ℕ) (seed : List ℕ) (page : ℕ → List ℕ) (fit : FitF
   abbrev part_digests : ℕ → List (List ℕ)
   part_digests j = page_digests (all_pages page) j
 
-  says_checkpoint : (r : ℕ) → r < 4 → MaySeal c (by r (Checkpoint 16 root)) (others c r)
-  says_checkpoint r below =
+  lists_checkpoint : (r : ℕ) → r < 4 → MaySeal c (by r (Checkpoint 16 root)) (others c r)
+  lists_checkpoint r below =
       let l = length-sha256 (concat root_digests) in
       may_seal c r (Checkpoint 16 root) (others c r) (omega arith) (lt-ltb r 4 below) (omega arith, is_digest (concat root_digests)) refl (others_few clients seed r below) (never_own r (range_with_len 0 (replicas c))) refl (omega arith)
 
@@ -117,13 +117,13 @@ module _ (clients : ℕ) (seed : List ℕ) (page : ℕ → List ℕ) (fit : FitF
 
   are_frames : AreFetchFrames c page frames
   are_frames = record {
-    checkpoints = λ r some l. sealed_is_heard c (by r (Checkpoint 16 root)) (others c r) (says_checkpoint r l);
-    asks_root = sealed_is_heard c (by 0 (Fetch 16 levels.Root 0)) (others c 0) asks_root;
-    gives_root = sealed_is_heard c (by 1 (Meta 16 levels.Root 0 root_digests)) (0 ∷ []) gives_root;
-    asks_inner = λ j l. sealed_is_heard c (by 0 (Fetch 16 levels.Inner j)) (others c 0) (asks_inner j l);
-    gives_inner = λ j l. sealed_is_heard c (by 1 (Meta 16 levels.Inner j (part_digests j))) (0 ∷ []) (gives_inner j l);
-    asks_page = λ i l. sealed_is_heard c (by 0 (Fetch 16 levels.Page i)) (others c 0) (asks_page i l);
-    gives_page = λ i l. sealed_is_heard c (by 1 (Page 16 i (page i))) (0 ∷ []) (gives_page i l);
+    checkpoints = λ r some l. sealed_is_authentic c (by r (Checkpoint 16 root)) (others c r) (lists_checkpoint r l);
+    asks_root = sealed_is_authentic c (by 0 (Fetch 16 levels.Root 0)) (others c 0) asks_root;
+    gives_root = sealed_is_authentic c (by 1 (Meta 16 levels.Root 0 root_digests)) (0 ∷ []) gives_root;
+    asks_inner = λ j l. sealed_is_authentic c (by 0 (Fetch 16 levels.Inner j)) (others c 0) (asks_inner j l);
+    gives_inner = λ j l. sealed_is_authentic c (by 1 (Meta 16 levels.Inner j (part_digests j))) (0 ∷ []) (gives_inner j l);
+    asks_page = λ i l. sealed_is_authentic c (by 0 (Fetch 16 levels.Page i)) (others c 0) (asks_page i l);
+    gives_page = λ i l. sealed_is_authentic c (by 1 (Page 16 i (page i))) (0 ∷ []) (gives_page i l);
   }
 
   pub exist : (w : FetchFrames) × AreFetchFrames c page w

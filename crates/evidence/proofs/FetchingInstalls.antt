@@ -8,12 +8,12 @@ use Rattle.partition_tree.specs.Digests.{root_of as root_of_pages}
 use Rattle.terms.specs.declared.order.Mode.TheVariants as modes
 use Rattle.terms.specs.declared.state.Level.TheVariants as levels
 use Rattle.wire_format.specs.Messages.{BodyData as Body, CheckpointEntryData as CheckpointEntry, request as Request, view_change as ViewChange, fetch as Fetch, meta as Meta, page as Page}
-use Rattle.signing.specs.Heard.{heard}
+use Rattle.signing.specs.AuthenticBody.{authentic}
 use Rattle.protocol.specs.System.Configuration.{Configuration, members}
 use Rattle.protocol.specs.System.Trace.{Entry, history_of, Once, Has}
 use Rattle.protocol.specs.System.Trace.Entry.{Got, Installed}
 use Rattle.protocol.specs.Replica.Selection.{is_quorum}
-use Rattle.protocol.specs.Replica.Certificates.{target, low, is_in_marks, logged, proposal, checkpoints_of, says_checkpoint, count_checkpoints}
+use Rattle.protocol.specs.Replica.Certificates.{target, low, is_in_marks, logged, proposal, checkpoints_of, lists_checkpoint, count_checkpoints}
 use Rattle.protocol.specs.Replica.State.{State, IsReplicatedState, opening, root_of, all_pages, page_text}
 use Rattle.protocol.specs.Replica.Transfers.{in_place}
 use Rattle.protocol.specs.Replica.RightReplica.{Point, first_point, Executes, IsInstalled, IsStep}
@@ -101,8 +101,8 @@ module _ (clients : ℕ) (seed : List ℕ) (st : State) (w : FetchFrames) (n : �
 
   same_count : (m : CheckpointEntry) → count_checkpoints c now m ≡ count_checkpoints c past m
   same_count m =
-      count_same (λ s. says_checkpoint m (checkpoints_of c now s)) (λ s. says_checkpoint m (checkpoints_of c past s))
-      (λ s. ap (says_checkpoint m) (checkpoints_with c installs past s)) 4
+      count_same (λ s. lists_checkpoint m (checkpoints_of c now s)) (λ s. lists_checkpoint m (checkpoints_of c past s))
+      (λ s. ap (lists_checkpoint m) (checkpoints_with c installs past s)) 4
 
   no_newer : (k : ℕ) (digest : List ℕ) → is_quorum c (count_checkpoints c now (record { number = k; digest = digest })) ≡ true → st.number < k → ⊥
   no_newer k digest quorum above =
@@ -117,11 +117,11 @@ module _ (clients : ℕ) (seed : List ℕ) (st : State) (w : FetchFrames) (n : �
 
   -- ---- what it owes
 
-  given_is : (other : Body) → heard (members c) 0 (w.page n) ≡ Some other → IsGiven other.message
-  given_is other h = subst (λ (x : Body). IsGiven x.message) (some_injective ready.body other (sym ready.hears ∙ h)) ready.given
+  given_is : (other : Body) → authentic (members c) 0 (w.page n) ≡ Some other → IsGiven other.message
+  given_is other h = subst (λ (x : Body). IsGiven x.message) (some_injective ready.body other (sym ready.receives ∙ h)) ready.given
 
-  of_16 : (k : ℕ) (other : Body) → heard (members c) 0 (w.page n) ≡ Some other → IsPartOf k other.message → 16 ≡ k
-  of_16 k other h part = ready.of_16 k (subst (λ (x : Body). IsPartOf k x.message) (some_injective other ready.body (sym h ∙ ready.hears)) part)
+  of_16 : (k : ℕ) (other : Body) → authentic (members c) 0 (w.page n) ≡ Some other → IsPartOf k other.message → 16 ≡ k
+  of_16 k other h part = ready.of_16 k (subst (λ (x : Body). IsPartOf k x.message) (some_injective other ready.body (sym h ∙ ready.receives)) part)
 
   no_execution : (k : ℕ) → Has (λ e. Executes k [] e) (installs ∷ []) → ⊥
   no_execution k (inl h) = h
@@ -155,14 +155,14 @@ module _ (clients : ℕ) (seed : List ℕ) (st : State) (w : FetchFrames) (n : �
     fetches_again = λ k index level tick was above. absurd tick;
     view_changes = λ vc other moves may within says. absurd (no_reason c 0 before (w.page n) [] vc.view (λ s x asks. given_is (record { sender = s; message = ViewChange x }) asks) moves);
     new_views = λ new can. absurd (let left = can.left in let sent = ready.stage.target_is in let same : target now ≡ target past = omega arith in omega (arith, left, sent, same));
-    dropped = λ other is drops. absurd (subst (λ (bytes : List ℕ). IsDropped c 0 before first_point bytes) (sym (same_bytes other is)) drops ready.body ready.hears ready.counts);
+    dropped = λ other is drops. absurd (subst (λ (bytes : List ℕ). IsDropped c 0 before first_point bytes) (sym (same_bytes other is)) drops ready.body ready.receives ready.counts);
   }
     where
       same_bytes : (other : List ℕ) → Got 0 (w.page n) ≡ Got 0 other → w.page n ≡ other
       same_bytes other is = cc
 
   pub prompt : IsPromptReplica c 0 now
-  prompt = (last_point, (first_point, step, (first_point, gets clients seed (root_of st) before (w.page n) ready.body ready.hears ready.given, (owes, ready.proceeds))))
+  prompt = (last_point, (first_point, step, (first_point, gets clients seed (root_of st) before (w.page n) ready.body ready.receives ready.given, (owes, ready.proceeds))))
 
   pub counted : length (texts_added c now now) ≡ n + n / 32 + 1094
   counted =

@@ -7,7 +7,7 @@ use Rattle.quorum.specs.Quorum.{count_below}
 use Rattle.quorum.specs.Votes.{has_digest, or_else}
 use Rattle.protocol.specs.System.Configuration.{Configuration, members}
 use Rattle.wire_format.specs.Messages.{BodyData as Body, MessageData as Message, AuthenticatorData as Authenticator, macs, signature, pre_prepare as PrePrepare, prepare as Prepare, commit as Commit}
-use Rattle.signing.specs.Heard.{heard}
+use Rattle.signing.specs.AuthenticBody.{authentic}
 use Rattle.wire_format.specs.Words.{receivers_of}
 use Rattle.protocol.specs.System.Trace.{Entry}
 use Rattle.protocol.specs.System.Trace.Entry.{Got, Executed, Sent}
@@ -137,31 +137,31 @@ module _ (clients : ℕ) (seed batch a b d e f g : List ℕ) (x : IsFirstBatch (
 
   -- ---- votes
 
-  abbrev give : (Body → Option (List ℕ)) → List Entry → Entry → Option (List ℕ)
-  give vote past e = vote_in c 1 past e vote 0 1
+  abbrev emit : (Body → Option (List ℕ)) → List Entry → Entry → Option (List ℕ)
+  emit vote past e = vote_in c 1 past e vote 0 1
 
-  vote_got : (vote : Body → Option (List ℕ)) (past : List Entry) (bytes : List ℕ) (body : Body) → AllPlain c past → heard (members c) 1 bytes ≡ Some body → give vote past (Got 1 bytes) ≡ vote body
-  vote_got vote past bytes body p h = ap (λ (t : Bool). cond t (option_and_then vote (heard (members c) 1 bytes)) None) (counts past bytes p) ∙ ap (option_and_then vote) h
+  vote_got : (vote : Body → Option (List ℕ)) (past : List Entry) (bytes : List ℕ) (body : Body) → AllPlain c past → authentic (members c) 1 bytes ≡ Some body → emit vote past (Got 1 bytes) ≡ vote body
+  vote_got vote past bytes body p h = ap (λ (t : Bool). cond t (option_and_then vote (authentic (members c) 1 bytes)) None) (counts past bytes p) ∙ ap (option_and_then vote) h
 
-  then : (vote : Body → Option (List ℕ)) (past : List Entry) (e : Entry) (o : Option (List ℕ)) → first_given (give vote) past ≡ None → give vote past e ≡ o → first_given (give vote) (e ∷ past) ≡ o
-  then vote past e o none here = ap (λ (u : Option (List ℕ)). or_else u (give vote past e)) none ∙ here
+  then : (vote : Body → Option (List ℕ)) (past : List Entry) (e : Entry) (o : Option (List ℕ)) → first_given (emit vote) past ≡ None → emit vote past e ≡ o → first_given (emit vote) (e ∷ past) ≡ o
+  then vote past e o none here = ap (λ (u : Option (List ℕ)). or_else u (emit vote past e)) none ∙ here
 
-  at1 : (vote : Body → Option (List ℕ)) → first_given (give vote) h1 ≡ vote (record { sender = 0; message = PrePrepare 0 1 batch })
+  at1 : (vote : Body → Option (List ℕ)) → first_given (emit vote) h1 ≡ vote (record { sender = 0; message = PrePrepare 0 1 batch })
   at1 vote = then vote [] (Got 1 a) (vote (record { sender = 0; message = PrePrepare 0 1 batch })) refl (vote_got vote [] a (record { sender = 0; message = PrePrepare 0 1 batch }) tt x.proposed)
 
-  at2 : (vote : Body → Option (List ℕ)) → first_given (give vote) h1 ≡ None → first_given (give vote) h2 ≡ vote (record { sender = 1; message = Prepare 0 1 (sha256 batch) })
+  at2 : (vote : Body → Option (List ℕ)) → first_given (emit vote) h1 ≡ None → first_given (emit vote) h2 ≡ vote (record { sender = 1; message = Prepare 0 1 (sha256 batch) })
   at2 vote none = then vote h1 (Sent 1 b) (vote (record { sender = 1; message = Prepare 0 1 (sha256 batch) })) none (ap (option_and_then vote) x.prepares)
 
-  at3 : (vote : Body → Option (List ℕ)) → first_given (give vote) h2 ≡ None → first_given (give vote) h3 ≡ vote (record { sender = 2; message = Prepare 0 1 (sha256 batch) })
+  at3 : (vote : Body → Option (List ℕ)) → first_given (emit vote) h2 ≡ None → first_given (emit vote) h3 ≡ vote (record { sender = 2; message = Prepare 0 1 (sha256 batch) })
   at3 vote none = then vote h2 (Got 1 d) (vote (record { sender = 2; message = Prepare 0 1 (sha256 batch) })) none (vote_got vote h2 d (record { sender = 2; message = Prepare 0 1 (sha256 batch) }) plain2 x.other_prepares)
 
-  at4 : (vote : Body → Option (List ℕ)) → first_given (give vote) h3 ≡ None → first_given (give vote) h4 ≡ vote (record { sender = 1; message = Commit 0 1 (sha256 batch) })
+  at4 : (vote : Body → Option (List ℕ)) → first_given (emit vote) h3 ≡ None → first_given (emit vote) h4 ≡ vote (record { sender = 1; message = Commit 0 1 (sha256 batch) })
   at4 vote none = then vote h3 (Sent 1 e) (vote (record { sender = 1; message = Commit 0 1 (sha256 batch) })) none (ap (option_and_then vote) x.commits)
 
-  at5 : (vote : Body → Option (List ℕ)) → first_given (give vote) h4 ≡ None → first_given (give vote) h5 ≡ vote (record { sender = 0; message = Commit 0 1 (sha256 batch) })
+  at5 : (vote : Body → Option (List ℕ)) → first_given (emit vote) h4 ≡ None → first_given (emit vote) h5 ≡ vote (record { sender = 0; message = Commit 0 1 (sha256 batch) })
   at5 vote none = then vote h4 (Got 1 f) (vote (record { sender = 0; message = Commit 0 1 (sha256 batch) })) none (vote_got vote h4 f (record { sender = 0; message = Commit 0 1 (sha256 batch) }) plain4 x.first_commits)
 
-  at6 : (vote : Body → Option (List ℕ)) → first_given (give vote) h5 ≡ None → first_given (give vote) h6 ≡ vote (record { sender = 2; message = Commit 0 1 (sha256 batch) })
+  at6 : (vote : Body → Option (List ℕ)) → first_given (emit vote) h5 ≡ None → first_given (emit vote) h6 ≡ vote (record { sender = 2; message = Commit 0 1 (sha256 batch) })
   at6 vote none = then vote h5 (Got 1 g) (vote (record { sender = 2; message = Commit 0 1 (sha256 batch) })) none (vote_got vote h5 g (record { sender = 2; message = Commit 0 1 (sha256 batch) }) plain5 x.second_commits)
 
   -- ---- the prepares
@@ -184,7 +184,7 @@ module _ (clients : ℕ) (seed batch a b d e f g : List ℕ) (x : IsFirstBatch (
 
   -- ---- the commits
 
-  no_commits : (s : ℕ) → first_given (give (commit_from s 0 1)) h3 ≡ None
+  no_commits : (s : ℕ) → first_given (emit (commit_from s 0 1)) h3 ≡ None
   no_commits s = at3 (commit_from s 0 1) (at2 (commit_from s 0 1) (at1 (commit_from s 0 1)))
 
   own_commit : commit_of c 1 h4 0 1 1 ≡ Some (sha256 batch)
@@ -227,7 +227,7 @@ module _ (clients : ℕ) (seed batch a b d e f g : List ℕ) (x : IsFirstBatch (
     says = x.prepares;
     own = refl;
     seen = tt;
-    say = record { is_backup = λ z. cc; active = active h1 plain1; batch = batch; is_logged = logged1; digest_is = refl };
+    allowed = record { is_backup = λ z. cc; active = active h1 plain1; batch = batch; is_logged = logged1; digest_is = refl };
     is_sealed = λ frame is. let s = x.prepare_sealed frame is in (s.0, for_others h1 (Prepare 0 1 (sha256 batch)) frame.authenticator (λ rs e. e) s.1);
     leaf = unsigned_have_no_leaf (h1) b (record { sender = 1; message = Prepare 0 1 (sha256 batch) }) (x.prepares) refl;
     once = λ sent. sent;
@@ -239,7 +239,7 @@ module _ (clients : ℕ) (seed batch a b d e f g : List ℕ) (x : IsFirstBatch (
     says = x.commits;
     own = refl;
     seen = tt;
-    say = record { active = active h3 plain3; batch = batch; prepared = prepared; digest_is = refl };
+    allowed = record { active = active h3 plain3; batch = batch; prepared = prepared; digest_is = refl };
     is_sealed = λ frame is. let s = x.commit_sealed frame is in (s.0, for_others h3 (Commit 0 1 (sha256 batch)) frame.authenticator (λ rs e. e) s.1);
     leaf = unsigned_have_no_leaf (h3) e (record { sender = 1; message = Commit 0 1 (sha256 batch) }) (x.commits) refl;
     once = λ sent. sent;

@@ -12,12 +12,12 @@ use Rattle.std.proofs.lemmas.Bool.{eq-eqb}
 use Rattle.terms.specs.declared.order.Mode.TheVariants as modes
 use Rattle.wire_format.specs.Messages.{BodyData as Body, FrameData as Frame, reply as Reply}
 use Rattle.protocol.specs.System.Configuration.{Configuration, members}
-use Rattle.signing.specs.Heard.{heard}
+use Rattle.signing.specs.AuthenticBody.{authentic}
 use Rattle.wire_format.specs.Words.{receivers_of}
 use Rattle.protocol.specs.System.Frames.{IsSealed}
 use Rattle.protocol.specs.System.Trace.{Entry, history_of}
 use Rattle.protocol.specs.System.Trace.Entry.{Invoke, Got, Sent, Accepted}
-use Rattle.protocol.specs.Client.RightClient.{OpenCall, Vote, vote_of, later_vote, latest, is_alike, is_complete, newest_vote, is_ordered_request_of, went_ordered, is_answered, Reaction, on_got, fallback, reaction, IsRequest, IsReaction, Reacts, IsClient}
+use Rattle.protocol.specs.Client.RightClient.{OpenCall, Vote, reply_vote, later_vote, latest, is_alike, is_complete, newest_vote, is_ordered_request_of, went_ordered, is_answered, Reaction, on_got, fallback, reaction, IsRequest, IsReaction, Reacts, IsClient}
 use Rattle.protocol.specs.Client.RightClient.Reaction.{nothing, asks, accepts}
 use Rattle.evidence.specs.Examples.{four}
 use Rattle.evidence.specs.FirstOperation.{FirstFrames, AreFirstFrames, first_answer, first_trace}
@@ -51,8 +51,8 @@ module _ (clients : ℕ) (seed : List ℕ) (op : Operation) (batch : List ℕ) (
   abbrev three : List Entry
   three = Got 256 (w.reply 2) ∷ two
 
-  hears : (r : ℕ) → r < 4 → heard (members c) 256 (w.reply r) ≡ Some (record { sender = r; message = Reply 256 1 modes.Ordered 1 (first_answer op) })
-  hears r l = (x.replies r l).is_heard 256 (inl refl)
+  receives : (r : ℕ) → r < 4 → authentic (members c) 256 (w.reply r) ≡ Some (record { sender = r; message = Reply 256 1 modes.Ordered 1 (first_answer op) })
+  receives r l = (x.replies r l).is_authentic_to 256 (inl refl)
 
   goes_ordered : went_ordered asked 1 ≡ true
   goes_ordered = ap (λ (o : Option Body). option_map_or (is_ordered_request_of 1) o false || false) x.asks.says
@@ -69,7 +69,7 @@ module _ (clients : ℕ) (seed : List ℕ) (op : Operation) (batch : List ℕ) (
   latest_next : (r : ℕ) → r < 4 → (s : ℕ) (past : List Entry) (o : Option Vote) → latest c 256 past 1 modes.Ordered s ≡ o
       → latest c 256 (Got 256 (w.reply r) ∷ past) 1 modes.Ordered s ≡ cond (is_of r s) (Some vote) o
   unfolding latest
-  latest_next r l s past o e = rw (hears r l, e) (go (is_of r s))
+  latest_next r l s past o e = rw (receives r l, e) (go (is_of r s))
     where
       go : (b : Bool) → later_vote modes.Ordered (then_some b vote) o ≡ cond b (Some vote) o
       go true = refl
@@ -109,7 +109,7 @@ module _ (clients : ℕ) (seed : List ℕ) (op : Operation) (batch : List ℕ) (
 
   pub newest : (r : ℕ) → r < 4 → (past : List Entry) → newest_vote c 256 (Got 256 (w.reply r) ∷ past) 1 ≡ Some vote
   newest r l past =
-      ap (option_and_then (λ (body : Body). vote_of 256 1 body.sender body)) (hears r l) ∙ ap (λ (b : Bool). then_some ((b && true) && true) vote) (eq-eqb r r refl)
+      ap (option_and_then (λ (body : Body). reply_vote 256 1 body.sender body)) (receives r l) ∙ ap (λ (b : Bool). then_some ((b && true) && true) vote) (eq-eqb r r refl)
 
   gives : (now : List Entry) (b : Bool) → newest_vote c 256 now 1 ≡ Some vote → went_ordered now 1 ≡ true → is_complete c 256 now 1 vote ≡ b
       → on_got c 256 now call ≡ cond b (accepts 1 (first_answer op)) nothing

@@ -27,7 +27,7 @@ use Rattle.protocol.specs.System.Trace.{Has}
 use Rattle.evidence.specs.FirstOperation.{FirstFrames, AreFirstFrames, first_answer, FirstFramesExist}
 use Rattle.tuple_tree.proofs.NumberBytes.{no_bytes}
 use Rattle.tuple_codec.proofs.SpelledBytes.{bytes_4}
-use Rattle.evidence.proofs.FirstFramesSealed.{MaySeal, sealed_length, sealed_spells, sealed_is_heard}
+use Rattle.evidence.proofs.FirstFramesSealed.{MaySeal, sealed_length, sealed_spells, sealed_is_authentic}
 
 -- the answer to an operation on the empty space
 abbrev IsShort : Outcome → Type 0
@@ -206,11 +206,11 @@ module _ (clients : ℕ) (seed : List ℕ) (op : Operation) (valid : IsConfigura
     operation = right;
     writes = writes;
     requests = reads_requests (request ∷ []) (omega arith) (is_carried, tt);
-    asks = sealed_is_heard c (by 256 asking) to_all asks;
-    proposes = sealed_is_heard c (by 0 (PrePrepare 0 1 batch)) (others c 0) proposes;
-    prepares = λ r l. sealed_is_heard c (by r (Prepare 0 1 (sha256 batch))) (others c r) (prepares r l);
-    commits = λ r l. sealed_is_heard c (by r (Commit 0 1 (sha256 batch))) (others c r) (commits r l);
-    replies = λ r l. sealed_is_heard c (by r (Reply 256 1 modes.Ordered 1 (first_answer op))) (256 ∷ []) (replies r l);
+    asks = sealed_is_authentic c (by 256 asking) to_all asks;
+    proposes = sealed_is_authentic c (by 0 (PrePrepare 0 1 batch)) (others c 0) proposes;
+    prepares = λ r l. sealed_is_authentic c (by r (Prepare 0 1 (sha256 batch))) (others c r) (prepares r l);
+    commits = λ r l. sealed_is_authentic c (by r (Commit 0 1 (sha256 batch))) (others c r) (commits r l);
+    replies = λ r l. sealed_is_authentic c (by r (Reply 256 1 modes.Ordered 1 (first_answer op))) (256 ∷ []) (replies r l);
   }
 
   pub exist : (batch : List ℕ) × (w : FirstFrames) × AreFirstFrames c op batch w

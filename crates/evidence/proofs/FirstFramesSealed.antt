@@ -1,4 +1,4 @@
--- What is sealed is heard.
+-- Sealed frames are authentic to their receivers.
 use Rattle.std.proofs.Common.{◌≡◌, ℕ, suc, sym, subst, ◌+◌, ◌^◌, ◌<◌, ◌≤◌, inl, inr, Bool, true, false, List, [], ◌∷◌, map, length, Contains, All, AllPairs, Some, refl, ap, ◌*◌, arith, ◌||◌, length-append}
 use Rattle.std.specs.Prelude.{nat_lt, nat_le}
 use Rattle.std.proofs.lemmas.Bool.{and_parts, and_from, ltb-true, lt-ltb}
@@ -16,12 +16,12 @@ use Rattle.authenticator.proofs.Digests.{hmac_of-digest}
 use Rattle.authenticator.proofs.Entries.{entries-have}
 use Rattle.authenticator.proofs.Lengths.{length-hmac_of}
 use Rattle.authenticator.proofs.Sealing.{sealed-spells}
-use Rattle.signing.proofs.Heard.{opened_is_heard}
+use Rattle.signing.proofs.AuthenticBody.{opened_is_authentic}
 use Rattle.protocol.specs.System.Configuration.{Configuration, IsConfiguration, replicas, is_replica, is_client, members}
-use Rattle.signing.specs.Heard.{heard}
+use Rattle.signing.specs.AuthenticBody.{authentic}
 use Rattle.protocol.specs.System.Trace.{Has}
 use Rattle.protocol.specs.System.Schedule.{is_party, sealed_bytes}
-use Rattle.evidence.specs.FirstOperation.{IsFrameFrom, SealedFramesAreHeard}
+use Rattle.evidence.specs.FirstOperation.{IsFrameFrom, SealedFramesAreAuthentic}
 use Rattle.wire_format.proofs.Saying.{reads_frames, reads_said}
 
 -- ---- the entries of an authenticator
@@ -77,13 +77,13 @@ module _ (c : Configuration) (body : Body) (receivers : List ℕ) (may : MaySeal
   opens : (p : ℕ) → Has (λ r. r ≡ p) receivers → Opens (members c) p sealed frame
   opens p among = record { spelled = sealed_spells; sender = may.known; proved = entries-have c.seed body.sender text receivers p (has_contains p receivers among) }
 
-  hears : (p : ℕ) → Has (λ r. r ≡ p) receivers → heard (members c) p sealed ≡ Some body
-  hears p among =
-      opened_is_heard (members c) p sealed frame (opens p among) (λ own. may.others (subst (λ (q : ℕ). Has (λ r. r ≡ q) receivers) (sym own) among))
+  receives : (p : ℕ) → Has (λ r. r ≡ p) receivers → authentic (members c) p sealed ≡ Some body
+  receives p among =
+      opened_is_authentic (members c) p sealed frame (opens p among) (λ own. may.others (subst (λ (q : ℕ). Has (λ r. r ≡ q) receivers) (sym own) among))
       (λ signed. absurd (let u = may.can.unsigned in let g : ⊥ = cc in g))
 
-  pub sealed_is_heard : IsFrameFrom c body.sender body.message receivers sealed
-  sealed_is_heard = record {
+  pub sealed_is_authentic : IsFrameFrom c body.sender body.message receivers sealed
+  sealed_is_authentic = record {
     frame = frame;
     entries = map (entry_for c.seed body.sender text) receivers;
     spells = (reads_frames sealed frame).1 sealed_spells;
@@ -91,7 +91,7 @@ module _ (c : Configuration) (body : Body) (receivers : List ℕ) (may : MaySeal
     has_macs = refl;
     is_sealed = All-map (λ (x : MacData). x.mac ≡ mac_of c.seed x.receiver body) (entry_for c.seed body.sender text) receivers (λ k d within. refl);
     is_for = are_for c.seed body.sender text receivers;
-    is_heard = hears;
+    is_authentic_to = receives;
   }
 
 -- ---- the law
@@ -125,9 +125,9 @@ sender_below : (c : Configuration) → IsConfiguration c → (p : ℕ) (m : Mess
 sender_below c valid p (Request t mode op) h = client_below c valid p h
 sender_below c valid p _ h = let l : p < replicas c = ltb-true p (replicas c) h in let m = valid.most in omega arith
 
-pub sealed_frames_are_heard : SealedFramesAreHeard
-sealed_frames_are_heard c valid sender message receivers known right unsigned are others short =
-    sealed_is_heard c (record { sender = sender; message = message }) receivers (record {
+pub sealed_frames_are_authentic : SealedFramesAreAuthentic
+sealed_frames_are_authentic c valid sender message receivers known right unsigned are others short =
+    sealed_is_authentic c (record { sender = sender; message = message }) receivers (record {
       can = record {
         said = record { sender = sender_below c valid sender message known; message = right };
         unsigned = unsigned;

@@ -25,7 +25,7 @@ module _ (clients : ℕ) (seed : List ℕ) (op : Operation) (batch : List ℕ) (
   abbrev trace : List Entry
   trace = first_trace op batch w
 
-  -- ---- no reads: what was accepted is ordered
+  -- ---- no reads: an accepted answer is ordered
 
   abbrev two : List Entry
   two = Got 256 (w.reply 1) ∷ Got 256 (w.reply 0) ∷ Sent 256 w.request ∷ Invoke 0 1 op ∷ []

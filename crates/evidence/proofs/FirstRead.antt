@@ -8,12 +8,12 @@ use Rattle.std.proofs.lemmas.Bool.{eq-eqb}
 use Rattle.terms.specs.declared.order.Mode.TheVariants as modes
 use Rattle.wire_format.specs.Messages.{BodyData as Body, FrameData as Frame, reply as Reply}
 use Rattle.protocol.specs.System.Configuration.{Configuration, members}
-use Rattle.signing.specs.Heard.{heard}
+use Rattle.signing.specs.AuthenticBody.{authentic}
 use Rattle.wire_format.specs.Words.{receivers_of}
 use Rattle.protocol.specs.System.Frames.{IsSealed}
 use Rattle.protocol.specs.System.Trace.{Entry}
 use Rattle.protocol.specs.System.Trace.Entry.{Invoke, Got, Sent, Accepted}
-use Rattle.protocol.specs.Client.RightClient.{OpenCall, Vote, vote_of, later_vote, latest, is_alike, is_complete, newest_vote, is_answered, went_ordered, Reaction, on_got, reaction, IsRequest, IsReaction, Reacts}
+use Rattle.protocol.specs.Client.RightClient.{OpenCall, Vote, reply_vote, later_vote, latest, is_alike, is_complete, newest_vote, is_answered, went_ordered, Reaction, on_got, reaction, IsRequest, IsReaction, Reacts}
 use Rattle.protocol.specs.Client.RightClient.Reaction.{nothing, asks, accepts}
 use Rattle.evidence.specs.Examples.{four}
 use Rattle.evidence.specs.ExamplesOfClients.{AreReadFrames, FirstReadIsAccepted}
@@ -44,8 +44,8 @@ module _ (clients number : ℕ) (seed : List ℕ) (op : Operation) (answer : Out
   abbrev three : List Entry
   three = Got 256 (reply 2) ∷ two
 
-  hears : (r : ℕ) → r < 4 → heard (members c) 256 (reply r) ≡ Some (record { sender = r; message = Reply 256 1 modes.ReadOnly number answer })
-  hears r l = (x.replies r l).is_heard 256 (inl refl)
+  receives : (r : ℕ) → r < 4 → authentic (members c) 256 (reply r) ≡ Some (record { sender = r; message = Reply 256 1 modes.ReadOnly number answer })
+  receives r l = (x.replies r l).is_authentic_to 256 (inl refl)
 
   -- ---- the latest replies
 
@@ -59,7 +59,7 @@ module _ (clients number : ℕ) (seed : List ℕ) (op : Operation) (answer : Out
   latest_next : (r : ℕ) → r < 4 → (s : ℕ) (past : List Entry) (o : Option Vote) → latest c 256 past 1 modes.ReadOnly s ≡ o
       → latest c 256 (Got 256 (reply r) ∷ past) 1 modes.ReadOnly s ≡ cond (is_of r s) (Some vote) o
   unfolding latest
-  latest_next r l s past o e = rw (hears r l, e) (go (is_of r s))
+  latest_next r l s past o e = rw (receives r l, e) (go (is_of r s))
     where
       go : (b : Bool) → later_vote modes.ReadOnly (then_some b vote) o ≡ cond b (Some vote) o
       go true = refl
@@ -111,7 +111,7 @@ module _ (clients number : ℕ) (seed : List ℕ) (op : Operation) (answer : Out
 
   newest : (r : ℕ) → r < 4 → (past : List Entry) → newest_vote c 256 (Got 256 (reply r) ∷ past) 1 ≡ Some vote
   newest r l past =
-      ap (option_and_then (λ (body : Body). vote_of 256 1 body.sender body)) (hears r l) ∙ ap (λ (b : Bool). then_some ((b && true) && true) vote) (eq-eqb r r refl)
+      ap (option_and_then (λ (body : Body). reply_vote 256 1 body.sender body)) (receives r l) ∙ ap (λ (b : Bool). then_some ((b && true) && true) vote) (eq-eqb r r refl)
 
   waits : (now : List Entry) → newest_vote c 256 now 1 ≡ Some vote → is_complete c 256 now 1 vote ≡ false → is_answered c 256 now 1 ≡ false
       → on_got c 256 now call ≡ nothing

@@ -10,7 +10,7 @@ use Rattle.terms.specs.declared.order.Mode.TheVariants as modes
 use Rattle.protocol.specs.System.Trace.{Entry}
 use Rattle.protocol.specs.System.Trace.Entry.{Invoke, Got, Sent}
 use Rattle.protocol.specs.Replica.State.{Ran, opening, ran_in}
-use Rattle.protocol.specs.Client.RightClient.{OpenCall, Vote, vote_of}
+use Rattle.protocol.specs.Client.RightClient.{OpenCall, Vote, reply_vote}
 use Rattle.protocol.specs.Space.Linear.{Placing, first_position, last_executed, ordered_point, ordered_points, read_point, read_points, is_double, sorted, points}
 use Rattle.evidence.specs.Examples.{four}
 use Rattle.evidence.specs.FirstOperation.{FirstFrames, AreFirstFrames, first_answer, first_operation}
@@ -62,7 +62,7 @@ module _ (clients : ℕ) (seed : List ℕ) (op : Operation) (batch : List ℕ) (
   read_of k position = record { item = read_item k (read k) position; number = 1; mode = modes.ReadOnly }
 
   abbrev brings : ℕ → Option Body → Option Vote
-  brings k o = option_and_then (λ (body : Body). vote_of (256 + k) 1 body.sender body) o
+  brings k o = option_and_then (λ (body : Body). reply_vote (256 + k) 1 body.sender body) o
 
   abbrev two : List Entry
   two = Got 256 (w.reply 1) ∷ Got 256 (w.reply 0) ∷ Sent 256 w.request ∷ Invoke 0 1 op ∷ []

@@ -10,7 +10,7 @@ use Rattle.evidence.proofs.FirstReplicasBackup.{IsOrder}
 use Rattle.evidence.proofs.FirstReplicasBackup as backup
 use Rattle.evidence.proofs.FirstReplicasPrimary as primary
 
--- ---- in which order each backup hears the others
+-- ---- in which order each backup receives the others
 
 pub first : IsOrder 1 2 3 2 3 0
 first = record {

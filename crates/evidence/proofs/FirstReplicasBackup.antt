@@ -1,4 +1,5 @@
--- A backup of the first operation is a right replica: once for the three, over the order in which it hears the others.
+-- A backup of the first operation is a right replica: once for the three, over the order in which it receives the
+-- others.
 use Rattle.std.proofs.Common.{◌≡◌, ◌≢◌, ℕ, ◌<◌, inl, inr, Bool, true, false, not, ◌||◌, List, [], ◌∷◌, refl, sym, ap, ◌∙◌, Some, eq-eqb}
 use Rattle.std.specs.Prelude.{◌==◌}
 use Rattle.std.specs.List.{list_any, range_with_len}
@@ -8,7 +9,7 @@ use Rattle.tuple_codec.specs.Operations.{Operation}
 use Rattle.protocol.specs.System.Configuration.{Configuration, IsConfiguration, members}
 use Rattle.terms.specs.declared.order.Mode.TheVariants as modes
 use Rattle.wire_format.specs.Messages.{prepare as Prepare}
-use Rattle.signing.specs.Heard.{heard}
+use Rattle.signing.specs.AuthenticBody.{authentic}
 use Rattle.protocol.specs.System.Trace.{Entry}
 use Rattle.protocol.specs.System.Trace.Entry.{Got, Executed, Sent}
 use Rattle.protocol.specs.Replica.Certificates.{are_genuine, batch_from, Committed}
@@ -23,7 +24,7 @@ use Rattle.evidence.proofs.FirstReplicasSteps.{Part, is_among, gets_from, asks, 
 use Rattle.evidence.proofs.FirstReplicasEvents as events
 use Rattle.evidence.proofs.FirstReplicasEvents.{IsSender}
 
--- The backup hears prepares of a and b, and commits of d, e and f, in this order.
+-- The backup receives prepares of a and b, and commits of d, e and f, in this order.
 pub record IsOrder (me a b d e f : ℕ) : Type 0 where
   pub member : list_any (λ r. r == me) (range_with_len 0 4) ≡ true
   pub within : me < 4
@@ -111,14 +112,14 @@ module _ (clients : ℕ) (seed : List ℕ) (op : Operation) (batch : List ℕ) (
   abbrev k4 : ℕ → Bool
   k4 = and_of k3 f
 
-  hears_request : heard (members c) me w.request ≡ Some (asks op)
+  hears_request : authentic (members c) me w.request ≡ Some (asks op)
   hears_request = steps.hears_request self
 
   genuine : are_genuine c me batch ≡ true
   genuine = steps.genuine self
 
-  hears_proposal : heard (members c) me w.pre_prepare ≡ Some (proposes batch)
-  hears_proposal = x.proposes.is_heard me (is_among me (others c 0) order.gets)
+  hears_proposal : authentic (members c) me w.pre_prepare ≡ Some (proposes batch)
+  hears_proposal = x.proposes.is_authentic_to me (is_among me (others c 0) order.gets)
 
   -- ---- the certificates
 
@@ -177,7 +178,7 @@ module _ (clients : ℕ) (seed : List ℕ) (op : Operation) (batch : List ℕ) (
   due_request : Due clients seed batch me [] w.request [] h1 first_point (waits op) false false none none none
   due_request = record {
     body = asks op;
-    hears = hears_request;
+    receives = hears_request;
     unanswered = (refl, refl, refl);
     numbers = λ own call waiting. absurd (not_primary own);
     numbers_once = tt;
@@ -192,7 +193,7 @@ module _ (clients : ℕ) (seed : List ℕ) (op : Operation) (batch : List ℕ) (
   due_prepare : Due clients seed batch me h1 w.pre_prepare (Sent me (w.prepare me) ∷ []) h3 (waits op) (waits op) false true none p1 none
   due_prepare = record {
     body = proposes batch;
-    hears = hears_proposal;
+    receives = hears_proposal;
     unanswered = tt;
     numbers = λ own call waiting. absurd (not_primary own);
     numbers_once = (events.no_pre_prepare self h2 (w.prepare me) (prepares batch me) (x.prepares me order.within).says tt, tt);

@@ -9,7 +9,7 @@ use Rattle.tuple_codec.specs.Operations.{Operation}
 use Rattle.protocol.specs.System.Configuration.{Configuration, members}
 use Rattle.terms.specs.declared.order.Mode.TheVariants as modes
 use Rattle.wire_format.specs.Messages.{BodyData as Body, MessageData as Message, pre_prepare as PrePrepare, commit as Commit, reply as Reply}
-use Rattle.signing.specs.Heard.{heard}
+use Rattle.signing.specs.AuthenticBody.{authentic}
 use Rattle.wire_format.specs.Words.{said}
 use Rattle.protocol.specs.System.Trace.{Entry, Has}
 use Rattle.protocol.specs.System.Trace.Entry.{Got, Executed, Sent}
@@ -29,7 +29,7 @@ use Rattle.protocol.proofs.Words.Options.{some_injective}
 abbrev pub IsLater : Message → Type 0
 IsLater message = elim message [ PrePrepare v i b ↦ ⊥ | _ ↦ ⊤ ]
 
--- a sender whom the replica hears
+-- a sender whom the replica receives
 pub record IsSender (me r : ℕ) : Type 0 where
   pub within : r < 4
   pub gets : gets_from r me ≡ true
@@ -66,11 +66,11 @@ module _ (o : Part) where
   abbrev pub Numbers : List Entry → Point → Type 0
   Numbers now new = me ≡ 0 → (call : Call) → Has (λ y. y ≡ call) new.waiting → IsNumbered c me now 0 call.client call.timestamp
 
-  pub hears_prepare : (r : ℕ) → IsSender me r → heard (members c) me (w.prepare r) ≡ Some (prepares batch r)
-  hears_prepare r s = (o.are_frames.prepares r s.within).is_heard me (is_among me (others c r) s.gets)
+  pub hears_prepare : (r : ℕ) → IsSender me r → authentic (members c) me (w.prepare r) ≡ Some (prepares batch r)
+  hears_prepare r s = (o.are_frames.prepares r s.within).is_authentic_to me (is_among me (others c r) s.gets)
 
-  pub hears_commit : (r : ℕ) → IsSender me r → heard (members c) me (w.commit r) ≡ Some (commits batch r)
-  hears_commit r s = (o.are_frames.commits r s.within).is_heard me (is_among me (others c r) s.gets)
+  pub hears_commit : (r : ℕ) → IsSender me r → authentic (members c) me (w.commit r) ≡ Some (commits batch r)
+  hears_commit r s = (o.are_frames.commits r s.within).is_authentic_to me (is_among me (others c r) s.gets)
 
   pub active : (past : List Entry) → AllPlain c past → is_active_in c past 0 ≡ true
   active past plain = (and_parts (is_active_in c past 0) (is_in_marks c (low c me past) 1) (active_here clients seed batch me past plain 0 1 refl)).0
@@ -97,7 +97,7 @@ module _ (o : Part) where
 
   -- ---- the steps
 
-  pub step_quiet : (past : List Entry) (bytes : List ℕ) (body : Body) → heard (members c) me bytes ≡ Some body → call_in c body ≡ None → IsStep c me past (waits op) (Got me bytes) (waits op)
+  pub step_quiet : (past : List Entry) (bytes : List ℕ) (body : Body) → authentic (members c) me bytes ≡ Some body → call_in c body ≡ None → IsStep c me past (waits op) (Got me bytes) (waits op)
   step_quiet past bytes body h nothing = record { own = refl; may = tt; moves = moves_quiet o opening [] (the_call op ∷ []) bytes body h nothing }
 
   pub step_last : (past : List Entry) (r : ℕ) → IsSender me r → IsStep c me past (ran c op batch) (Got me (w.commit r)) (done c batch)
@@ -143,12 +143,12 @@ module _ (o : Part) where
   none_executed bytes n (inr h) = h
 
   -- nothing, at an input by which nothing becomes prepared or is left committed
-  pub due_nothing : (before now : List Entry) (bytes : List ℕ) (body : Body) (old new : Point) (p p' k' : ℕ → Bool) → heard (members c) me bytes ≡ Some body → IsUnanswered old body.message
+  pub due_nothing : (before now : List Entry) (bytes : List ℕ) (body : Body) (old new : Point) (p p' k' : ℕ → Bool) → authentic (members c) me bytes ≡ Some body → IsUnanswered old body.message
       → Numbers now new → new.ran ≡ [] → (ready true p ≡ true) ⊎ (ready true p' ≡ false) → (new.state.number ≡ 1) ⊎ (full k' ≡ false)
       → Owing before bytes [] now old new true true p p' k'
   due_nothing before now bytes body old new p p' k' h u numbers idle held next = record {
     body = body;
-    hears = h;
+    receives = h;
     unanswered = u;
     numbers = numbers;
     numbers_once = tt;
@@ -169,7 +169,7 @@ module _ (o : Part) where
       → Numbers now (waits op) → Owing before (w.prepare r) (Sent me (w.commit me) ∷ []) now (waits op) (waits op) true true p (and_of p r) k'
   due_commit before now r p k k' s backup st fresh few numbers = record {
     body = prepares batch r;
-    hears = hears_prepare r s;
+    receives = hears_prepare r s;
     unanswered = tt;
     numbers = numbers;
     numbers_once = (no_pre_prepare (Got me (w.prepare r) ∷ before) (w.commit me) (commits batch me) (o.are_frames.commits me o.within).says tt, tt);
@@ -191,7 +191,7 @@ module _ (o : Part) where
       → Owing before (w.commit r) (Executed me 1 batch ∷ Sent me (w.reply me) ∷ []) now (waits op) (ran c op batch) true true p p k'
   due_execution before now r p k k' s st held fresh = record {
     body = commits batch r;
-    hears = hears_commit r s;
+    receives = hears_commit r s;
     unanswered = tt;
     numbers = λ own call has. absurd has;
     numbers_once = (tt, (no_pre_prepare (Executed me 1 batch ∷ Got me (w.commit r) ∷ before) (w.reply me) (replies op me) (o.are_frames.replies me o.within).says tt, tt));

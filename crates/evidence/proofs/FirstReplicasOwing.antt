@@ -10,10 +10,10 @@ use Rattle.protocol.specs.System.Configuration.{Configuration, primary, members}
 use Rattle.terms.specs.declared.order.Mode.TheVariants as modes
 use Rattle.terms.specs.declared.state.Level.TheVariants as levels
 use Rattle.wire_format.specs.Messages.{BodyData as Body, MessageData as Message, CheckpointEntryData as CheckpointEntry, request as Request, pre_prepare as PrePrepare, prepare as Prepare, commit as Commit, fetch as Fetch, meta as Meta, page as Page, view_change as ViewChange}
-use Rattle.signing.specs.Heard.{heard}
+use Rattle.signing.specs.AuthenticBody.{authentic}
 use Rattle.protocol.specs.System.Trace.{Entry, Has}
 use Rattle.protocol.specs.System.Trace.Entry.{Got}
-use Rattle.protocol.specs.Replica.Certificates.{view, target, is_active_in, logged, prepare_of, commit_of, checkpoints_of, says_checkpoint, count_checkpoints, Prepared, Committed}
+use Rattle.protocol.specs.Replica.Certificates.{view, target, is_active_in, logged, prepare_of, commit_of, checkpoints_of, lists_checkpoint, count_checkpoints, Prepared, Committed}
 use Rattle.protocol.specs.Replica.State.{State, Call, Ran, opening, kept_of}
 use Rattle.protocol.specs.Replica.RightReplica.{Point, reply_of, Executes}
 use Rattle.protocol.specs.Replica.Owed.{SendsMessage, AtOutputs, IsNumbered, NumbersOnce, IsDropped, Owes}
@@ -123,7 +123,7 @@ module _ (clients : ℕ) (seed batch : List ℕ) (me : ℕ) where
 
   no_checkpoints : (past : List Entry) (l : Bool) (p k : ℕ → Bool) → At past l p k → (checkpoint : CheckpointEntry) → is_quorum c (count_checkpoints c past checkpoint) ≡ true → ⊥
   no_checkpoints past l p k st checkpoint h =
-      let same : count_checkpoints c past checkpoint ≡ 0 = count_same (λ s. says_checkpoint checkpoint (checkpoints_of c past s)) (λ s. false) (λ s. ap (says_checkpoint checkpoint) (st.checkpoints_are s)) 4 in
+      let same : count_checkpoints c past checkpoint ≡ 0 = count_same (λ s. lists_checkpoint checkpoint (checkpoints_of c past s)) (λ s. false) (λ s. ap (lists_checkpoint checkpoint) (st.checkpoints_are s)) 4 in
       absurd (let worse : false ≡ true = subst (λ (n : ℕ). is_quorum c n ≡ true) same h in cc)
 
   -- ---- an event
@@ -132,7 +132,7 @@ module _ (clients : ℕ) (seed batch : List ℕ) (me : ℕ) where
   -- p and p' say who prepared the batch at these times. k' says who committed the batch after the event.
   pub record Due (before : List Entry) (bytes : List ℕ) (outputs now : List Entry) (old new : Point) (l l' : Bool) (p p' k' : ℕ → Bool) : Type 0 where
     pub body : Body
-    pub hears : heard (members c) me bytes ≡ Some body
+    pub receives : authentic (members c) me bytes ≡ Some body
     pub unanswered : IsUnanswered old body.message
     pub numbers : me ≡ 0 → (call : Call) → Has (λ x. x ≡ call) new.waiting → IsNumbered c me now 0 call.client call.timestamp
     pub numbers_once : AtOutputs (NumbersOnce c me) (Got me bytes ∷ before) outputs
@@ -143,7 +143,7 @@ module _ (clients : ℕ) (seed batch : List ℕ) (me : ℕ) where
     pub checkpoints : (n : ℕ) → Has (λ e. Executes n [] e) outputs → n ≡ 1
     pub dropped : IsDropped c me before old bytes → outputs ≡ []
 
-  heard_is : (bytes : List ℕ) (body other : Body) → heard (members c) me bytes ≡ Some body → heard (members c) me bytes ≡ Some other → body ≡ other
+  heard_is : (bytes : List ℕ) (body other : Body) → authentic (members c) me bytes ≡ Some body → authentic (members c) me bytes ≡ Some other → body ≡ other
   heard_is bytes body other h k = some_injective body other (sym h ∙ k)
 
   pub owes : (before : List Entry) (bytes : List ℕ) (outputs now : List Entry) (old new : Point) (l l' : Bool) (p p' k k' : ℕ → Bool)
@@ -166,27 +166,27 @@ module _ (clients : ℕ) (seed batch : List ℕ) (me : ℕ) where
     replies = due.replies;
     checkpoints = λ n ran multiple. let one = due.checkpoints n ran in absurd (let bad : 1 % 16 ≡ 0 = subst (λ (x : ℕ). x % 16 ≡ 0) one multiple in cc);
     again = λ n t op kept asks is same.
-        let u = subst (λ (x : Body). IsUnanswered old x.message) (heard_is bytes due.body (record { sender = 256 + n; message = Request t modes.Ordered op }) due.hears asks) due.unanswered in
+        let u = subst (λ (x : Body). IsUnanswered old x.message) (heard_is bytes due.body (record { sender = 256 + n; message = Request t modes.Ordered op }) due.receives asks) due.unanswered in
         absurd (let none : None ≡ Some kept = sym (none_kept n) ∙ subst (λ (s : State). kept_of s n ≡ Some kept) u.1 is in cc);
     says_again = λ r.
-        let u = subst (λ (x : Body). IsUnanswered old x.message) (heard_is bytes due.body (record { sender = 256 + r.0.client; message = Request r.0.timestamp modes.Ordered r.0.op }) due.hears r.2) due.unanswered in
+        let u = subst (λ (x : Body). IsUnanswered old x.message) (heard_is bytes due.body (record { sender = 256 + r.0.client; message = Request r.0.timestamp modes.Ordered r.0.op }) due.receives r.2) due.unanswered in
         absurd (subst (λ (calls : List Call). Has (λ x. x ≡ r.0) calls) u.2 r.1);
     reads = λ n t op asks is.
-        let u = subst (λ (x : Body). IsUnanswered old x.message) (heard_is bytes due.body (record { sender = n; message = Request t modes.ReadOnly op }) due.hears asks) due.unanswered in
+        let u = subst (λ (x : Body). IsUnanswered old x.message) (heard_is bytes due.body (record { sender = n; message = Request t modes.ReadOnly op }) due.receives asks) due.unanswered in
         absurd cc;
     fetched_digests = λ s n index level h asks st kept.
-        absurd (subst (λ (x : Body). IsUnanswered old x.message) (heard_is bytes due.body (record { sender = s; message = Fetch n level index }) due.hears asks) due.unanswered);
+        absurd (subst (λ (x : Body). IsUnanswered old x.message) (heard_is bytes due.body (record { sender = s; message = Fetch n level index }) due.receives asks) due.unanswered);
     fetched_page = λ s n index asks st kept.
-        absurd (subst (λ (x : Body). IsUnanswered old x.message) (heard_is bytes due.body (record { sender = s; message = Fetch n levels.Page index }) due.hears asks) due.unanswered);
+        absurd (subst (λ (x : Body). IsUnanswered old x.message) (heard_is bytes due.body (record { sender = s; message = Fetch n levels.Page index }) due.receives asks) due.unanswered);
     goes_on_by_digests = λ s n index level digests brings awaited.
-        absurd (subst (λ (x : Body). IsUnanswered old x.message) (heard_is bytes due.body (record { sender = s; message = Meta n level index digests }) due.hears brings) due.unanswered);
+        absurd (subst (λ (x : Body). IsUnanswered old x.message) (heard_is bytes due.body (record { sender = s; message = Meta n level index digests }) due.receives brings) due.unanswered);
     goes_on_by_page = λ s n index text brings awaited.
-        absurd (subst (λ (x : Body). IsUnanswered old x.message) (heard_is bytes due.body (record { sender = s; message = Page n index text }) due.hears brings) due.unanswered);
+        absurd (subst (λ (x : Body). IsUnanswered old x.message) (heard_is bytes due.body (record { sender = s; message = Page n index text }) due.receives brings) due.unanswered);
     fetches = λ n root quorum above later. absurd (no_checkpoints now l' p' k' st (record { number = n; digest = root }) quorum);
     fetches_start = λ n starts above later. absurd (let most = starts_low c me n now starts in let low = (still c me now st.plain).low_is in omega (arith, most, low, above));
     fetches_again = λ n index level tick asked above. absurd tick;
     view_changes = λ vc other moves may within says.
-        absurd (no_reason c me before bytes old.waiting vc.view (λ s x asks. subst (λ (y : Body). IsUnanswered old y.message) (heard_is bytes due.body (record { sender = s; message = ViewChange x }) due.hears asks) due.unanswered) moves);
+        absurd (no_reason c me before bytes old.waiting vc.view (λ s x asks. subst (λ (y : Body). IsUnanswered old y.message) (heard_is bytes due.body (record { sender = s; message = ViewChange x }) due.receives asks) due.unanswered) moves);
     new_views = λ new can. absurd (let left = can.left in let sent = (still c me now st.plain).target_is in omega (arith, left, sent));
     dropped = λ other is drops. due.dropped (subst (λ (bs : List ℕ). IsDropped c me before old bs) (sym (same_bytes other is)) drops);
   }

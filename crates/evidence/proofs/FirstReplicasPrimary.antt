@@ -9,7 +9,7 @@ use Rattle.protocol.specs.System.Configuration.{Configuration, IsConfiguration, 
 use Rattle.terms.specs.declared.order.Mode.TheVariants as modes
 use Rattle.wire_format.specs.Messages.{BodyData as Body, pre_prepare as PrePrepare}
 use Rattle.wire_format.specs.Words.{requests_of}
-use Rattle.signing.specs.Heard.{heard}
+use Rattle.signing.specs.AuthenticBody.{authentic}
 use Rattle.protocol.specs.System.Trace.{Entry, Once, Has}
 use Rattle.protocol.specs.System.Trace.Entry.{Got, Executed, Sent}
 use Rattle.protocol.specs.Replica.Certificates.{are_genuine, Committed}
@@ -99,7 +99,7 @@ module _ (clients : ℕ) (seed : List ℕ) (op : Operation) (batch : List ℕ) (
   abbrev k4 : ℕ → Bool
   k4 = and_of k3 1
 
-  hears_request : heard (members c) 0 w.request ≡ Some (asks op)
+  hears_request : authentic (members c) 0 w.request ≡ Some (asks op)
   hears_request = steps.hears_request self
 
   genuine : are_genuine c 0 batch ≡ true
@@ -194,7 +194,7 @@ module _ (clients : ℕ) (seed : List ℕ) (op : Operation) (batch : List ℕ) (
   unfolding no_replies
   due_request = record {
     body = asks op;
-    hears = hears_request;
+    receives = hears_request;
     unanswered = (refl, refl, refl);
     numbers = is_numbered h2 none none s2;
     numbers_once = (numbers_once, tt);

@@ -11,13 +11,13 @@ use Rattle.protocol.specs.System.Configuration.{Configuration, IsConfiguration, 
 use Rattle.terms.specs.declared.order.Mode.TheVariants as modes
 use Rattle.wire_format.specs.Messages.{BodyData as Body, MessageData as Message, FrameData as Frame, macs, request as Request, pre_prepare as PrePrepare, prepare as Prepare, commit as Commit, reply as Reply}
 use Rattle.wire_format.specs.Words.{carried, requests_of, receivers_of}
-use Rattle.signing.specs.Heard.{heard}
+use Rattle.signing.specs.AuthenticBody.{authentic}
 use Rattle.protocol.specs.System.Frames.{IsSealed}
 use Rattle.protocol.specs.System.Trace.{Entry, Once, Has}
 use Rattle.protocol.specs.System.Trace.Entry.{Sent}
 use Rattle.protocol.specs.Replica.Certificates.{are_genuine}
 use Rattle.protocol.specs.Replica.State.{State, Call, Ran, call_in, call_of, opening, execute, kept_by, last_time, run_frame, run_call, ran_in, ran_by}
-use Rattle.protocol.specs.Replica.RightReplica.{Point, first_point, waiting_after, with_waiting, still_waiting, snapshots_after, executed_point, IsFor, IsAddressed, HasSeen, MaySay, MaySend, SentInEvent}
+use Rattle.protocol.specs.Replica.RightReplica.{Point, first_point, waiting_after, with_waiting, still_waiting, snapshots_after, executed_point, IsFor, IsAddressed, HasSeen, MaySendMessage, MaySend, SentInEvent}
 use Rattle.evidence.specs.Examples.{four}
 use Rattle.evidence.specs.FirstOperation.{FirstFrames, IsFrameFrom, AreFirstFrames, first_answer}
 use Rattle.protocol.proofs.Points.Keeping.{executed_times}
@@ -106,8 +106,8 @@ module _ (o : Part) where
   abbrev c : Configuration
   c = four clients seed
 
-  pub hears_request : heard (members c) me o.frames.request ≡ Some (asks op)
-  hears_request = o.are_frames.asks.is_heard me (is_among me (range_with_len 0 4) o.member)
+  pub hears_request : authentic (members c) me o.frames.request ≡ Some (asks op)
+  hears_request = o.are_frames.asks.is_authentic_to me (is_among me (range_with_len 0 4) o.member)
 
   pub genuine : are_genuine c me batch ≡ true
   genuine = rw o.are_frames.requests (rw hears_request refl)
@@ -138,7 +138,7 @@ module _ (o : Part) where
       sym (ap (point_of opening []) (ap (λ (body : Option Body). option_map_or (with_waiting opening []) (option_and_then (call_in c) body) []) hears_request ∙ ap (λ (call : Option Call). option_map_or (with_waiting opening []) call []) calls))
 
   -- a message other than a request changes no waiting request
-  pub moves_quiet : (st : State) (rans : List Ran) (waiting : List Call) (bytes : List ℕ) (body : Body) → heard (members c) me bytes ≡ Some body → call_in c body ≡ None
+  pub moves_quiet : (st : State) (rans : List Ran) (waiting : List Call) (bytes : List ℕ) (body : Body) → authentic (members c) me bytes ≡ Some body → call_in c body ≡ None
       → point_of st [] waiting ≡ record (point_of st rans waiting) { ran = []; waiting = waiting_after c me (point_of st rans waiting) bytes }
   moves_quiet st rans waiting bytes body h none =
       sym (ap (point_of st []) (ap (λ (o : Option Body). option_map_or (with_waiting st waiting) (option_and_then (call_in c) o) waiting) h ∙ ap (λ (call : Option Call). option_map_or (with_waiting st waiting) call waiting) none))
@@ -163,13 +163,13 @@ module _ (o : Part) where
 
   pub may_send : (past : List Entry) (point : Point) (bytes : List ℕ) (message : Message) (receivers : List ℕ) → IsFrameFrom c me message receivers bytes
       → ((rs : List ℕ) → rs ≡ receivers → IsFor c me past message rs) → Each (λ frame. Once (HasSeen frame) past) (carried message)
-      → MaySay c me past point (Sent me bytes) bytes message → (SentInEvent bytes past → ⊥) → MaySend c me past point (Sent me bytes) bytes
-  may_send past point bytes message receivers f for seen say once = record {
+      → MaySendMessage c me past point (Sent me bytes) bytes message → (SentInEvent bytes past → ⊥) → MaySend c me past point (Sent me bytes) bytes
+  may_send past point bytes message receivers f for seen allowed once = record {
     body = record { sender = me; message = message };
     says = f.says;
     own = refl;
     seen = seen;
-    say = say;
+    allowed = allowed;
     is_sealed = λ frame is.
         let same : f.frame ≡ frame = some_injective f.frame frame (sym f.spells ∙ is) in
         subst (λ (y : Frame). IsSealed c y × IsAddressed c me past message y.authenticator) same (f.is_sealed, addressed);

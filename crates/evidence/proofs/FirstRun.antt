@@ -145,7 +145,7 @@ module _ (clients : ℕ) (seed : List ℕ) (op : Operation) (batch : List ℕ) (
 
   from_sender : (me n : ℕ) (past : List Move) → was_sent past n ≡ true → IsFromSender configuration me (map entry past) (the n).bytes
   from_sender me n past h = record {
-    hears = λ other is correct. sent other (heard_said configuration me (the n).bytes other is);
+    receives = λ other is correct. sent other (heard_said configuration me (the n).bytes other is);
     signed = λ other is correct. sent other (signed_said configuration (the n).bytes other is);
   }
     where

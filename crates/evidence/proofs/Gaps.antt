@@ -8,14 +8,14 @@ use Rattle.wire_format.specs.Messages.{BodyData as Body, MessageData as Message,
 use Rattle.protocol.specs.System.Trace.{Entry, party_of}
 use Rattle.protocol.specs.System.Trace.Entry.{Invoke, Got, Sent}
 use Rattle.protocol.specs.Replica.Certificates.{taken, low, is_in_marks, are_genuine, batch_from, batch_begun, begun_proposal, entry_proposal, proposal, logged}
-use Rattle.protocol.specs.Replica.RightReplica.{Point, HistoryReaches, SafeReplica, IsFree, MaySay, MaySend, May}
+use Rattle.protocol.specs.Replica.RightReplica.{Point, HistoryReaches, SafeReplica, IsFree, MaySendMessage, MaySend, May}
 use Rattle.evidence.specs.Certified.{LeavesNoGap}
 use Rattle.protocol.proofs.Words.Options.{and_then_some, then_some_gives, some_injective, or_else_second, or_else_cases}
 use Rattle.protocol.proofs.Agreement.Marks.{low_grows, takes, Proposes, proposes}
 use Rattle.protocol.proofs.Agreement.Offers.{entry_batch, marks_above}
 use Rattle.protocol.proofs.Agreement.Voting.{logged_stays}
 use Rattle.evidence.proofs.Certifying.{logs_what_begins}
-use Rattle.signing.proofs.Heard.{heard_was_opened}
+use Rattle.signing.proofs.AuthenticBody.{authentic_was_opened}
 
 -- ---- values that are there
 
@@ -31,17 +31,17 @@ given_at (x ∷ xs) (suc k) l = given_at xs k (omega (arith, l))
 -- ---- what an entry logs at the primary
 
 -- a pre-prepare that it sends for a number without a batch has the next number
-next_by : (c : Configuration) (me v i : ℕ) (batch : List ℕ) (past : List Entry) (point : Point) (e : Entry) (bytes : List ℕ) (sender : ℕ) (message : Message) → MaySay c me past point e bytes message
+next_by : (c : Configuration) (me v i : ℕ) (batch : List ℕ) (past : List Entry) (point : Point) (e : Entry) (bytes : List ℕ) (sender : ℕ) (message : Message) → MaySendMessage c me past point e bytes message
     → batch_from c me v i (record { sender = sender; message = message }) ≡ Some batch → logged c me past v i ≡ None → IsFree c me past point.state.number v i
-next_by c me v i batch past point e bytes sender (PrePrepare w number b) say h none =
+next_by c me v i batch past point e bytes sender (PrePrepare w number b) allowed h none =
     let g = then_some_gives ((w == v) && (number == i) && (sender == primary c v) && are_genuine c me b) b batch h in
     let p = and_parts ((w == v) && (number == i) && (sender == primary c v)) (are_genuine c me b) g.0 in
     let r = and_parts (w == v) (number == i) (and_parts ((w == v) && (number == i)) (sender == primary c v) p.0).0 in
     let next : logged c me past v i ≡ None → IsFree c me past point.state.number v i =
     subst (λ (x : ℕ). logged c me past x i ≡ None → IsFree c me past point.state.number x i) (eqb-true w v r.0)
-    (subst (λ (x : ℕ). logged c me past w x ≡ None → IsFree c me past point.state.number w x) (eqb-true number i r.1) say.next) in
+    (subst (λ (x : ℕ). logged c me past w x ≡ None → IsFree c me past point.state.number w x) (eqb-true number i r.1) allowed.next) in
     next none
-next_by c me v i batch past point e bytes sender _ say h none = absurd cc
+next_by c me v i batch past point e bytes sender _ allowed h none = absurd cc
 
 -- who proposes a batch is the view's primary
 proposer : (c : Configuration) (me v i : ℕ) (batch : List ℕ) (sender : ℕ) (message : Message) → batch_from c me v i (record { sender = sender; message = message }) ≡ Some batch → sender ≡ primary c v
@@ -57,12 +57,12 @@ entry_next : (c : Configuration) (me v i : ℕ) (batch : List ℕ) (e : Entry) (
 entry_next c me v i batch (Got p bytes) past point own party may h none =
     let t = entry_batch c me v i batch past (Got p bytes) h in
     let sender = proposer c me v i batch t.1.0.sender t.1.0.message t.1.2 in
-    absurd ((heard_was_opened (members c) p bytes t.1.0 t.1.1).other (sender ∙ own ∙ sym party))
+    absurd ((authentic_was_opened (members c) p bytes t.1.0 t.1.1).other (sender ∙ own ∙ sym party))
 entry_next c me v i batch (Sent p bytes) past point own party may h none =
     let t = entry_batch c me v i batch past (Sent p bytes) h in
     let m : MaySend c me past point (Sent p bytes) bytes = may in
-    let say : MaySay c me past point (Sent p bytes) bytes t.1.0.message = subst (λ (x : Body). MaySay c me past point (Sent p bytes) bytes x.message) (some_injective m.body t.1.0 (sym m.says ∙ t.1.1)) m.say in
-    next_by c me v i batch past point (Sent p bytes) bytes t.1.0.sender t.1.0.message say t.1.2 none
+    let allowed : MaySendMessage c me past point (Sent p bytes) bytes t.1.0.message = subst (λ (x : Body). MaySendMessage c me past point (Sent p bytes) bytes x.message) (some_injective m.body t.1.0 (sym m.says ∙ t.1.1)) m.allowed in
+    next_by c me v i batch past point (Sent p bytes) bytes t.1.0.sender t.1.0.message allowed t.1.2 none
 entry_next c me v i batch (Invoke x y z) past point own party may h none = absurd cc
 entry_next c me v i batch _ past point own party may h none = absurd cc
 

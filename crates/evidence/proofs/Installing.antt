@@ -14,8 +14,8 @@ use Rattle.protocol.proofs.Words.Paging.{header_at}
 use Rattle.protocol.specs.System.Configuration.{Configuration, members}
 use Rattle.wire_format.specs.Messages.{BodyData as Body, checkpoint as Checkpoint, meta as Meta, page as Page}
 use Rattle.space.specs.Pages.{header_text}
-use Rattle.signing.specs.Heard.{heard}
-use Rattle.protocol.specs.System.Trace.{Entry, Once, Hears}
+use Rattle.signing.specs.AuthenticBody.{authentic}
+use Rattle.protocol.specs.System.Trace.{Entry, Once, Receives}
 use Rattle.protocol.specs.System.Trace.Entry.{Got, Installed, Sent}
 use Rattle.protocol.specs.Replica.State.{IsReplicatedState, opening, root_of, page_text, all_pages, pages_of}
 use Rattle.protocol.specs.Replica.RightReplica.{Point, first_point, HistoryReaches, IsStep, IsInstalled, MayFetch, digests_at}
@@ -76,7 +76,7 @@ module _ (clients : ℕ) (seed : List ℕ) (w : InstallFrames) (differ : IsHeade
   abbrev inner_given : Body
   inner_given = record { sender = 1; message = Meta 16 levels.Inner 16 page_digests }
 
-  hears1 : heard (members c) 0 (w.checkpoint 1) ≡ Some (checkpoint_of 1)
+  hears1 : authentic (members c) 0 (w.checkpoint 1) ≡ Some (checkpoint_of 1)
   hears1 = f.checkpoints 1 (omega arith) (omega arith)
 
   -- ---- whose checkpoints there are
@@ -126,7 +126,7 @@ module _ (clients : ℕ) (seed : List ℕ) (w : InstallFrames) (differ : IsHeade
           (Taken.answers_are_taken c 0 1 16 512 h8 w.header (header_text later_state.space 16) f.gives_header asked)
       at false e =
           Taken.others_are_left c 0 16 i h8 w.header
-          (λ sender text hears place. absurd (eqb-false 512 i e (ap (λ (o : Option (ℕ × (Level × ℕ))). option_map_or (λ (x : ℕ × (Level × ℕ)). x.1.1) o 0) (sym asked ∙ place))))
+          (λ sender text receives place. absurd (eqb-false 512 i e (ap (λ (o : Option (ℕ × (Level × ℕ))). option_map_or (λ (x : ℕ × (Level × ℕ)). x.1.1) o 0) (sym asked ∙ place))))
           ∙ Taken.fetches_tell c 0 16 512 i levels.Page None h7 w.fetch_header f.asks_header.says
           ∙ none_at_7 i
 
@@ -162,7 +162,7 @@ module _ (clients : ℕ) (seed : List ℕ) (w : InstallFrames) (differ : IsHeade
   s7 = stage_meta clients seed root h6 w.below_inner 1 16 16 levels.Inner page_digests p3 (Some (16, (levels.Inner, 16))) 16 s6 refl f.gives_inner
 
   -- part 16 is the first that differs
-  abbrev part_differs : (past : List Entry) → ((i : ℕ) → took c 0 (Some 16) past i ≡ None) → Once (Hears c 0 root_given) past → DiffersFirst c 0 past (in_place c 0 16 past opening) root 16
+  abbrev part_differs : (past : List Entry) → ((i : ℕ) → took c 0 (Some 16) past i ≡ None) → Once (Receives c 0 root_given) past → DiffersFirst c 0 past (in_place c 0 16 past opening) root 16
   part_differs past none got = record {
     digests = root_digests;
     got = (refl, (1, 16, got));

@@ -13,8 +13,8 @@ use Rattle.authenticator.specs.Keys.{signing_seed}
 use Rattle.authenticator.specs.Authentic.{mac_of}
 use Rattle.authenticator.specs.Membership.{has_sender}
 use Rattle.signing.specs.Signatures.{public_key}
-use Rattle.signing.specs.Heard.{signs, has_signature, heard, signed_body}
-use Rattle.signing.proofs.Heard.{signed_is_heard, signed_was_signed}
+use Rattle.signing.specs.AuthenticBody.{signs, has_signature, authentic, signed_body}
+use Rattle.signing.proofs.AuthenticBody.{signed_is_authentic, signed_was_signed}
 use Rattle.protocol.specs.System.Configuration.{Configuration, primary, members}
 use Rattle.wire_format.specs.Words.{frame_of, said}
 use Rattle.protocol.specs.System.Frames.{IsSealed}
@@ -86,8 +86,8 @@ module _ (clients : ℕ) (seed : List ℕ) (me one other : ℕ) (first second ow
   now = Sent me own ∷ h2
 
   module _ (differ : one ≢ other) (first_other : one ≢ me) (second_other : other ≢ me) (x : ChangesInBeginning c one first) (y : ChangesInBeginning c other second) (z : ChangesInBeginning c me own) where
-    pub hears : (s : ℕ) (bytes : List ℕ) → s ≢ me → ChangesInBeginning c s bytes → heard (members c) me bytes ≡ Some (changing s)
-    hears s bytes other is = signed_is_heard (members c) me bytes (changing s) is other
+    pub receives : (s : ℕ) (bytes : List ℕ) → s ≢ me → ChangesInBeginning c s bytes → authentic (members c) me bytes ≡ Some (changing s)
+    receives s bytes other is = signed_is_authentic (members c) me bytes (changing s) is other
 
     pub says : said own ≡ Some (changing me)
     says = signed_said c own (changing me) z
@@ -95,9 +95,9 @@ module _ (clients : ℕ) (seed : List ℕ) (me one other : ℕ) (first second ow
     -- a view change that the replica receives changes neither view nor low mark
     plain : (past : List Entry) (s : ℕ) (bytes : List ℕ) → s ≢ me → ChangesInBeginning c s bytes → Plain c past (Got me bytes)
     plain past s bytes other is = record {
-      view = ap (option_and_then (new_view_from c)) (hears s bytes other is);
+      view = ap (option_and_then (new_view_from c)) (receives s bytes other is);
       change = refl;
-      checkpoint = ap (option_and_then checkpoint_from) (hears s bytes other is);
+      checkpoint = ap (option_and_then checkpoint_from) (receives s bytes other is);
       installed = refl;
     }
 
@@ -110,10 +110,10 @@ module _ (clients : ℕ) (seed : List ℕ) (me one other : ℕ) (first second ow
     -- ---- nothing is logged
 
     logs1 : (v i : ℕ) → logged c me h1 v i ≡ None
-    logs1 v i = logs_nothing c me [] (Got me first) (changing one) (hears one first first_other x) tt (taken_none c [] (Got me first) (plain [] one first first_other x)) v i ∙ none_logged c me v i
+    logs1 v i = logs_nothing c me [] (Got me first) (changing one) (receives one first first_other x) tt (taken_none c [] (Got me first) (plain [] one first first_other x)) v i ∙ none_logged c me v i
 
     logs2 : (v i : ℕ) → logged c me h2 v i ≡ None
-    logs2 v i = logs_nothing c me h1 (Got me second) (changing other) (hears other second second_other y) tt (taken_none c h1 (Got me second) (plain h1 other second second_other y)) v i ∙ logs1 v i
+    logs2 v i = logs_nothing c me h1 (Got me second) (changing other) (receives other second second_other y) tt (taken_none c h1 (Got me second) (plain h1 other second second_other y)) v i ∙ logs1 v i
 
     pub takes_own : taken c h2 (Sent me own) ≡ None
     takes_own = ap (option_and_then (λ (new : NewViewData). then_some (is_later (view c h2) (target h2) new) new)) (ap (option_and_then (new_view_from c)) says)
@@ -125,10 +125,10 @@ module _ (clients : ℕ) (seed : List ℕ) (me one other : ℕ) (first second ow
     unprepared past none v i batch p = absurd (let bad : None ≡ Some batch = sym (none v i) ∙ p.logged in cc)
 
     checks1 : (s : ℕ) → checkpoints_of c h1 s ≡ []
-    checks1 s = same_checkpoints c [] (Got me first) (changing one) (hears one first first_other x) tt s ∙ no_checkpoints c s
+    checks1 s = same_checkpoints c [] (Got me first) (changing one) (receives one first first_other x) tt s ∙ no_checkpoints c s
 
     checks2 : (s : ℕ) → checkpoints_of c h2 s ≡ []
-    checks2 s = same_checkpoints c h1 (Got me second) (changing other) (hears other second second_other y) tt s ∙ checks1 s
+    checks2 s = same_checkpoints c h1 (Got me second) (changing other) (receives other second second_other y) tt s ∙ checks1 s
 
     pub checks3 : (s : ℕ) → checkpoints_of c now s ≡ []
     checks3 s = same_checkpoints c h2 (Sent me own) (changing me) says tt s ∙ checks2 s
@@ -296,7 +296,7 @@ module _ (clients : ℕ) (seed : List ℕ) (me one other : ℕ) (first second ow
     due1 : Due c me [] first [] h1
     due1 = record {
       body = changing one;
-      hears = hears one first first_other x;
+      receives = receives one first first_other x;
       of_change = tt;
       checkpoints_are = checks1;
       low_is = still1.low_is;
@@ -312,7 +312,7 @@ module _ (clients : ℕ) (seed : List ℕ) (me one other : ℕ) (first second ow
     due2 : me ≢ 1 → Due c me h1 second (Sent me own ∷ []) now
     due2 backup = record {
       body = changing other;
-      hears = hears other second second_other y;
+      receives = receives other second second_other y;
       of_change = tt;
       checkpoints_are = checks3;
       low_is = low_same c me h2 (Sent me own) (ap (option_and_then checkpoint_from) says) refl (ap (option_and_then (new_view_from c)) says) ∙ still2.low_is;
@@ -322,7 +322,7 @@ module _ (clients : ℕ) (seed : List ℕ) (me one other : ℕ) (first second ow
       none_executed = none_executed;
       view_changes = λ v moves. moved v moves;
       no_view = λ new can. backup (sym can.primary ∙ ap (primary c) (can.view ∙ target_one));
-      dropped = λ drops. absurd (drops (changing other) (hears other second second_other y) counts);
+      dropped = λ drops. absurd (drops (changing other) (receives other second second_other y) counts);
     }
 
     pub owes1 : Owes c me [] (Got me first) [] h1 first_point first_point
@@ -354,17 +354,17 @@ module _ (clients : ℕ) (seed : List ℕ) (me one other : ℕ) (first second ow
       says = says;
       own = refl;
       seen = tt;
-      say = inl is_new;
+      allowed = inl is_new;
       is_sealed = λ frame is. signed_is_sealed c me h2 own (changing me) frame z is;
       leaf = λ leaf sent is was before. absurd (none_sent sent before);
       once = λ here. here;
     }
 
     pub gets1 : IsStep c me [] first_point (Got me first) first_point
-    gets1 = record { own = refl; may = tt; moves = moves_nothing c me first (changing one) (hears one first first_other x) tt }
+    gets1 = record { own = refl; may = tt; moves = moves_nothing c me first (changing one) (receives one first first_other x) tt }
 
     pub gets2 : IsStep c me h1 first_point (Got me second) first_point
-    gets2 = record { own = refl; may = tt; moves = moves_nothing c me second (changing other) (hears other second second_other y) tt }
+    gets2 = record { own = refl; may = tt; moves = moves_nothing c me second (changing other) (receives other second second_other y) tt }
 
     pub sends : IsStep c me h2 first_point (Sent me own) first_point
     sends = record { own = refl; may = may; moves = refl }

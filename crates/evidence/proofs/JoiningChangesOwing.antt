@@ -10,11 +10,11 @@ use Rattle.terms.specs.declared.order.Mode.TheVariants as modes
 use Rattle.terms.specs.declared.state.Level.TheVariants as levels
 use Rattle.wire_format.specs.Messages.{BodyData as Body, MessageData as Message, NewViewData, CheckpointEntryData as CheckpointEntry, request as Request, prepare as Prepare, view_change as ViewChange, new_view as NewView, fetch as Fetch, meta as Meta, page as Page}
 use Rattle.wire.proofs.Skipping.{none_chosen}
-use Rattle.signing.specs.Heard.{heard}
+use Rattle.signing.specs.AuthenticBody.{authentic}
 use Rattle.protocol.specs.System.Trace.{Entry, Has}
 use Rattle.protocol.specs.System.Trace.Entry.{Got}
 use Rattle.protocol.specs.Replica.Selection.{is_quorum}
-use Rattle.protocol.specs.Replica.Certificates.{brought, target, taken, is_active_in, is_in_marks, low, counts_at, logged, proposal, begun_proposal, entry_proposal, batch_begun, batch_from, checkpoints_of, with_checkpoint, checkpoint_from, checkpoint_in, says_checkpoint, count_checkpoints, Prepared}
+use Rattle.protocol.specs.Replica.Certificates.{brought, target, taken, is_active_in, is_in_marks, low, counts_at, logged, proposal, begun_proposal, entry_proposal, batch_begun, batch_from, checkpoints_of, with_checkpoint, checkpoint_from, checkpoint_in, lists_checkpoint, count_checkpoints, Prepared}
 use Rattle.protocol.specs.Replica.State.{Call, opening, call_in}
 use Rattle.protocol.specs.Replica.RightReplica.{Point, first_point, waiting_after, with_waiting, Executes}
 use Rattle.protocol.specs.Replica.Owed.{SendsMessage, AtOutputs, NumbersOnce, HasToMove, CanBeginView, IsDropped, Owes}
@@ -91,11 +91,11 @@ no_call c sender (NewView new) h = refl
 no_call c sender _ h = absurd h
 
 -- no request waits after a message of a view change
-pub moves_nothing : (c : Configuration) (me : ℕ) (bytes : List ℕ) (body : Body) → heard (members c) me bytes ≡ Some body → IsOfChange body.message
+pub moves_nothing : (c : Configuration) (me : ℕ) (bytes : List ℕ) (body : Body) → authentic (members c) me bytes ≡ Some body → IsOfChange body.message
     → first_point ≡ record first_point { ran = []; waiting = waiting_after c me first_point bytes }
-moves_nothing c me bytes body hears is =
+moves_nothing c me bytes body receives is =
     ap (λ (calls : List Call). let p : Point = record first_point { waiting = calls } in p)
-    (sym (ap (λ (o : Option Body). option_map_or (with_waiting opening []) (option_and_then (call_in c) o) []) hears
+    (sym (ap (λ (o : Option Body). option_map_or (with_waiting opening []) (option_and_then (call_in c) o) []) receives
     ∙ ap (λ (o : Option Call). option_map_or (with_waiting opening []) o []) (no_call c body.sender body.message is)))
 
 -- ---- what the replica owes
@@ -103,7 +103,7 @@ moves_nothing c me bytes body hears is =
 -- The proof obligations of an event in which the replica executes nothing and keeps its first point.
 pub record Due (c : Configuration) (me : ℕ) (before : List Entry) (bytes : List ℕ) (outputs now : List Entry) : Type 0 where
   pub body : Body
-  pub hears : heard (members c) me bytes ≡ Some body
+  pub receives : authentic (members c) me bytes ≡ Some body
   pub of_change : IsOfChange body.message
   pub checkpoints_are : (s : ℕ) → checkpoints_of c now s ≡ []
   pub low_is : low c me now ≡ 0
@@ -122,7 +122,7 @@ module _ (clients : ℕ) (seed : List ℕ) (me : ℕ) where
 
   no_quorum : (past : List Entry) → ((s : ℕ) → checkpoints_of c past s ≡ []) → (checkpoint : CheckpointEntry) → is_quorum c (count_checkpoints c past checkpoint) ≡ true → ⊥
   no_quorum past none checkpoint h =
-      let zero : count_checkpoints c past checkpoint ≡ 0 = count_none (λ s. says_checkpoint checkpoint (checkpoints_of c past s)) 4 (λ s. ap (says_checkpoint checkpoint) (none s)) in
+      let zero : count_checkpoints c past checkpoint ≡ 0 = count_none (λ s. lists_checkpoint checkpoint (checkpoints_of c past s)) 4 (λ s. ap (lists_checkpoint checkpoint) (none s)) in
       absurd (let worse : false ≡ true = subst (λ (n : ℕ). is_quorum c n ≡ true) zero h in cc)
 
   pub owes : (before : List Entry) (bytes : List ℕ) (outputs now : List Entry) → Due c me before bytes outputs now → Owes c me before (Got me bytes) outputs now first_point first_point
@@ -150,8 +150,8 @@ module _ (clients : ℕ) (seed : List ℕ) (me : ℕ) where
   }
     where
       -- the message that the replica receives is of a view change
-      only : (other : Body) → heard (members c) me bytes ≡ Some other → IsOfChange other.message
-      only other asks = subst (λ (b : Body). IsOfChange b.message) (some_injective due.body other (sym due.hears ∙ asks)) due.of_change
+      only : (other : Body) → authentic (members c) me bytes ≡ Some other → IsOfChange other.message
+      only other asks = subst (λ (b : Body). IsOfChange b.message) (some_injective due.body other (sym due.receives ∙ asks)) due.of_change
 
       same_bytes : (other : List ℕ) → Got me bytes ≡ Got me other → bytes ≡ other
       same_bytes other is = cc

@@ -1,10 +1,10 @@
--- What is in place while a transfer goes on.
+-- The state in place while a transfer goes on.
 use Rattle.std.proofs.Common.{◌≡◌, ℕ, List, [], ◌∷◌, map, refl, sym, ap, ap₂, ◌∙◌, subst, Option, Some, None}
 use Rattle.std.specs.Prelude.{⊤}
 use Rattle.std.specs.List.{range_with_len}
 use Rattle.std.specs.Option.{option_map_or}
 use Rattle.wire_format.specs.Messages.{BodyData as Body, MessageData as Message, page as Page}
-use Rattle.signing.specs.Heard.{heard}
+use Rattle.signing.specs.AuthenticBody.{authentic}
 use Rattle.protocol.specs.System.Configuration.{Configuration, members}
 use Rattle.protocol.specs.System.Trace.{Entry}
 use Rattle.protocol.specs.System.Trace.Entry.{Got}
@@ -26,10 +26,10 @@ pages_same f g same = map_same f g (range_with_len 0 1024) same
 abbrev pub IsNoPage : Message → Type 0
 IsNoPage message = elim message [ Page k i text ↦ ⊥ | _ ↦ ⊤ ]
 
-pub others_take_none : (c : Configuration) (me k i : ℕ) (past : List Entry) (bytes : List ℕ) (body : Body) → heard (members c) me bytes ≡ Some body → IsNoPage body.message → took c me (Some k) (Got me bytes ∷ past) i ≡ took c me None past i
+pub others_take_none : (c : Configuration) (me k i : ℕ) (past : List Entry) (bytes : List ℕ) (body : Body) → authentic (members c) me bytes ≡ Some body → IsNoPage body.message → took c me (Some k) (Got me bytes ∷ past) i ≡ took c me None past i
 others_take_none c me k i past bytes body h none =
     Taken.others_are_left c me k i past bytes
-    (λ sender text hears asked. subst IsNoPage (ap (λ (b : Body). b.message) (some_injective body (record { sender = sender; message = Page k i text }) (sym h ∙ hears))) none)
+    (λ sender text receives asked. subst IsNoPage (ap (λ (b : Body). b.message) (some_injective body (record { sender = sender; message = Page k i text }) (sym h ∙ receives))) none)
 
 -- If the replica has taken no page, the state's own page is in place. Otherwise the page that it has taken is in place.
 pub own_in_place : (c : Configuration) (me k i : ℕ) (past : List Entry) (st : State) → took c me (Some k) past i ≡ None → in_place c me k past st i ≡ page_text st i

@@ -10,7 +10,7 @@ use Rattle.tuple_codec.specs.Operations.{Operation, IsOperation}
 use Rattle.partition_tree.specs.Digests.{inner_digests, page_digests}
 use Rattle.wire_format.specs.Messages.{BodyData as Body, MessageData as Message, pre_prepare as PrePrepare, new_view as NewView, meta as Meta, page as Page}
 use Rattle.protocol.specs.System.Configuration.{Configuration, IsConfiguration, replicas, is_replica, is_client, is_faulty_replica, is_correct_replica, is_correct_client, is_correct, members}
-use Rattle.signing.specs.Heard.{heard, signed_body}
+use Rattle.signing.specs.AuthenticBody.{authentic, signed_body}
 use Rattle.protocol.specs.System.Trace.{Entry, party_of, is_output, history_of, Always, Has, Once, SendsBody, IsFromSender, frames_in}
 use Rattle.protocol.specs.System.Trace.Entry.{Invoke, Got, Tick, Executed, Installed, Sent}
 use Rattle.protocol.specs.Replica.State.{opening, page_text}
@@ -24,7 +24,7 @@ use Rattle.protocol.specs.System.Texts.IsUnder.{inner, top}
 use Rattle.protocol.specs.Client.RightClient.{open_call, last_call, MayInput, IsClient}
 use Rattle.protocol.specs.Replica.Owed.{IsReplica}
 use Rattle.protocol.specs.System.Run.{IsRun}
-use Rattle.evidence.specs.Premises.{WidestIsValid, NarrowestIsValid, ReplicasAreCorrect, ClientsAreCorrect, CorrectAreBoth, EachIsPrimary, PrimariesReturn, RunsHaveReplicas, RunsHaveClients, RunsGoOn, ReplicasGoOn, RunsTakeCalls, OthersAreUnforged, MayBeTaken, MayBeGot, FramesMayBeGot, FaultyHearAnything, IsOpeningText, HasText, BringsText, is_page, is_quiet, TextsAreFew}
+use Rattle.evidence.specs.Premises.{WidestIsValid, NarrowestIsValid, ReplicasAreCorrect, ClientsAreCorrect, CorrectAreBoth, EachIsPrimary, PrimariesReturn, RunsHaveReplicas, RunsHaveClients, RunsGoOn, ReplicasGoOn, RunsTakeCalls, OthersAreUnforged, MayBeTaken, MayBeGot, FramesMayBeGot, FaultyReceiveAnything, IsOpeningText, HasText, BringsText, is_page, is_quiet, TextsAreFew}
 use Rattle.protocol.proofs.Words.Temporal.{once_weaker, input_follows}
 use Rattle.protocol.proofs.Words.Options.{some_injective}
 use Rattle.wire_format.specs.Lists.{Each}
@@ -231,7 +231,7 @@ taken_was_sent c past (Some other) h body is correct = subst (λ (b : Body). Onc
 
 is_from_sender : (c : Configuration) (me : ℕ) (past : List Entry) (bytes : List ℕ) → MayBeGot c me past bytes → IsFromSender c me past bytes
 is_from_sender c me past bytes h = record {
-  hears = taken_was_sent c past (heard (members c) me bytes) h.0;
+  receives = taken_was_sent c past (authentic (members c) me bytes) h.0;
   signed = taken_was_sent c past (signed_body (members c) bytes) h.1;
 }
 
@@ -242,8 +242,8 @@ are_from_senders c me past (x ∷ xs) h = (is_from_sender c me past x h.0, are_f
 pub frames_may_be_got : FramesMayBeGot
 frames_may_be_got c me bytes trace unforged h = (λ correct. are_from_senders c me trace (frames_in bytes) h, unforged)
 
-pub faulty_hear_anything : FaultyHearAnything
-faulty_hear_anything c me bytes trace unforged faulty = (λ correct. let bad : false ≡ true = sym faulty ∙ correct in absurd cc, unforged)
+pub faulty_receive_anything : FaultyReceiveAnything
+faulty_receive_anything c me bytes trace unforged faulty = (λ correct. let bad : false ≡ true = sym faulty ∙ correct in absurd cc, unforged)
 
 -- ---- the texts whose digests must differ
 

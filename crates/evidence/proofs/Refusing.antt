@@ -12,8 +12,8 @@ use Rattle.protocol.specs.System.Configuration.{Configuration, replicas, span, i
 use Rattle.terms.specs.declared.order.Mode.{Mode}
 use Rattle.terms.specs.declared.order.Mode.TheVariants as modes
 use Rattle.wire_format.specs.Messages.{fetch as Fetch, BodyData as Body, FrameData as Frame, AuthenticatorData as Authenticator, MacData, macs, signature, ViewChangeData, NewViewData, BatchEntryData as BatchEntry, pre_prepare as PrePrepare, prepare as Prepare, commit as Commit, checkpoint as Checkpoint, view_change as ViewChange, new_view as NewView, reply as Reply, meta as Meta, page as Page}
-use Rattle.signing.specs.Heard.{heard}
-use Rattle.protocol.specs.System.Trace.{Entry, Once, Always, Has, AreOutputs, Hears}
+use Rattle.signing.specs.AuthenticBody.{authentic}
+use Rattle.protocol.specs.System.Trace.{Entry, Once, Always, Has, AreOutputs, Receives}
 use Rattle.protocol.specs.System.Trace.Entry.{Invoke, Got, Tick, Executed, Installed, Sent, Accepted}
 use Rattle.protocol.specs.Replica.Selection.{is_quorum, is_weak_quorum, passes_by, count_in, vouches, agrees, may_stand_at, may_be_null, null_batch, is_null, is_within, changes_of, how_many_batches}
 use Rattle.protocol.specs.Replica.Certificates.{target, view, is_active_in, is_later, new_view_in, logged, low}
@@ -21,18 +21,18 @@ use Rattle.reply_cache.specs.Replies.{Kept}
 use Rattle.protocol.specs.Replica.State.{State, Ran, opening, kept_of, page_text}
 use Rattle.protocol.specs.Replica.RightReplica.{MayNewView, IsRootWanted, MayFetch, MayMeta, MayPage, kept_states, digests_at, IsAddressed, Point, HistoryReaches, SafeReplica, May, MovesPoint, MaySend, MayCheckpoint, MayPrepare, MayCommit, MayPrePrepare, MayReply, MayReplyRead, MayViewChange, SendsBytes, SentInEvent, reply_of, GetsPage}
 use Rattle.protocol.specs.Client.RightClient.{Vote, latest, is_alike, count_alike}
-use Rattle.evidence.specs.Refused.{SealsWell, SignsWell, SignsOnceByLeaf, SendsNoFrameTwice, PrePreparesAsPrimary, PrePreparesInMarks, NoPrePrepareAfterChange, CheckpointsMultiples, BeginsAsPrimary, ReadsWhatWasAsked, DigestsToWhoAsked, PagesToWhoAsked, IsReplyOf, ExecutesWhatIsCommitted, GivesKeptDigests, GivesKeptPages, GivesAskedDigests, GivesAskedPages, RepliesWhatRan, DropsUnaskedDigests, DropsUnaskedPages, ProposesAuthentic, ReadsNewest, NoChangeWhileActive, DropsReplies, DropsOwnFrames, FetchesWhatIsWanted, FetchesAbove, RepliesToItsClient, CommitsToAll, NoExecution, newest_number, SoManyHave, HasFrom, SaysNothingAgainst, SaysForIt, SaysNothing, RepliesAfterExecution, NoCommitAfterChange, NoPrepareAfterChange, NoEarlyCheckpoint, OnePrePrepare, NoPrepareByPrimary, ExecutesNext, KeepsPrepared, InstallsWhatItHas, InstallsWithHeader, TakesWellSelected, TakesNoLower, AcceptsAtQuorum}
+use Rattle.evidence.specs.Refused.{SealsWell, SignsWell, SignsOnceByLeaf, SendsNoFrameTwice, PrePreparesAsPrimary, PrePreparesInMarks, NoPrePrepareAfterChange, CheckpointsMultiples, BeginsAsPrimary, ReadsWhatWasAsked, DigestsToWhoAsked, PagesToWhoAsked, IsReplyOf, ExecutesWhatIsCommitted, SendsKeptDigests, SendsKeptPages, SendsAskedDigests, SendsAskedPages, RepliesWhatRan, DropsUnaskedDigests, DropsUnaskedPages, ProposesAuthentic, ReadsNewest, NoChangeWhileActive, DropsReplies, DropsOwnFrames, FetchesWhatIsWanted, FetchesAbove, RepliesToItsClient, CommitsToAll, NoExecution, newest_number, SoManyHave, HasFrom, SaysNothingAgainst, SaysForIt, SaysNothing, RepliesAfterExecution, NoCommitAfterChange, NoPrepareAfterChange, NoEarlyCheckpoint, OnePrePrepare, NoPrepareByPrimary, ExecutesNext, KeepsPrepared, InstallsWhatItHas, InstallsWithHeader, TakesWellSelected, TakesNoLower, AcceptsAtQuorum}
 use Rattle.wire_format.specs.Words.{requests_of, frame_of, said}
-use Rattle.protocol.specs.Replica.Owed.{IsSaying, Owes, Counts, IsReplica}
+use Rattle.protocol.specs.Replica.Owed.{IsSending, Owes, Counts, IsReplica}
 use Rattle.protocol.proofs.Words.Temporal.{once_weaker, once_stays_from}
 use Rattle.protocol.proofs.Words.Options.{and_then_some, then_some_gives, some_injective}
 use Rattle.protocol.proofs.Agreement.Voting.{right_always, logged_stays}
 use Rattle.protocol.proofs.Agreement.Marks.{Selects, selects, selected_in, takes}
 use Rattle.protocol.proofs.Words.Lists.{passes_change, change_there, largest_of-has, stands_at, some_below}
-use Rattle.protocol.proofs.Points.Reading.{latest_heard, own_entries}
+use Rattle.protocol.proofs.Points.Reading.{latest_received, own_entries}
 use Rattle.protocol.proofs.Agreement.Changes.{change_target, target_grows}
 use Rattle.protocol.proofs.Agreement.Offers.{offer_in, offers_kept, marks_above}
-use Rattle.signing.proofs.Heard.{heard_was_opened}
+use Rattle.signing.proofs.AuthenticBody.{authentic_was_opened}
 use Rattle.protocol.proofs.Words.Linking.{heard_said, Speaks}
 use Rattle.protocol.proofs.Words.Leaving.{none_kept, executed_number}
 use Rattle.protocol.proofs.Words.Paging.{header_at}
@@ -81,16 +81,16 @@ replies_after_execution c me client timestamp number answer bytes past says none
 
 -- ---- after a view change
 
-pub above_target : (me : ℕ) (vc : ViewChangeData) (past : List Entry) → Once (λ earlier. IsSaying me (ViewChange vc)) past → vc.view ≤ target past
+pub above_target : (me : ℕ) (vc : ViewChangeData) (past : List Entry) → Once (λ earlier. IsSending me (ViewChange vc)) past → vc.view ≤ target past
 above_target me vc past h =
     once_stays_from (λ x. vc.view ≤ target x) (λ e x k. let grows = target_grows e x in omega arith) past
-    (once_weaker (λ earlier. IsSaying me (ViewChange vc)) (λ x e. vc.view ≤ target (e ∷ x)) (λ x e t. change_target me vc x e (speaks x e t)) past h)
+    (once_weaker (λ earlier. IsSending me (ViewChange vc)) (λ x e. vc.view ≤ target (e ∷ x)) (λ x e t. change_target me vc x e (speaks x e t)) past h)
   where
-    speaks : (x : List Entry) (e : Entry) → IsSaying me (ViewChange vc) e → Speaks (record { sender = me; message = ViewChange vc }) x e
+    speaks : (x : List Entry) (e : Entry) → IsSending me (ViewChange vc) e → Speaks (record { sender = me; message = ViewChange vc }) x e
     speaks x (Sent p bytes) t = t
     speaks x _ t = absurd t
 
-inactive : (c : Configuration) (me v : ℕ) (vc : ViewChangeData) (past : List Entry) → Once (λ earlier. IsSaying me (ViewChange vc)) past → v < vc.view → is_active_in c past v ≡ true → ⊥
+inactive : (c : Configuration) (me v : ℕ) (vc : ViewChangeData) (past : List Entry) → Once (λ earlier. IsSending me (ViewChange vc)) past → v < vc.view → is_active_in c past v ≡ true → ⊥
 inactive c me v vc past h above active =
     let a = above_target me vc past h in
     let b : target past ≤ v = leb-true (target past) v (and_parts (view c past == v) (nat_le (target past) v) active).1 in
@@ -117,10 +117,10 @@ pub one_pre_prepare : OnePrePrepare
 one_pre_prepare c me v i a b bytes past says earlier right =
     let m : MayPrePrepare c me past right.1.0 (Sent me bytes) v i b = says_may c me bytes (record { sender = me; message = PrePrepare v i b }) past right says in
     let kept = offers_kept c me v i a past (right_always c me past right.1.0 right.1.1)
-    (once_weaker (λ earlier. IsSaying me (PrePrepare v i a)) (λ x e. offer_in v i e ≡ Some a) offers past earlier) in
+    (once_weaker (λ earlier. IsSending me (PrePrepare v i a)) (λ x e. offer_in v i e ≡ Some a) offers past earlier) in
     go m kept.place
   where
-    offers : (x : List Entry) (e : Entry) → IsSaying me (PrePrepare v i a) e → offer_in v i e ≡ Some a
+    offers : (x : List Entry) (e : Entry) → IsSending me (PrePrepare v i a) e → offer_in v i e ≡ Some a
     offers x (Sent p sent) t = rw t (rw (eq-eqb v v refl, eq-eqb i i refl) refl)
     offers x _ t = absurd t
 
@@ -200,7 +200,7 @@ installs_with_header c me k root past right = go (is_own_or_got c me k 512 past 
 pub proposes_authentic : ProposesAuthentic
 proposes_authentic c me v i batch bytes request past says right has =
     let m : MayPrePrepare c me past right.1.0 (Sent me bytes) v i batch = says_may c me bytes (record { sender = me; message = PrePrepare v i batch }) past right says in
-    there (heard (members c) me request) (every_has (λ (x : List ℕ). is_some (heard (members c) me x)) (requests_of batch) request m.genuine has)
+    there (authentic (members c) me request) (every_has (λ (x : List ℕ). is_some (authentic (members c) me x)) (requests_of batch) request m.genuine has)
   where
     there : (o : Option Body) → is_some o ≡ true → (body : Body) × (o ≡ Some body)
     there None h = absurd cc
@@ -236,7 +236,7 @@ begins_as_primary c me new bytes past says right =
 pub reads_what_was_asked : ReadsWhatWasAsked
 reads_what_was_asked c me client timestamp number answer bytes past says right =
     let m : MayReplyRead c me past right.1.0 client timestamp number answer = says_may c me bytes (record { sender = me; message = Reply client timestamp modes.ReadOnly number answer }) past right says in
-    (m.op, m.is_read, m.heard, right.1.0, right.1.1, m.answer_is)
+    (m.op, m.is_read, m.authentic, right.1.0, right.1.1, m.answer_is)
 
 pub reads_newest : ReadsNewest
 reads_newest c me client timestamp number answer bytes past says right =
@@ -246,37 +246,37 @@ reads_newest c me client timestamp number answer bytes past says right =
 pub no_change_while_active : NoChangeWhileActive
 no_change_while_active c me bytes vc past says before active right = go (says_may c me bytes (record { sender = me; message = ViewChange vc }) past right says)
   where
-    sends : (x : List Entry) (e : Entry) → SendsBytes bytes x e → IsSaying me (ViewChange vc) e
+    sends : (x : List Entry) (e : Entry) → SendsBytes bytes x e → IsSending me (ViewChange vc) e
     sends x (Sent p sent) h = subst (λ (ys : List ℕ). said ys ≡ Some (record { sender = me; message = ViewChange vc })) (sym h) says
     sends x _ h = absurd h
 
     go : MayViewChange c me past right.1.0 bytes vc → ⊥
     go (inl change) =
-        let a = above_target me vc past (once_weaker (SendsBytes bytes) (λ earlier. IsSaying me (ViewChange vc)) sends past before) in
+        let a = above_target me vc past (once_weaker (SendsBytes bytes) (λ earlier. IsSending me (ViewChange vc)) sends past before) in
         let b = change.newer in
         omega arith
     go (inr again) = let a = again.0 in omega arith
 
 -- ---- the answers
 
-pub gives_kept_digests : GivesKeptDigests
+pub gives_kept_digests : SendsKeptDigests
 gives_kept_digests c me k index level digests bytes past says none right =
     let m : MayMeta c me past right.1.0 k level index digests = says_may c me bytes (record { sender = me; message = Meta k level index digests }) past right says in
     let x = has_some (λ (st : State). (st.number ≡ k) × (digests ≡ digests_at st level index)) (kept_states (low c me past) right.1.0.snapshots) m.0 in
     none right.1.0 right.1.1 x.0 x.1 x.2.0 (sym x.2.1)
 
-pub gives_kept_pages : GivesKeptPages
+pub gives_kept_pages : SendsKeptPages
 gives_kept_pages c me k index text bytes past says none right =
     let m : MayPage c me past right.1.0 k index text = says_may c me bytes (record { sender = me; message = Page k index text }) past right says in
     let x = has_some (λ (st : State). (st.number ≡ k) × (text ≡ page_text st index)) (kept_states (low c me past) right.1.0.snapshots) m.0 in
     none right.1.0 right.1.1 x.0 x.1 x.2.0 (sym x.2.1)
 
-pub gives_asked_digests : GivesAskedDigests
+pub gives_asked_digests : SendsAskedDigests
 gives_asked_digests c me k index level digests bytes past says right =
     let m : MayMeta c me past right.1.0 k level index digests = says_may c me bytes (record { sender = me; message = Meta k level index digests }) past right says in
     m.1
 
-pub gives_asked_pages : GivesAskedPages
+pub gives_asked_pages : SendsAskedPages
 gives_asked_pages c me k index text bytes past says right =
     let m : MayPage c me past right.1.0 k index text = says_may c me bytes (record { sender = me; message = Page k index text }) past right says in
     m.1
@@ -312,31 +312,31 @@ owed_here c me bytes later past (inl h) = record { old = _; new = _; now = _; ow
 owed_here c me bytes later past (inr h) = absurd h.1
 
 -- if the replica gives an output, it has not dropped the input
-not_dropped : (c : Configuration) (me : ℕ) (bytes later : List ℕ) (past : List Entry) (body : Body) → heard (members c) me bytes ≡ Some body → IsReplica c me (Sent me later ∷ Got me bytes ∷ past)
+not_dropped : (c : Configuration) (me : ℕ) (bytes later : List ℕ) (past : List Entry) (body : Body) → authentic (members c) me bytes ≡ Some body → IsReplica c me (Sent me later ∷ Got me bytes ∷ past)
     → ((point : Point) → Counts c me past point bytes body.sender body.message → ⊥) → ⊥
-not_dropped c me bytes later past body hears h never =
+not_dropped c me bytes later past body receives h never =
     let o = owed_here c me bytes later past h in
     let none : Sent me later ∷ [] ≡ [] = o.owes.dropped bytes refl (λ other is k.
-    never o.old (subst (λ (x : Body). Counts c me past o.old bytes x.sender x.message) (some_injective other body (sym is ∙ hears)) k)) in
+    never o.old (subst (λ (x : Body). Counts c me past o.old bytes x.sender x.message) (some_injective other body (sym is ∙ receives)) k)) in
     absurd cc
 
 pub drops_replies : DropsReplies
-drops_replies c me s client timestamp number mode answer bytes later past hears h =
-    not_dropped c me bytes later past (record { sender = s; message = Reply client timestamp mode number answer }) hears h (λ point k. k)
+drops_replies c me s client timestamp number mode answer bytes later past receives h =
+    not_dropped c me bytes later past (record { sender = s; message = Reply client timestamp mode number answer }) receives h (λ point k. k)
 
 pub drops_unasked_digests : DropsUnaskedDigests
-drops_unasked_digests c me s k index level digests bytes later past hears other h =
-    not_dropped c me bytes later past (record { sender = s; message = Meta k level index digests }) hears h (λ point counts. other counts.0)
+drops_unasked_digests c me s k index level digests bytes later past receives other h =
+    not_dropped c me bytes later past (record { sender = s; message = Meta k level index digests }) receives h (λ point counts. other counts.0)
 
 pub drops_unasked_pages : DropsUnaskedPages
-drops_unasked_pages c me s k index text bytes later past hears other h =
-    not_dropped c me bytes later past (record { sender = s; message = Page k index text }) hears h (λ point counts. other counts.0)
+drops_unasked_pages c me s k index text bytes later past receives other h =
+    not_dropped c me bytes later past (record { sender = s; message = Page k index text }) receives h (λ point counts. other counts.0)
 
 pub drops_own_frames : DropsOwnFrames
 drops_own_frames c me body bytes later past says own h =
-    let none : Sent me later ∷ [] ≡ [] = (owed_here c me bytes later past h).owes.dropped bytes refl (λ other hears counts.
-    let same : other ≡ body = some_injective other body (sym (heard_said c me bytes other hears) ∙ says) in
-    absurd ((heard_was_opened (members c) me bytes other hears).other (ap (λ (b : Body). b.sender) same ∙ own))) in
+    let none : Sent me later ∷ [] ≡ [] = (owed_here c me bytes later past h).owes.dropped bytes refl (λ other receives counts.
+    let same : other ≡ body = some_injective other body (sym (heard_said c me bytes other receives) ∙ says) in
+    absurd ((authentic_was_opened (members c) me bytes other receives).other (ap (λ (b : Body). b.sender) same ∙ own))) in
     absurd cc
 
 pub fetches_what_is_wanted : FetchesWhatIsWanted
@@ -559,14 +559,14 @@ accepts_at_quorum c me k timestamp answer past right =
       λ s h. answers s m.1 m.4 m.1.mode (latest c me past timestamp m.1.mode s) refl h,
     )
   where
-    hears : (s : ℕ) (mode : Mode) (v : Vote) → latest c me past timestamp mode s ≡ Some v → Once (Hears c me (record { sender = s; message = Reply me timestamp mode v.number v.answer })) past
-    hears s mode v is = latest_heard c me timestamp mode s v past (own_entries c me past right.1) is
+    receives : (s : ℕ) (mode : Mode) (v : Vote) → latest c me past timestamp mode s ≡ Some v → Once (Receives c me (record { sender = s; message = Reply me timestamp mode v.number v.answer })) past
+    receives s mode v is = latest_received c me timestamp mode s v past (own_entries c me past right.1) is
 
     answers : (s : ℕ) (vote : Vote) → vote.answer ≡ answer → (mode : Mode) (o : Option Vote) → latest c me past timestamp mode s ≡ o → is_alike vote o ≡ true
-        → (other : Outcome) × (outcome_spelling other ≡ outcome_spelling answer) × Once (Hears c me (record { sender = s; message = Reply me timestamp mode vote.number other })) past
+        → (other : Outcome) × (outcome_spelling other ≡ outcome_spelling answer) × Once (Receives c me (record { sender = s; message = Reply me timestamp mode vote.number other })) past
     answers s vote same mode None is h = absurd cc
     answers s vote same mode (Some v) is h =
         let q = and_parts (v.number == vote.number) (bytes_eq (outcome_spelling v.answer) (outcome_spelling vote.answer)) h in
         let n : v.number ≡ vote.number = eqb-true v.number vote.number q.0 in
         let spelled = (bytes_eq-Decides (outcome_spelling v.answer) (outcome_spelling vote.answer)).0 q.1 in
-        (v.answer, spelled ∙ ap outcome_spelling same, subst (λ (i : ℕ). Once (Hears c me (record { sender = s; message = Reply me timestamp mode i v.answer })) past) n (hears s mode v is))
+        (v.answer, spelled ∙ ap outcome_spelling same, subst (λ (i : ℕ). Once (Receives c me (record { sender = s; message = Reply me timestamp mode i v.answer })) past) n (receives s mode v is))

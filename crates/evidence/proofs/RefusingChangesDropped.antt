@@ -11,7 +11,7 @@ use Rattle.protocol.specs.System.Configuration.{Configuration, primary, is_numbe
 use Rattle.terms.specs.declared.order.Mode.TheVariants as modes
 use Rattle.terms.specs.declared.state.Level.TheVariants as levels
 use Rattle.wire_format.specs.Messages.{BodyData as Body, MessageData as Message, ViewChangeData, CheckpointEntryData as CheckpointEntry, request as Request, pre_prepare as PrePrepare, prepare as Prepare, commit as Commit, checkpoint as Checkpoint, view_change as ViewChange, new_view as NewView, fetch as Fetch, meta as Meta, page as Page}
-use Rattle.signing.specs.Heard.{heard}
+use Rattle.signing.specs.AuthenticBody.{authentic}
 use Rattle.protocol.specs.System.Trace.{Entry, Has}
 use Rattle.protocol.specs.System.Trace.Entry.{Invoke, Got, Sent}
 use Rattle.protocol.specs.Replica.Selection.{is_within}
@@ -47,7 +47,7 @@ answered : (c : Configuration) (me s : ℕ) (message : Message) (bytes : List �
 answered c me s message bytes past a never =
     let e = event c me bytes a.later past a.is_replica in
     let none : Sent me a.later ∷ [] ≡ [] = e.owes.dropped bytes refl (λ other is k.
-    never e.old e.before (subst (λ (x : Body). Counts c me past e.old bytes x.sender x.message) (some_injective other (record { sender = s; message = message }) (sym is ∙ a.hears)) k)) in
+    never e.old e.before (subst (λ (x : Body). Counts c me past e.old bytes x.sender x.message) (some_injective other (record { sender = s; message = message }) (sym is ∙ a.receives)) k)) in
     absurd cc
 
 -- ---- requests
@@ -100,25 +100,25 @@ drops_passed_requests c me k timestamp op bytes past passed a =
 -- ---- ordering messages
 
 -- a message gives a value for a number only while the view is active and the number is in the marks
-record Given (c : Configuration) (me : ℕ) (past : List Entry) (v i : ℕ) (body : Body) (give : Body → Option (List ℕ)) (given : List ℕ) : Type 0 where
+record Given (c : Configuration) (me : ℕ) (past : List Entry) (v i : ℕ) (body : Body) (emit : Body → Option (List ℕ)) (given : List ℕ) : Type 0 where
   active : is_active_in c past v ≡ true
   in_marks : is_in_marks c (low c me past) i ≡ true
-  gives : give body ≡ Some given
+  gives : emit body ≡ Some given
 
-given_at : (c : Configuration) (me : ℕ) (past : List Entry) (v i : ℕ) (bytes : List ℕ) (body : Body) (give : Body → Option (List ℕ)) (given : List ℕ)
-    → heard (members c) me bytes ≡ Some body → vote_in c me past (Got me bytes) give v i ≡ Some given → Given c me past v i body give given
-given_at c me past v i bytes body give given hears h = go (is_active_in c past v) (is_in_marks c (low c me past) i) refl refl h
+given_at : (c : Configuration) (me : ℕ) (past : List Entry) (v i : ℕ) (bytes : List ℕ) (body : Body) (emit : Body → Option (List ℕ)) (given : List ℕ)
+    → authentic (members c) me bytes ≡ Some body → vote_in c me past (Got me bytes) emit v i ≡ Some given → Given c me past v i body emit given
+given_at c me past v i bytes body emit given receives h = go (is_active_in c past v) (is_in_marks c (low c me past) i) refl refl h
   where
-    go : (b d : Bool) → is_active_in c past v ≡ b → is_in_marks c (low c me past) i ≡ d → cond (b && d) (option_and_then give (heard (members c) me bytes)) None ≡ Some given
-        → Given c me past v i body give given
-    go true true e f k = record { active = e; in_marks = f; gives = sym (ap (option_and_then give) hears) ∙ k }
+    go : (b d : Bool) → is_active_in c past v ≡ b → is_in_marks c (low c me past) i ≡ d → cond (b && d) (option_and_then emit (authentic (members c) me bytes)) None ≡ Some given
+        → Given c me past v i body emit given
+    go true true e f k = record { active = e; in_marks = f; gives = sym (ap (option_and_then emit) receives) ∙ k }
     go true false e f k = absurd cc
     go false d e f k = absurd cc
 
 pub drops_pre_prepares_of_backups : DropsPrePreparesOfBackups
 drops_pre_prepares_of_backups c me s v i batch bytes past other a =
     answered c me s (PrePrepare v i batch) bytes past a (λ point leaves k.
-    let g = given_at c me past v i bytes (record { sender = s; message = PrePrepare v i batch }) (batch_from c me v i) batch a.hears k.0 in
+    let g = given_at c me past v i bytes (record { sender = s; message = PrePrepare v i batch }) (batch_from c me v i) batch a.receives k.0 in
     let t = then_some_gives ((v == v) && (i == i) && (s == primary c v) && are_genuine c me batch) batch batch g.gives in
     let p = and_parts ((v == v) && (i == i) && (s == primary c v)) (are_genuine c me batch) t.0 in
     other (sym (eqb-true s (primary c v) (and_parts ((v == v) && (i == i)) (s == primary c v) p.0).1)))
@@ -126,13 +126,13 @@ drops_pre_prepares_of_backups c me s v i batch bytes past other a =
 pub drops_pre_prepares_while_inactive : DropsPrePreparesWhileInactive
 drops_pre_prepares_while_inactive c me s v i batch bytes past idle a =
     answered c me s (PrePrepare v i batch) bytes past a (λ point leaves k.
-    let g = given_at c me past v i bytes (record { sender = s; message = PrePrepare v i batch }) (batch_from c me v i) batch a.hears k.0 in
+    let g = given_at c me past v i bytes (record { sender = s; message = PrePrepare v i batch }) (batch_from c me v i) batch a.receives k.0 in
     (absurd (let bad : false ≡ true = sym idle ∙ g.active in cc)))
 
 pub drops_pre_prepares_outside_marks : DropsPrePreparesOutsideMarks
 drops_pre_prepares_outside_marks c me s v i batch bytes past outside a =
     answered c me s (PrePrepare v i batch) bytes past a (λ point leaves k.
-    let g = given_at c me past v i bytes (record { sender = s; message = PrePrepare v i batch }) (batch_from c me v i) batch a.hears k.0 in
+    let g = given_at c me past v i bytes (record { sender = s; message = PrePrepare v i batch }) (batch_from c me v i) batch a.receives k.0 in
     absurd (let bad : false ≡ true = sym outside ∙ g.in_marks in cc))
 
 pub drops_second_pre_prepares : DropsSecondPrePrepares
@@ -142,7 +142,7 @@ drops_second_pre_prepares c me s v i batch other bytes past is a =
 pub drops_prepares_of_primaries : DropsPreparesOfPrimaries
 drops_prepares_of_primaries c me s v i digest bytes past is a =
     answered c me s (Prepare v i digest) bytes past a (λ point leaves k.
-    let g = given_at c me past v i bytes (record { sender = s; message = Prepare v i digest }) (prepare_from c s v i) digest a.hears k.0 in
+    let g = given_at c me past v i bytes (record { sender = s; message = Prepare v i digest }) (prepare_from c s v i) digest a.receives k.0 in
     let t = then_some_gives ((s == s) && (v == v) && (i == i) && not (s == primary c v)) digest digest g.gives in
     let p = and_parts ((s == s) && (v == v) && (i == i)) (not (s == primary c v)) t.0 in
     absurd (let bad : not true ≡ true = subst (λ (b : Bool). not b ≡ true) (eq-eqb s (primary c v) (sym is)) p.1 in cc))
@@ -150,7 +150,7 @@ drops_prepares_of_primaries c me s v i digest bytes past is a =
 pub drops_prepares_while_inactive : DropsPreparesWhileInactive
 drops_prepares_while_inactive c me s v i digest bytes past idle a =
     answered c me s (Prepare v i digest) bytes past a (λ point leaves k.
-    let g = given_at c me past v i bytes (record { sender = s; message = Prepare v i digest }) (prepare_from c s v i) digest a.hears k.0 in
+    let g = given_at c me past v i bytes (record { sender = s; message = Prepare v i digest }) (prepare_from c s v i) digest a.receives k.0 in
     (absurd (let bad : false ≡ true = sym idle ∙ g.active in cc)))
 
 pub drops_second_prepares : DropsSecondPrepares
@@ -160,7 +160,7 @@ drops_second_prepares c me s v i digest first bytes past is a =
 pub drops_commits_while_inactive : DropsCommitsWhileInactive
 drops_commits_while_inactive c me s v i digest bytes past idle a =
     answered c me s (Commit v i digest) bytes past a (λ point leaves k.
-    let g = given_at c me past v i bytes (record { sender = s; message = Commit v i digest }) (commit_from s v i) digest a.hears k.0 in
+    let g = given_at c me past v i bytes (record { sender = s; message = Commit v i digest }) (commit_from s v i) digest a.receives k.0 in
     (absurd (let bad : false ≡ true = sym idle ∙ g.active in cc)))
 
 pub drops_second_commits : DropsSecondCommits
@@ -212,7 +212,7 @@ drops_passed_checkpoints c me s k root bytes a b d past are below first second a
         go false false false false false false e0 e1 e2 e3 e4 e5 = refl
 
     brings : is_number k ≡ true → checkpoint_in c (Got me bytes) ≡ Some (s, checkpoint)
-    brings is = ap (option_and_then checkpoint_from) answers.hears ∙ ap (λ (x : Bool). then_some x (s, checkpoint)) is
+    brings is = ap (option_and_then checkpoint_from) answers.receives ∙ ap (λ (x : Bool). then_some x (s, checkpoint)) is
 
     now : is_number k ≡ true → checkpoints_of c (Got me bytes ∷ past) s ≡ a ∷ b ∷ d ∷ []
     now is =

@@ -1,11 +1,11 @@
--- What is refused of a list of items, clause by clause.
+-- The refusals of a list of items, clause by clause.
 use Rattle.std.proofs.Common.{◌≡◌, ℕ, zero, suc, ◌+◌, ◌≤◌, ◌<◌, inl, inr, List, [], ◌∷◌, ◌++◌, length, slice_get, refl, sym, subst, arith, Some}
 use Rattle.tuple_codec.specs.Operations.{Operation, Outcome}
 use Rattle.space.specs.Applying.{Contents, no_tuples}
 use Rattle.terms.specs.declared.order.Mode.TheVariants as modes
 use Rattle.wire_format.specs.Messages.{request as Request}
 use Rattle.protocol.specs.System.Configuration.{Configuration, members}
-use Rattle.signing.specs.Heard.{heard}
+use Rattle.signing.specs.AuthenticBody.{authentic}
 use Rattle.protocol.specs.System.Trace.{Entry, Once, Always, Has, frames_in}
 use Rattle.protocol.specs.System.Trace.Entry.{Invoke, Got, Accepted}
 use Rattle.protocol.specs.Space.Linear.{Item, item_outcome, item_after, LegalFrom, Invokes, Accepts, EntryAsks, NoneTwice, NeverFall}
@@ -68,7 +68,7 @@ lists_what_is_called c items trace item client covers has is correct =
 
 is_asked : (c : Configuration) (item : Item) (past : List Entry) (e : Entry) → EntryAsks c item.client item.timestamp item.op past e → IsAskedAt c item e
 is_asked c item past (Got p bytes) h =
-    let r = has_some (λ (frame : List ℕ). heard (members c) p frame ≡ Some (record { sender = item.client; message = Request item.timestamp modes.Ordered item.op })) (frames_in bytes) h.1 in
+    let r = has_some (λ (frame : List ℕ). authentic (members c) p frame ≡ Some (record { sender = item.client; message = Request item.timestamp modes.Ordered item.op })) (frames_in bytes) h.1 in
     (p, bytes, r.0, refl, h.0, r.1, r.2)
 is_asked c item past (Invoke k t o) h = absurd h
 is_asked c item past _ h = absurd h

@@ -11,7 +11,7 @@ use Rattle.protocol.specs.Replica.Certificates.{low}
 use Rattle.protocol.specs.Replica.State.{State, opening, execute, page_text}
 use Rattle.protocol.specs.Replica.RightReplica.{MayMeta, MayPage, IsNewViewChange, kept_states, checkpoint_of, digests_at, Point, HistoryReaches, May, MovesPoint, Executes}
 use Rattle.evidence.specs.RefusedChanges.{SendsNewChange}
-use Rattle.evidence.specs.RefusedKept.{GivesNoLowDigests, GivesNoLowPages, InstallsStateOf, HasSnapshot, ChangesFromLowMark, ListsNoneBelow, ListsSnapshots, ListsEachSnapshot, CheckpointsAscend}
+use Rattle.evidence.specs.RefusedKept.{SendsNoLowDigests, SendsNoLowPages, InstallsStateOf, HasSnapshot, ChangesFromLowMark, ListsNoneBelow, ListsSnapshots, ListsEachSnapshot, CheckpointsAscend}
 use Rattle.evidence.proofs.RefusingChanges.{new_change}
 use Rattle.evidence.proofs.RefusingRuns.{says_may}
 use Rattle.protocol.proofs.Words.Elements.{has_some, each_filtered, each_has, each_mapped, each_turned, each_weaker, has_filtered, has_mapped}
@@ -199,12 +199,12 @@ at_or_above low_mark k P snapshots h =
     let high = each_has (λ (st : State). (low_mark ≤ st.number) × ⊤) (kept_states low_mark snapshots) x.0 (kept_above (λ (st : State). ⊤) low_mark snapshots (each_any snapshots)) x.1 in
     subst (λ (n : ℕ). low_mark ≤ n) x.2.0 high.0
 
-pub gives_no_low_digests : GivesNoLowDigests
+pub gives_no_low_digests : SendsNoLowDigests
 gives_no_low_digests c me k index level digests bytes past says right =
     let m : MayMeta c me past right.1.0 k level index digests = says_may c me bytes (record { sender = me; message = Meta k level index digests }) past right says in
     at_or_above (low c me past) k (λ st. digests ≡ digests_at st level index) right.1.0.snapshots m.0
 
-pub gives_no_low_pages : GivesNoLowPages
+pub gives_no_low_pages : SendsNoLowPages
 gives_no_low_pages c me k index text bytes past says right =
     let m : MayPage c me past right.1.0 k index text = says_may c me bytes (record { sender = me; message = Page k index text }) past right says in
     at_or_above (low c me past) k (λ st. text ≡ page_text st index) right.1.0.snapshots m.0

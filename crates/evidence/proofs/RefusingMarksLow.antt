@@ -1,4 +1,4 @@
--- The definitions refuse a low mark below or above what was stable, installed or begun at.
+-- The definitions refuse a low mark below or above the number that was stable, installed or begun at.
 use Rattle.std.specs.Option.{option_map_or}
 use Rattle.std.proofs.Common.{◌≡◌, ℕ, ◌+◌, ◌*◌, ◌≤◌, ◌⊎◌, inl, inr, Bool, true, false, cond, ◌&&◌, ◌||◌, List, [], ◌∷◌, take, max, bytes_eq, refl, sym, ap, ap₂, ◌∙◌, subst, arith, Option, Some, None, eqb-true, eq-eqb}
 use Rattle.std.specs.Prelude.{◌==◌, nat_le}
@@ -11,7 +11,7 @@ use Rattle.wire_format.specs.Messages.{NewViewData, CheckpointEntryData as Check
 use Rattle.protocol.specs.System.Trace.{Entry, Once, Has}
 use Rattle.protocol.specs.System.Trace.Entry.{Installed}
 use Rattle.protocol.specs.Replica.Selection.{is_quorum}
-use Rattle.protocol.specs.Replica.Certificates.{taken, checkpoint_in, insert_checkpoint, with_checkpoint, checkpoints_of, says_checkpoint, count_checkpoints, is_stable, stable_at, installed_at, started_at, low}
+use Rattle.protocol.specs.Replica.Certificates.{taken, checkpoint_in, insert_checkpoint, with_checkpoint, checkpoints_of, lists_checkpoint, count_checkpoints, is_stable, stable_at, installed_at, started_at, low}
 use Rattle.evidence.specs.RefusedMarks.{IsStable, InstallsNumber, IsMarkAt, LowIsNoLower, LowIsMarked}
 use Rattle.protocol.proofs.Words.Temporal.{once_weaker, once_stays_from}
 use Rattle.protocol.proofs.Agreement.Checkpoints.{checkpoints_with, no_checkpoints}
@@ -24,33 +24,33 @@ use Rattle.protocol.proofs.Words.Elements.{has_of_any}
 abbrev pub entry_of : ℕ → List ℕ → CheckpointEntry
 entry_of k root = record { number = k; digest = root }
 
-said_has : (k : ℕ) (root : List ℕ) (checkpoints : List CheckpointEntry) → says_checkpoint (entry_of k root) checkpoints ≡ true → Has (λ (m : CheckpointEntry). (m.number ≡ k) × (m.digest ≡ root)) checkpoints
+said_has : (k : ℕ) (root : List ℕ) (checkpoints : List CheckpointEntry) → lists_checkpoint (entry_of k root) checkpoints ≡ true → Has (λ (m : CheckpointEntry). (m.number ≡ k) × (m.digest ≡ root)) checkpoints
 said_has k root checkpoints h =
     has_of_any (λ (m : CheckpointEntry). (m.number ≡ k) × (m.digest ≡ root)) (λ (m : CheckpointEntry). (m.number == k) && bytes_eq m.digest root)
     (λ m t. let p = and_parts (m.number == k) (bytes_eq m.digest root) t in (eqb-true m.number k p.0, (bytes_eq-Decides m.digest root).0 p.1)) checkpoints h
 
-has_said : (k : ℕ) (root : List ℕ) (checkpoints : List CheckpointEntry) → Has (λ (m : CheckpointEntry). (m.number ≡ k) × (m.digest ≡ root)) checkpoints → says_checkpoint (entry_of k root) checkpoints ≡ true
+has_said : (k : ℕ) (root : List ℕ) (checkpoints : List CheckpointEntry) → Has (λ (m : CheckpointEntry). (m.number ≡ k) × (m.digest ≡ root)) checkpoints → lists_checkpoint (entry_of k root) checkpoints ≡ true
 has_said k root [] h = absurd h
 has_said k root (m ∷ checkpoints) (inl h) = rw (eq-eqb m.number k h.0, (bytes_eq-Decides m.digest root).1 h.1) refl
 has_said k root (m ∷ checkpoints) (inr h) = go ((m.number == k) && bytes_eq m.digest root) (has_said k root checkpoints h)
   where
-    go : (b : Bool) → says_checkpoint (entry_of k root) checkpoints ≡ true → (b || says_checkpoint (entry_of k root) checkpoints) ≡ true
+    go : (b : Bool) → lists_checkpoint (entry_of k root) checkpoints ≡ true → (b || lists_checkpoint (entry_of k root) checkpoints) ≡ true
     go true e = refl
     go false e = e
 
 stable_of : (c : Configuration) (me : ℕ) (past : List Entry) (k : ℕ) (root : List ℕ) → IsStable c me past k root → is_stable c me past (entry_of k root) ≡ true
 stable_of c me past k root h =
     let more : count_below h.from (replicas c) ≤ count_checkpoints c past (entry_of k root) =
-    count_mono h.from (λ s. says_checkpoint (entry_of k root) (checkpoints_of c past s)) (replicas c) (λ s within t. has_said k root (checkpoints_of c past s) (h.alike s t)) in
+    count_mono h.from (λ s. lists_checkpoint (entry_of k root) (checkpoints_of c past s)) (replicas c) (λ s within t. has_said k root (checkpoints_of c past s) (h.alike s t)) in
     let full = h.enough in
-    and_from (is_quorum c (count_checkpoints c past (entry_of k root))) (says_checkpoint (entry_of k root) (checkpoints_of c past me))
+    and_from (is_quorum c (count_checkpoints c past (entry_of k root))) (lists_checkpoint (entry_of k root) (checkpoints_of c past me))
     (le-leb (2 * c.faults + 1) (count_checkpoints c past (entry_of k root)) (omega arith)) (has_said k root (checkpoints_of c past me) h.own)
 
 of_stable : (c : Configuration) (me : ℕ) (past : List Entry) (checkpoint : CheckpointEntry) → is_stable c me past checkpoint ≡ true → IsStable c me past checkpoint.number checkpoint.digest
 of_stable c me past checkpoint h =
-    let p = and_parts (is_quorum c (count_checkpoints c past checkpoint)) (says_checkpoint checkpoint (checkpoints_of c past me)) h in
+    let p = and_parts (is_quorum c (count_checkpoints c past checkpoint)) (lists_checkpoint checkpoint (checkpoints_of c past me)) h in
     record {
-      from = λ s. says_checkpoint checkpoint (checkpoints_of c past s);
+      from = λ s. lists_checkpoint checkpoint (checkpoints_of c past s);
       enough = leb-true (2 * c.faults + 1) (count_checkpoints c past checkpoint) p.0;
       alike = λ s t. said_has checkpoint.number checkpoint.digest (checkpoints_of c past s) t;
       own = said_has checkpoint.number checkpoint.digest (checkpoints_of c past me) p.1;
@@ -67,14 +67,14 @@ unfolding low
 low_at_first c me = refl
 
 -- if a list says a checkpoint after another one is added, the list said it before
-said_before : (checkpoint : CheckpointEntry) (x : ℕ × CheckpointEntry) (s : ℕ) (checkpoints : List CheckpointEntry) → is_checkpoint checkpoint x.1 ≡ false → says_checkpoint checkpoint (with_checkpoint s (Some x) checkpoints) ≡ true → says_checkpoint checkpoint checkpoints ≡ true
+said_before : (checkpoint : CheckpointEntry) (x : ℕ × CheckpointEntry) (s : ℕ) (checkpoints : List CheckpointEntry) → is_checkpoint checkpoint x.1 ≡ false → lists_checkpoint checkpoint (with_checkpoint s (Some x) checkpoints) ≡ true → lists_checkpoint checkpoint checkpoints ≡ true
 said_before checkpoint x s checkpoints other h = go (x.0 == s) h
   where
-    pick : (is_checkpoint checkpoint x.1 ≡ true) ⊎ (says_checkpoint checkpoint checkpoints ≡ true) → says_checkpoint checkpoint checkpoints ≡ true
+    pick : (is_checkpoint checkpoint x.1 ≡ true) ⊎ (lists_checkpoint checkpoint checkpoints ≡ true) → lists_checkpoint checkpoint checkpoints ≡ true
     pick (inl same) = absurd (let bad : false ≡ true = sym other ∙ same in cc)
     pick (inr was) = was
 
-    go : (b : Bool) → says_checkpoint checkpoint (cond b (take 3 (insert_checkpoint x.1 checkpoints)) checkpoints) ≡ true → says_checkpoint checkpoint checkpoints ≡ true
+    go : (b : Bool) → lists_checkpoint checkpoint (cond b (take 3 (insert_checkpoint x.1 checkpoints)) checkpoints) ≡ true → lists_checkpoint checkpoint checkpoints ≡ true
     go true k = pick (has_insert checkpoint x.1 checkpoints (has_take checkpoint 3 (insert_checkpoint x.1 checkpoints) k))
     go false k = k
 
@@ -90,25 +90,25 @@ stable_here c me checkpoint x e past is same h =
 
 low_stable : (c : Configuration) (me : ℕ) (checkpoint : CheckpointEntry) (xs : List Entry) → is_stable c me xs checkpoint ≡ true → checkpoint.number ≤ low c me xs
 low_stable c me checkpoint [] h =
-    let own = (and_parts (is_quorum c (count_checkpoints c [] checkpoint)) (says_checkpoint checkpoint (checkpoints_of c [] me)) h).1 in
-    absurd (let bad : false ≡ true = sym (ap (says_checkpoint checkpoint) (no_checkpoints c me)) ∙ own in cc)
+    let own = (and_parts (is_quorum c (count_checkpoints c [] checkpoint)) (lists_checkpoint checkpoint (checkpoints_of c [] me)) h).1 in
+    absurd (let bad : false ≡ true = sym (ap (lists_checkpoint checkpoint) (no_checkpoints c me)) ∙ own in cc)
 low_stable c me checkpoint (e ∷ past) h = go (checkpoint_in c e) refl (low_stable c me checkpoint past)
   where
-    parts : (is_quorum c (count_checkpoints c (e ∷ past) checkpoint) ≡ true) × (says_checkpoint checkpoint (checkpoints_of c (e ∷ past) me) ≡ true)
-    parts = and_parts (is_quorum c (count_checkpoints c (e ∷ past) checkpoint)) (says_checkpoint checkpoint (checkpoints_of c (e ∷ past) me)) h
+    parts : (is_quorum c (count_checkpoints c (e ∷ past) checkpoint) ≡ true) × (lists_checkpoint checkpoint (checkpoints_of c (e ∷ past) me) ≡ true)
+    parts = and_parts (is_quorum c (count_checkpoints c (e ∷ past) checkpoint)) (lists_checkpoint checkpoint (checkpoints_of c (e ∷ past) me)) h
 
-    before : ((s : ℕ) → says_checkpoint checkpoint (checkpoints_of c (e ∷ past) s) ≡ true → says_checkpoint checkpoint (checkpoints_of c past s) ≡ true) → is_stable c me past checkpoint ≡ true
+    before : ((s : ℕ) → lists_checkpoint checkpoint (checkpoints_of c (e ∷ past) s) ≡ true → lists_checkpoint checkpoint (checkpoints_of c past s) ≡ true) → is_stable c me past checkpoint ≡ true
     before f =
         let full = leb-true (2 * c.faults + 1) (count_checkpoints c (e ∷ past) checkpoint) parts.0 in
         let more : count_checkpoints c (e ∷ past) checkpoint ≤ count_checkpoints c past checkpoint =
-        count_mono (λ s. says_checkpoint checkpoint (checkpoints_of c (e ∷ past) s)) (λ s. says_checkpoint checkpoint (checkpoints_of c past s)) (replicas c) (λ s within t. f s t) in
-        and_from (is_quorum c (count_checkpoints c past checkpoint)) (says_checkpoint checkpoint (checkpoints_of c past me))
+        count_mono (λ s. lists_checkpoint checkpoint (checkpoints_of c (e ∷ past) s)) (λ s. lists_checkpoint checkpoint (checkpoints_of c past s)) (replicas c) (λ s within t. f s t) in
+        and_from (is_quorum c (count_checkpoints c past checkpoint)) (lists_checkpoint checkpoint (checkpoints_of c past me))
         (le-leb (2 * c.faults + 1) (count_checkpoints c past checkpoint) (omega arith)) (f me parts.1)
 
-    was : (o : Option (ℕ × CheckpointEntry)) → checkpoint_in c e ≡ o → ((s : ℕ) → says_checkpoint checkpoint (with_checkpoint s o (checkpoints_of c past s)) ≡ true → says_checkpoint checkpoint (checkpoints_of c past s) ≡ true)
+    was : (o : Option (ℕ × CheckpointEntry)) → checkpoint_in c e ≡ o → ((s : ℕ) → lists_checkpoint checkpoint (with_checkpoint s o (checkpoints_of c past s)) ≡ true → lists_checkpoint checkpoint (checkpoints_of c past s) ≡ true)
         → (is_stable c me past checkpoint ≡ true → checkpoint.number ≤ low c me past) → checkpoint.number ≤ low c me (e ∷ past)
     was o is f below =
-        let r = below (before (λ s t. f s (sym (ap (λ (y : Option (ℕ × CheckpointEntry)). says_checkpoint checkpoint (with_checkpoint s y (checkpoints_of c past s))) is) ∙ sym (ap (says_checkpoint checkpoint) (checkpoints_with c e past s)) ∙ t))) in
+        let r = below (before (λ s t. f s (sym (ap (λ (y : Option (ℕ × CheckpointEntry)). lists_checkpoint checkpoint (with_checkpoint s y (checkpoints_of c past s))) is) ∙ sym (ap (lists_checkpoint checkpoint) (checkpoints_with c e past s)) ∙ t))) in
         let grows = low_grows c me e past in
         omega arith
 

@@ -6,7 +6,7 @@ use Rattle.std.proofs.lemmas.Bool.{and_parts, leb-true, ltb-true}
 use Rattle.std.proofs.lemmas.Slice.Eq.{bytes_eq-Decides}
 use Rattle.protocol.specs.System.Configuration.{Configuration, members}
 use Rattle.wire_format.specs.Messages.{BodyData as Body, MessageData as Message, ViewChangeData, NewViewData, CheckpointEntryData as CheckpointEntry, view_change as ViewChange}
-use Rattle.signing.specs.Heard.{signed_body}
+use Rattle.signing.specs.AuthenticBody.{signed_body}
 use Rattle.protocol.specs.System.Trace.{Has}
 use Rattle.protocol.specs.Replica.Selection.{is_quorum, is_weak_quorum, signed_change, change_in, changes_of, list_of, count_in, ascending, is_within}
 use Rattle.evidence.specs.RefusedMarks.{SpellsChange, TakesWellFounded}

@@ -12,7 +12,7 @@ use Rattle.protocol.specs.Replica.Selection.{change_in, changes_of, may_select, 
 use Rattle.protocol.specs.Replica.Certificates.{view, view_after, target, new_view_from, latest_change}
 use Rattle.protocol.specs.Replica.State.{opening, root_of}
 use Rattle.protocol.specs.Replica.RightReplica.{SentBefore}
-use Rattle.protocol.specs.Replica.Owed.{IsSaying, AreKeysSpent, BringsChange, HasLatestChange, CanBeginView}
+use Rattle.protocol.specs.Replica.Owed.{IsSending, AreKeysSpent, BringsChange, HasLatestChange, CanBeginView}
 use Rattle.evidence.specs.Examples.{four}
 use Rattle.evidence.specs.ExamplesOfChanges.{beginning_change, beginning_view, ChangesInBeginning}
 use Rattle.evidence.specs.Refused.{ReplicaGoesOn}
@@ -38,7 +38,7 @@ is_latest c me now x (inl (bytes, other, signed, within, came, latest)) = inl (o
     brings : (past : List Entry) (e : Entry) → Comes c me x bytes past e → BringsChange c x past e
     brings past e (is, above, newer) = subst (λ (y : Entry). BringsChange c x past y) (sym is) (signed, (above, within, newer))
 is_latest c me now x (inr (bytes, own, says, sent, at)) =
-    inr (own, once_weaker (λ past e. e ≡ Sent me bytes) (λ past e. IsSaying me (ViewChange x.1) e) (λ past e is. subst (λ (y : Entry). IsSaying me (ViewChange x.1) y) (sym is) says) now sent, at)
+    inr (own, once_weaker (λ past e. e ≡ Sent me bytes) (λ past e. IsSending me (ViewChange x.1) e) (λ past e is. subst (λ (y : Entry). IsSending me (ViewChange x.1) y) (sym is) says) now sent, at)
 
 pub sends_new_views : SendsNewViews
 sends_new_views c me new input outputs past above view primary selected changes batches goes =

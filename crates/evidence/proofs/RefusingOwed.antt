@@ -4,7 +4,7 @@ use Rattle.std.specs.Prelude.{AllPairs, Some, None}
 use Rattle.std.proofs.lemmas.List.{reverse-reverse}
 use mathlib.Core.List.{reverse_aux}
 use Rattle.protocol.specs.System.Configuration.{Configuration}
-use Rattle.protocol.specs.System.Trace.{Entry, is_output, Once, Has, AreOutputs, either, Hears}
+use Rattle.protocol.specs.System.Trace.{Entry, is_output, Once, Has, AreOutputs, either, Receives}
 use Rattle.protocol.specs.System.Trace.Entry.{Got, Tick, Executed, Sent}
 use Rattle.protocol.specs.Replica.State.{State, root_of, Call}
 use Rattle.protocol.specs.Replica.RightReplica.{Point, HistoryReaches, Executes, IsInstalled, IsRootWanted, TimesOut, JoinsOthers}
@@ -98,26 +98,26 @@ kept_there st (x ∷ xs) (inl h) = inl (ap (λ (y : State). y.number) h, h)
 kept_there st (x ∷ xs) (inr h) = inr (kept_there st xs h)
 
 pub answers_reads : AnswersReads
-answers_reads c me client timestamp op answer bytes outputs past hears is answers goes =
+answers_reads c me client timestamp op answer bytes outputs past receives is answers goes =
     let e = event_of c me outputs (Got me bytes) past goes in
     subst (λ (number : ℕ). SendsMessage me (Reply client timestamp modes.ReadOnly number answer) outputs) (newest_state c me past e.old e.before)
     (subst (λ (given : Outcome). SendsMessage me (Reply client timestamp modes.ReadOnly e.old.state.number given) outputs) (answers e.old e.before)
-    (has_reverse _ outputs (e.owes.reads client timestamp op hears is)))
+    (has_reverse _ outputs (e.owes.reads client timestamp op receives is)))
 
 pub answers_digest_fetches : AnswersDigestFetches
-answers_digest_fetches c me s index level st bytes outputs past hears below kept goes =
+answers_digest_fetches c me s index level st bytes outputs past receives below kept goes =
     let e = event_of c me outputs (Got me bytes) past goes in
-    has_reverse _ outputs (e.owes.fetched_digests s st.number index level below hears st (kept_there st _ (kept e.old e.before)))
+    has_reverse _ outputs (e.owes.fetched_digests s st.number index level below receives st (kept_there st _ (kept e.old e.before)))
 
 pub answers_page_fetches : AnswersPageFetches
-answers_page_fetches c me s index st bytes outputs past hears kept goes =
+answers_page_fetches c me s index st bytes outputs past receives kept goes =
     let e = event_of c me outputs (Got me bytes) past goes in
-    has_reverse _ outputs (e.owes.fetched_page s st.number index hears st (kept_there st _ (kept e.old e.before)))
+    has_reverse _ outputs (e.owes.fetched_page s st.number index receives st (kept_there st _ (kept e.old e.before)))
 
 pub answers_again : AnswersAgain
-answers_again c me k op kept bytes outputs past hears is goes =
+answers_again c me k op kept bytes outputs past receives is goes =
     let e = event_of c me outputs (Got me bytes) past goes in
-    has_reverse _ outputs (e.owes.again k kept.timestamp op kept hears (is e.old e.before) refl)
+    has_reverse _ outputs (e.owes.again k kept.timestamp op kept receives (is e.old e.before) refl)
 
 pub answers_ran : AnswersRan
 answers_ran c me ran input outputs past has goes =
@@ -197,11 +197,11 @@ moves_for_reasons c me input outputs past goes =
     (e.old, e.before, λ vc bytes may within says reason. e.owes.view_changes vc bytes (has_to e.old.waiting vc.view reason) may within says)
   where
     has_to : (waiting : List Call) (v : ℕ) → TimesOut c me (input ∷ past) waiting v
-        ⊎ ((s : ℕ) × (other : ViewChangeData) × Hears c me (record { sender = s; message = ViewChange other }) past input × (view c past < other.view)
+        ⊎ ((s : ℕ) × (other : ViewChangeData) × Receives c me (record { sender = s; message = ViewChange other }) past input × (view c past < other.view)
         × (is_within c other ≡ true) × (latest_change c past s < other.view) × JoinsOthers c me (input ∷ past) v)
         → HasToMove c me past input waiting v
     has_to waiting v (inl t) = inl t
-    has_to waiting v (inr (s, other, hears, above, within, newer, joins)) = inr ((s, other, hears, (above, within, newer)), joins)
+    has_to waiting v (inr (s, other, receives, above, within, newer, joins)) = inr ((s, other, receives, (above, within, newer)), joins)
 
 pub sends_checkpoints : SendsCheckpoints
 sends_checkpoints c me k input outputs past executed multiple goes =
@@ -225,8 +225,8 @@ sends_checkpoints c me k input outputs past executed multiple goes =
 -- ---- a transfer
 
 pub asks_on : AsksOn
-asks_on c me s k digests bytes outputs past hears asked above wanted one other goes =
-    go (e.owes.goes_on_by_digests s k 0 levels.Root digests hears ((asked, subst (λ (n : ℕ). n < k) (sym (newest_state c me past e.old e.before)) above, wanted), λ root is. one root (later root is)))
+asks_on c me s k digests bytes outputs past receives asked above wanted one other goes =
+    go (e.owes.goes_on_by_digests s k 0 levels.Root digests receives ((asked, subst (λ (n : ℕ). n < k) (sym (newest_state c me past e.old e.before)) above, wanted), λ root is. one root (later root is)))
   where
     e : Event c me outputs (Got me bytes) past
     e = event_of c me outputs (Got me bytes) past goes
@@ -240,8 +240,8 @@ asks_on c me s k digests bytes outputs past hears asked above wanted one other g
     go (inr h) = absurd (other e.old e.before (h.1.1 ∙ one h.0 h.1.0))
 
 pub installs_fetched : InstallsFetched
-installs_fetched c me s k index text bytes outputs past hears asked above wanted one can none goes =
-    go (e.owes.goes_on_by_page s k index text hears ((asked, subst (λ (n : ℕ). n < k) (sym (newest_state c me past e.old e.before)) above, wanted), one))
+installs_fetched c me s k index text bytes outputs past receives asked above wanted one can none goes =
+    go (e.owes.goes_on_by_page s k index text receives ((asked, subst (λ (n : ℕ). n < k) (sym (newest_state c me past e.old e.before)) above, wanted), one))
   where
     e : Event c me outputs (Got me bytes) past
     e = event_of c me outputs (Got me bytes) past goes

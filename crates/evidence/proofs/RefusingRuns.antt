@@ -16,13 +16,13 @@ use Rattle.protocol.specs.System.Configuration.{Configuration, replicas, members
 use Rattle.terms.specs.declared.order.Mode.{Mode}
 use Rattle.terms.specs.declared.order.Mode.TheVariants as modes
 use Rattle.wire_format.specs.Messages.{BodyData as Body, MessageData as Message, BatchEntryData as BatchEntry, request as Request, view_change as ViewChange, new_view as NewView, reply as Reply}
-use Rattle.signing.specs.Heard.{heard}
+use Rattle.signing.specs.AuthenticBody.{authentic}
 use Rattle.wire_format.specs.Words.{said, receivers_of}
 use Rattle.protocol.specs.System.Frames.{same_mode}
 use Rattle.protocol.specs.System.Trace.{Entry, is_output, Once, Always, Has, AreOutputs, either}
 use Rattle.protocol.specs.System.Trace.Entry.{Invoke, Got, Tick, Sent, Accepted}
 use Rattle.protocol.specs.Replica.Certificates.{view, target, is_active_in, taken}
-use Rattle.protocol.specs.Replica.RightReplica.{SafeReplica, MaySay, MaySend, MayViewChange, MayNewView, SendsBytes}
+use Rattle.protocol.specs.Replica.RightReplica.{SafeReplica, MaySendMessage, MaySend, MayViewChange, MayNewView, SendsBytes}
 use Rattle.protocol.specs.Client.RightClient.{OpenCall, Vote, newest_vote, latest, is_alike, count_alike, is_complete, is_ordered_request_of, went_ordered, is_answered, Reaction, fallback, on_reply, on_got, reaction, IsRequest, IsReaction, MayInput, Reacts, IsClient}
 use Rattle.protocol.specs.Client.RightClient.Reaction.{nothing, asks, accepts}
 use Rattle.evidence.specs.RefusedRuns.{going_on, IsOrderedRequest, AcceptsAlike, AsksOrdered, FallsBack, AsksAtTicks, AsksAll, LogsNumbers, NoBeginWhileInactive, KeepsProposed, NoRequestByReplica, InstallsItsRoot, OutputsFollow}
@@ -72,19 +72,19 @@ asks_only c me call r outputs is h =
 abbrev pub vote_in : Mode → ℕ → Outcome → Vote
 vote_in mode number answer = record { mode = mode; number = number; answer = answer }
 
-pub brings : (c : Configuration) (me s t number : ℕ) (mode : Mode) (answer : Outcome) (bytes : List ℕ) (past : List Entry) → heard (members c) me bytes ≡ Some (record { sender = s; message = Reply me t mode number answer })
+pub brings : (c : Configuration) (me s t number : ℕ) (mode : Mode) (answer : Outcome) (bytes : List ℕ) (past : List Entry) → authentic (members c) me bytes ≡ Some (record { sender = s; message = Reply me t mode number answer })
     → newest_vote c me (Got me bytes ∷ past) t ≡ Some (vote_in mode number answer)
-brings c me s t number mode answer bytes past hears = rw hears (rw (eq-eqb s s refl, eq-eqb me me refl, eq-eqb t t refl) refl)
+brings c me s t number mode answer bytes past receives = rw receives (rw (eq-eqb s s refl, eq-eqb me me refl, eq-eqb t t refl) refl)
 
 pub alike : (vote : Vote) → is_alike vote (Some vote) ≡ true
 alike vote = and_from (vote.number == vote.number) (bytes_eq (outcome_spelling vote.answer) (outcome_spelling vote.answer)) (eq-eqb vote.number vote.number refl) ((bytes_eq-Decides (outcome_spelling vote.answer) (outcome_spelling vote.answer)).1 refl)
 
 pub accepts_alike : AcceptsAlike
-accepts_alike c me s number call mode answer bytes later from outputs past opened hears enough same are h =
+accepts_alike c me s number call mode answer bytes later from outputs past opened receives enough same are h =
     accepts_only c me call.timestamp answer (reaction c me (Got me bytes ∷ past)) outputs (ap (λ (o : Option OpenCall). option_map_or (on_got c me (Got me bytes ∷ past)) o nothing) opened ∙ votes ∙ completes) (gave c me later outputs (Got me bytes) past refl are h)
   where
     votes : on_got c me (Got me bytes ∷ past) call ≡ on_reply c me (Got me bytes ∷ past) call (vote_in mode number answer)
-    votes = ap (λ (o : Option Vote). option_map_or (on_reply c me (Got me bytes ∷ past) call) o nothing) (brings c me s call.timestamp number mode answer bytes past hears)
+    votes = ap (λ (o : Option Vote). option_map_or (on_reply c me (Got me bytes ∷ past) call) o nothing) (brings c me s call.timestamp number mode answer bytes past receives)
 
     each : (r : ℕ) → from r ≡ true → is_alike (vote_in mode number answer) (latest c me (Got me bytes ∷ past) call.timestamp mode r) ≡ true
     each r h = ap (is_alike (vote_in mode number answer)) (same r h) ∙ alike (vote_in mode number answer)
@@ -130,11 +130,11 @@ all_below test (suc n) h =
     rw (h n last) (ap suc below)
 
 pub falls_back : FallsBack
-falls_back c me s number call answer bytes later outputs past opened hears answered few never are h =
+falls_back c me s number call answer bytes later outputs past opened receives answered few never are h =
     asks_only c me call (reaction c me (Got me bytes ∷ past)) outputs (ap (λ (o : Option OpenCall). option_map_or (on_got c me (Got me bytes ∷ past)) o nothing) opened ∙ votes ∙ incomplete ∙ falls) (gave c me later outputs (Got me bytes) past refl are h)
   where
     votes : on_got c me (Got me bytes ∷ past) call ≡ on_reply c me (Got me bytes ∷ past) call (vote_in modes.ReadOnly number answer)
-    votes = ap (λ (o : Option Vote). option_map_or (on_reply c me (Got me bytes ∷ past) call) o nothing) (brings c me s call.timestamp number modes.ReadOnly answer bytes past hears)
+    votes = ap (λ (o : Option Vote). option_map_or (on_reply c me (Got me bytes ∷ past) call) o nothing) (brings c me s call.timestamp number modes.ReadOnly answer bytes past receives)
 
     incomplete : on_reply c me (Got me bytes ∷ past) call (vote_in modes.ReadOnly number answer) ≡ fallback c me (Got me bytes ∷ past) call
     incomplete = go (is_complete c me (Got me bytes ∷ past) call.timestamp (vote_in modes.ReadOnly number answer)) refl
@@ -217,10 +217,10 @@ outputs_follow c e other past later output differs run =
 
 -- a right replica may say what its newest frame says
 pub says_may : (c : Configuration) (me : ℕ) (bytes : List ℕ) (body : Body) (past : List Entry) (right : SafeReplica c me (Sent me bytes ∷ past)) → said bytes ≡ Some body
-    → MaySay c me past right.1.0 (Sent me bytes) bytes body.message
+    → MaySendMessage c me past right.1.0 (Sent me bytes) bytes body.message
 says_may c me bytes body past right h =
     let m : MaySend c me past right.1.0 (Sent me bytes) bytes = right.1.2.may in
-    subst (λ (x : Body). MaySay c me past right.1.0 (Sent me bytes) bytes x.message) (some_injective m.body body (sym m.says ∙ h)) m.say
+    subst (λ (x : Body). MaySendMessage c me past right.1.0 (Sent me bytes) bytes x.message) (some_injective m.body body (sym m.says ∙ h)) m.allowed
 
 pub logs_numbers : LogsNumbers
 logs_numbers c me v i batch past right h = (logged_within c me v i batch past (right_always c me past right.0 right.1) h).1
@@ -230,13 +230,13 @@ no_begin_while_inactive c me bytes new past says before right = go (says_may c m
   where
     -- if the replica has sent the new view before, its view is at least the new one
     begun : (x : List Entry) (e : Entry) → RightAt c me x e → SendsBytes bytes x e → new.view ≤ view c (e ∷ x)
-    begun x (Sent p sent) r t = pick say.1
+    begun x (Sent p sent) r t = pick allowed.1
       where
         spoken : said sent ≡ Some (record { sender = me; message = NewView new })
         spoken = subst (λ (ys : List ℕ). said ys ≡ Some (record { sender = me; message = NewView new })) (sym t) says
 
-        say : MayNewView c me x (Sent p sent) sent new
-        say = subst (λ (b : Body). MaySay c me x r.point (Sent p sent) sent b.message) (some_injective r.may.body (record { sender = me; message = NewView new }) (sym r.may.says ∙ spoken)) r.may.say
+        allowed : MayNewView c me x (Sent p sent) sent new
+        allowed = subst (λ (b : Body). MaySendMessage c me x r.point (Sent p sent) sent b.message) (some_injective r.may.body (record { sender = me; message = NewView new }) (sym r.may.says ∙ spoken)) r.may.allowed
 
         pick : (taken c x (Sent p sent) ≡ Some new) ⊎ ((is_active_in c x new.view ≡ true) × Once (SendsBytes sent) x) → new.view ≤ view c (Sent p sent ∷ x)
         pick (inl k) = let is = (takes c me x (Sent p sent) new k).view_is in omega arith

@@ -1,4 +1,4 @@
--- What is signed is heard.
+-- Signed frames are authentic to their receivers.
 use Rattle.std.proofs.Common.{◌≡◌, ◌≢◌, ℕ, zero, suc, ◌+◌, ◌-◌, ◌<◌, Bool, true, not, cond, List, ◌∷◌, ◌++◌, filter, Some, refl, sym, ap, ◌∙◌, arith}
 use Rattle.std.specs.Prelude.{◌==◌}
 use Rattle.std.specs.List.{range_with_len}
@@ -16,11 +16,11 @@ use Rattle.signing.specs.Lamport.{secret, public_hash, leaf_digest, bit_of}
 use Rattle.signing.specs.Merkle.{node}
 use Rattle.signing.specs.Signatures.{public_key, signed_bit, sibling_digest, signature_of}
 use Rattle.signing.proofs.Signed.{signature_of-verifies}
-use Rattle.signing.proofs.Heard.{verifies-Decides, signed_is_heard, signer_is_heard}
-use Rattle.signing.specs.Heard.{signed_body}
+use Rattle.signing.proofs.AuthenticBody.{verifies-Decides, signed_is_authentic, signer_is_authentic}
+use Rattle.signing.specs.AuthenticBody.{signed_body}
 use Rattle.protocol.specs.System.Configuration.{Configuration, replicas, is_replica, members}
 use Rattle.protocol.specs.System.Schedule.{signed_bytes}
-use Rattle.evidence.specs.RefusedSteps.{SignedFramesAreHeard}
+use Rattle.evidence.specs.RefusedSteps.{SignedFramesAreAuthentic}
 use Rattle.tuple_tree.proofs.NumberBytes.{no_bytes, bytes_more}
 use Rattle.wire_format.proofs.Saying.{reads_frames, reads_said}
 use Rattle.evidence.proofs.FirstFrames.{is_digest}
@@ -89,8 +89,8 @@ known : (c : Configuration) (replica : ℕ) (m : Message) → is_signed m ≡ tr
 known c replica (Request t mode op) s h = absurd cc
 known c replica _ s h = h
 
-pub signed_frames_are_heard : SignedFramesAreHeard
-signed_frames_are_heard c replica leaf message valid right within may kind short =
+pub signed_frames_are_authentic : SignedFramesAreAuthentic
+signed_frames_are_authentic c replica leaf message valid right within may kind short =
     let body : Body = record { sender = replica; message = message } in
     let text : List ℕ = body_spelling body in
     let seed : List ℕ = signing_seed c.seed replica in
@@ -107,7 +107,7 @@ signed_frames_are_heard c replica leaf message valid right within may kind short
       };
       spelled = refl;
     } in
-    let told : signed_body (members c) bytes ≡ Some body = signer_is_heard (members c) bytes body leaf within (known c replica message kind right) spelled in
+    let told : signed_body (members c) bytes ≡ Some body = signer_is_authentic (members c) bytes body leaf within (known c replica message kind right) spelled in
     record {
       frame = frame;
       made = signature_of seed leaf text;
@@ -118,6 +118,6 @@ signed_frames_are_heard c replica leaf message valid right within may kind short
       is_for =
           let l : replica < replicas c = ltb-true replica (replicas c) right in
           sym (without replica 0 replica (replicas c - suc replica) (replicas c) (omega arith) (omega arith));
-      is_heard = λ p other. signed_is_heard (members c) p bytes body told other;
+      is_authentic_to = λ p other. signed_is_authentic (members c) p bytes body told other;
       is_told = told;
     }

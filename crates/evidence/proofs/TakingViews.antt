@@ -11,7 +11,7 @@ use Rattle.quorum.specs.Votes.{or_else, has_digest}
 use Rattle.quorum.proofs.Counting.{count_mono, count_members}
 use Rattle.wire_format.specs.Messages.{BodyData as Body, AuthenticatorData as Authenticator, NewViewData, CheckpointEntryData as CheckpointEntry, macs, signature, pre_prepare as PrePrepare, prepare as Prepare, new_view as NewView, view_change as ViewChange}
 use Rattle.protocol.specs.System.Configuration.{Configuration, primary, members}
-use Rattle.signing.specs.Heard.{heard, signed_body}
+use Rattle.signing.specs.AuthenticBody.{authentic, signed_body}
 use Rattle.wire_format.specs.Words.{receivers_of}
 use Rattle.wire.proofs.Skipping.{none_chosen}
 use Rattle.protocol.specs.System.Trace.{Entry, Has}
@@ -22,7 +22,7 @@ use Rattle.protocol.specs.Replica.RightReplica.{first_point, others, IsAddressed
 use Rattle.protocol.specs.Replica.Owed.{Owes, IsReplica, NumbersOnce, SendsMessage}
 use Rattle.evidence.specs.Examples.{four}
 use Rattle.evidence.specs.ExamplesOfChanges.{holding_view, IsForOthers, NewViewsAreTaken}
-use Rattle.signing.proofs.Heard.{signed_is_heard}
+use Rattle.signing.proofs.AuthenticBody.{signed_is_authentic}
 use Rattle.protocol.proofs.Words.Moving.{no_reason}
 use Rattle.protocol.proofs.Words.Options.{some_injective}
 use Rattle.protocol.proofs.Words.Plain.{low_same}
@@ -67,13 +67,13 @@ module _ (clients : ℕ) (seed : List ℕ) (me : ℕ) (batch root a b d new_view
   now = Sent me prepare ∷ h1
 
   module _ (backup : me ≢ 1) (selected : may_select c new ≡ true) (signed : signed_body (members c) new_view ≡ Some begins) (x : IsForOthers c me prepares.message prepare) where
-    hears : heard (members c) me new_view ≡ Some begins
-    hears = signed_is_heard (members c) me new_view begins signed (λ is. backup (sym is))
+    receives : authentic (members c) me new_view ≡ Some begins
+    receives = signed_is_authentic (members c) me new_view begins signed (λ is. backup (sym is))
 
     -- ---- the new view is taken
 
     brings : new_view_in c (Got me new_view) ≡ Some new
-    brings = ap (option_and_then (new_view_from c)) hears ∙ ap (λ (t : Bool). then_some t new) selected
+    brings = ap (option_and_then (new_view_from c)) receives ∙ ap (λ (t : Bool). then_some t new) selected
 
     takes : taken c [] (Got me new_view) ≡ Some new
     unfolding view
@@ -84,7 +84,7 @@ module _ (clients : ℕ) (seed : List ℕ) (me : ℕ) (batch root a b d new_view
     view_is = ap (view_after (view c []) (target [])) brings
 
     stable_none : stable_at c me [] (Got me new_view) ≡ 0
-    stable_none = ap (λ (o : Option (ℕ × CheckpointEntry)). option_map_or (λ (y : ℕ × CheckpointEntry). cond (is_stable c me h1 y.1) y.1.number 0) o 0) (brings_no_checkpoint c (Got me new_view) begins hears tt)
+    stable_none = ap (λ (o : Option (ℕ × CheckpointEntry)). option_map_or (λ (y : ℕ × CheckpointEntry). cond (is_stable c me h1 y.1) y.1.number 0) o 0) (brings_no_checkpoint c (Got me new_view) begins receives tt)
 
     low_is : low c me h1 ≡ 0
     unfolding low
@@ -99,7 +99,7 @@ module _ (clients : ℕ) (seed : List ℕ) (me : ℕ) (batch root a b d new_view
 
     begun : (v i : ℕ) → logged c me h1 v i ≡ cond (is_in_marks c 0 i) (batch_begun v i new) None
     begun v i =
-        logs_begun c me [] (Got me new_view) begins hears tt v i
+        logs_begun c me [] (Got me new_view) begins receives tt v i
         ∙ ap (λ (o : Option (List ℕ)). or_else o (begun_proposal c me [] (Got me new_view) v i)) (none_logged c me v i)
         ∙ ap (λ (n : ℕ). cond (is_in_marks c n i) (option_and_then (batch_begun v i) (taken c [] (Got me new_view))) None) low_is
         ∙ ap (λ (o : Option NewViewData). cond (is_in_marks c 0 i) (option_and_then (batch_begun v i) o) None) takes
@@ -137,7 +137,7 @@ module _ (clients : ℕ) (seed : List ℕ) (me : ℕ) (batch root a b d new_view
         ∙ ap (option_and_then (prepare_from c s v i)) x.says
       where
         no_vote : vote_in c me [] (Got me new_view) (prepare_from c s v i) v i ≡ None
-        no_vote = none_chosen (counts_at c me [] (Got me new_view) v i) (option_and_then (prepare_from c s v i) (heard (members c) me new_view)) (ap (option_and_then (prepare_from c s v i)) hears)
+        no_vote = none_chosen (counts_at c me [] (Got me new_view) v i) (option_and_then (prepare_from c s v i) (authentic (members c) me new_view)) (ap (option_and_then (prepare_from c s v i)) receives)
 
         before : prepare_of c me h1 v i s ≡ None
         before =
@@ -161,7 +161,7 @@ module _ (clients : ℕ) (seed : List ℕ) (me : ℕ) (batch root a b d new_view
     checks : (s : ℕ) → checkpoints_of c now s ≡ []
     checks s =
         same_checkpoints c h1 (Sent me prepare) prepares x.says tt s
-        ∙ same_checkpoints c [] (Got me new_view) begins hears tt s ∙ no_checkpoints c s
+        ∙ same_checkpoints c [] (Got me new_view) begins receives tt s ∙ no_checkpoints c s
 
     -- ---- what the replica owes
 
@@ -182,7 +182,7 @@ module _ (clients : ℕ) (seed : List ℕ) (me : ℕ) (batch root a b d new_view
     due : Due c me [] new_view (Sent me prepare ∷ []) now
     due = record {
       body = begins;
-      hears = hears;
+      receives = receives;
       of_change = tt;
       checkpoints_are = checks;
       low_is = low_same c me h1 (Sent me prepare) (ap (option_and_then checkpoint_from) x.says) refl (ap (option_and_then (new_view_from c)) x.says) ∙ low_is;
@@ -190,9 +190,9 @@ module _ (clients : ℕ) (seed : List ℕ) (me : ℕ) (batch root a b d new_view
       numbers_once = (numbers_none, tt);
       prepares = λ v i given none some active_there other. gives v i given (only v i given (sym (logs v i) ∙ some));
       none_executed = none_executed;
-      view_changes = λ v moves. absurd (no_reason c me [] new_view [] v (λ s vc asks. absurd (let bad : None ≡ Some (s, vc) = ap change_in (some_injective begins (record { sender = s; message = ViewChange vc }) (sym hears ∙ asks)) in cc)) moves);
+      view_changes = λ v moves. absurd (no_reason c me [] new_view [] v (λ s vc asks. absurd (let bad : None ≡ Some (s, vc) = ap change_in (some_injective begins (record { sender = s; message = ViewChange vc }) (sym receives ∙ asks)) in cc)) moves);
       no_view = λ other can. let left = can.left in let sent : target now ≡ 0 = ap (λ (o : Option Body). max (option_map_or change_from o 0) 0) x.says in omega (arith, left, sent);
-      dropped = λ drops. absurd (drops begins hears takes);
+      dropped = λ drops. absurd (drops begins receives takes);
     }
 
     owes_it : Owes c me [] (Got me new_view) (Sent me prepare ∷ []) now first_point first_point
@@ -210,14 +210,14 @@ module _ (clients : ℕ) (seed : List ℕ) (me : ℕ) (batch root a b d new_view
       says = x.says;
       own = refl;
       seen = tt;
-      say = record { is_backup = λ is. backup (sym is); active = active; batch = batch; is_logged = here; digest_is = refl };
+      allowed = record { is_backup = λ is. backup (sym is); active = active; batch = batch; is_logged = here; digest_is = refl };
       is_sealed = λ frame is. let s = x.is_sealed frame is in (s.0, addressed frame.authenticator s.1);
       leaf = unsigned_have_no_leaf (h1) prepare (prepares) (x.says) refl;
       once = λ here. here;
     }
 
     gets : IsStep c me [] first_point (Got me new_view) first_point
-    gets = record { own = refl; may = tt; moves = moves_nothing c me new_view begins hears tt }
+    gets = record { own = refl; may = tt; moves = moves_nothing c me new_view begins receives tt }
 
     sends : IsStep c me h1 first_point (Sent me prepare) first_point
     sends = record { own = refl; may = may; moves = refl }

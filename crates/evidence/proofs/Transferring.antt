@@ -6,8 +6,8 @@ use Rattle.protocol.specs.System.Configuration.{Configuration, members}
 use Rattle.terms.specs.declared.state.Level.{Level}
 use Rattle.terms.specs.declared.state.Level.TheVariants as levels
 use Rattle.wire_format.specs.Messages.{BodyData as Body, MessageData as Message, checkpoint as Checkpoint, meta as Meta, page as Page}
-use Rattle.signing.specs.Heard.{heard}
-use Rattle.protocol.specs.System.Trace.{Entry, Once, Hears}
+use Rattle.signing.specs.AuthenticBody.{authentic}
+use Rattle.protocol.specs.System.Trace.{Entry, Once, Receives}
 use Rattle.protocol.specs.System.Trace.Entry.{Got, Sent}
 use Rattle.protocol.specs.Replica.State.{opening, all_pages, page_text}
 use Rattle.protocol.specs.Replica.Transfers.{took, in_place, DiffersFirst}
@@ -69,23 +69,23 @@ module _ (clients : ℕ) (seed : List ℕ) (x : Parts) (w : TransferFrames) (dif
   abbrev page_given : Body
   page_given = record { sender = 1; message = Page 16 0 x.text }
 
-  hears1 : heard (members c) 0 (w.checkpoint 1) ≡ Some (checkpoint_of 1)
-  hears1 = (f.checkpoints 1 (omega arith) (omega arith)).is_heard 0 (inl refl)
+  hears1 : authentic (members c) 0 (w.checkpoint 1) ≡ Some (checkpoint_of 1)
+  hears1 = (f.checkpoints 1 (omega arith) (omega arith)).is_authentic_to 0 (inl refl)
 
-  hears2 : heard (members c) 0 (w.checkpoint 2) ≡ Some (checkpoint_of 2)
-  hears2 = (f.checkpoints 2 (omega arith) (omega arith)).is_heard 0 (inl refl)
+  hears2 : authentic (members c) 0 (w.checkpoint 2) ≡ Some (checkpoint_of 2)
+  hears2 = (f.checkpoints 2 (omega arith) (omega arith)).is_authentic_to 0 (inl refl)
 
-  hears3 : heard (members c) 0 (w.checkpoint 3) ≡ Some (checkpoint_of 3)
-  hears3 = (f.checkpoints 3 (omega arith) (omega arith)).is_heard 0 (inl refl)
+  hears3 : authentic (members c) 0 (w.checkpoint 3) ≡ Some (checkpoint_of 3)
+  hears3 = (f.checkpoints 3 (omega arith) (omega arith)).is_authentic_to 0 (inl refl)
 
-  hears_root : heard (members c) 0 w.below_root ≡ Some root_given
-  hears_root = f.gives_root.is_heard 0 (inl refl)
+  hears_root : authentic (members c) 0 w.below_root ≡ Some root_given
+  hears_root = f.gives_root.is_authentic_to 0 (inl refl)
 
-  hears_inner : heard (members c) 0 w.below_inner ≡ Some inner_given
-  hears_inner = f.gives_inner.is_heard 0 (inl refl)
+  hears_inner : authentic (members c) 0 w.below_inner ≡ Some inner_given
+  hears_inner = f.gives_inner.is_authentic_to 0 (inl refl)
 
-  hears_page : heard (members c) 0 w.page ≡ Some page_given
-  hears_page = f.gives_page.is_heard 0 (inl refl)
+  hears_page : authentic (members c) 0 w.page ≡ Some page_given
+  hears_page = f.gives_page.is_authentic_to 0 (inl refl)
 
   -- ---- whose checkpoints there are
 
@@ -162,11 +162,11 @@ module _ (clients : ℕ) (seed : List ℕ) (x : Parts) (w : TransferFrames) (dif
   here_at_9 zero = taken_in_place c 0 16 0 h9 opening x.text (Taken.answers_are_taken c 0 1 16 0 h8 w.page x.text hears_page s8.asked_is)
   here_at_9 (suc i) = own_in_place c 0 16 (suc i) h9 opening
       (Taken.others_are_left c 0 16 (suc i) h8 w.page
-      (λ sender text hears asked. absurd (let index : 0 ≡ suc i = ap (λ (b : Body). page_index b.message) (some_injective page_given (record { sender = sender; message = Page 16 (suc i) text }) (sym hears_page ∙ hears)) in omega arith))
+      (λ sender text receives asked. absurd (let index : 0 ≡ suc i = ap (λ (b : Body). page_index b.message) (some_injective page_given (record { sender = sender; message = Page 16 (suc i) text }) (sym hears_page ∙ receives)) in omega arith))
       ∙ Taken.fetches_tell c 0 16 0 (suc i) levels.Page None h7 w.fetch_page f.asks_page.says ∙ none_at_7 (suc i))
 
   -- inner part 0 is the first that differs
-  abbrev part_differs : (past : List Entry) (pages : ℕ → List ℕ) → (digest_of_children (digests_of_pages x) ≢ inner_digest (all_pages pages) 0) → (here : (i : ℕ) → in_place c 0 16 past opening i ≡ pages i) → Once (Hears c 0 root_given) past
+  abbrev part_differs : (past : List Entry) (pages : ℕ → List ℕ) → (digest_of_children (digests_of_pages x) ≢ inner_digest (all_pages pages) 0) → (here : (i : ℕ) → in_place c 0 16 past opening i ≡ pages i) → Once (Receives c 0 root_given) past
       → DiffersFirst c 0 past (in_place c 0 16 past opening) root 0
   part_differs past pages other here got = record {
     digests = digests_of_inner_parts x;
@@ -236,7 +236,7 @@ module _ (clients : ℕ) (seed : List ℕ) (x : Parts) (w : TransferFrames) (dif
   counts_root = (s4.asked_is, omega arith, inl (inl (quorum_here clients seed root h4 p3 (asked levels.Root 0) 16 s4 refl)))
 
   -- the received digests of the root give the digest of inner part 0
-  wanted_inner : (past : List Entry) → IsRootWanted c past 16 root → Once (Hears c 0 root_given) past → IsInnerWanted c 0 past 16 0 (digest_of_children (digests_of_pages x))
+  wanted_inner : (past : List Entry) → IsRootWanted c past 16 root → Once (Receives c 0 root_given) past → IsInnerWanted c 0 past 16 0 (digest_of_children (digests_of_pages x))
   wanted_inner past is got = (root, digests_of_inner_parts x, is, (refl, (1, 16, got)), refl)
 
   counts_inner : Counts c 0 h6 first_point w.below_inner 1 (Meta 16 levels.Inner 0 (digests_of_pages x))

@@ -8,7 +8,7 @@ use Rattle.terms.specs.declared.order.Mode.TheVariants as modes
 use Rattle.terms.specs.declared.state.Level.{Level}
 use Rattle.terms.specs.declared.state.Level.TheVariants as levels
 use Rattle.wire_format.specs.Messages.{BodyData as Body, FrameData as Frame, MessageData as Message, request as Request, pre_prepare as PrePrepare, checkpoint as Checkpoint, fetch as Fetch, meta as Meta, page as Page, view_change as ViewChange}
-use Rattle.signing.specs.Heard.{heard}
+use Rattle.signing.specs.AuthenticBody.{authentic}
 use Rattle.wire_format.specs.Words.{said, receivers_of}
 use Rattle.protocol.specs.System.Frames.{IsSealed}
 use Rattle.protocol.specs.System.Trace.{Entry, Has}
@@ -54,7 +54,7 @@ module _ (clients : ℕ) (seed root : List ℕ) where
   -- a message that the replica receives, and the proof obligations of its event
   record Due (before : List Entry) (bytes : List ℕ) (outputs now : List Entry) : Type 0 where
     pub body : Body
-    pub hears : heard (members c) 0 bytes ≡ Some body
+    pub receives : authentic (members c) 0 bytes ≡ Some body
     pub given : IsGiven body.message
     pub numbers_once : AtOutputs (NumbersOnce c 0) (Got 0 bytes ∷ before) outputs
     pub none_executed : (n : ℕ) → Has (λ e. Executes n [] e) outputs → ⊥
@@ -87,17 +87,17 @@ module _ (clients : ℕ) (seed root : List ℕ) where
     dropped = λ other is drops. due.dropped (subst (λ (bs : List ℕ). IsDropped c 0 before first_point bs) (sym (same_bytes other is)) drops);
   }
     where
-      given_is : (other : Body) → heard (members c) 0 bytes ≡ Some other → IsGiven other.message
-      given_is other h = subst (λ (x : Body). IsGiven x.message) (some_injective due.body other (sym due.hears ∙ h)) due.given
+      given_is : (other : Body) → authentic (members c) 0 bytes ≡ Some other → IsGiven other.message
+      given_is other h = subst (λ (x : Body). IsGiven x.message) (some_injective due.body other (sym due.receives ∙ h)) due.given
 
-      part_is : (n : ℕ) (other : Body) → heard (members c) 0 bytes ≡ Some other → IsPartOf n other.message → IsPartOf n due.body.message
-      part_is n other h part = subst (λ (x : Body). IsPartOf n x.message) (some_injective other due.body (sym h ∙ due.hears)) part
+      part_is : (n : ℕ) (other : Body) → authentic (members c) 0 bytes ≡ Some other → IsPartOf n other.message → IsPartOf n due.body.message
+      part_is n other h part = subst (λ (x : Body). IsPartOf n x.message) (some_injective other due.body (sym h ∙ due.receives)) part
 
       same_bytes : (other : List ℕ) → Got 0 bytes ≡ Got 0 other → bytes ≡ other
       same_bytes other is = cc
 
   -- a message other than a request leaves the point as it is
-  pub gets : (before : List Entry) (bytes : List ℕ) (body : Body) → heard (members c) 0 bytes ≡ Some body → IsGiven body.message → IsStep c 0 before first_point (Got 0 bytes) first_point
+  pub gets : (before : List Entry) (bytes : List ℕ) (body : Body) → authentic (members c) 0 bytes ≡ Some body → IsGiven body.message → IsStep c 0 before first_point (Got 0 bytes) first_point
   gets before bytes body h given = record { own = refl; may = tt; moves = quiet }
     where
       quiet : first_point ≡ record first_point { ran = []; waiting = waiting_after c 0 first_point bytes }
@@ -119,7 +119,7 @@ module _ (clients : ℕ) (seed root : List ℕ) where
         says = f.says;
         own = refl;
         seen = tt;
-        say = fetches;
+        allowed = fetches;
         is_sealed = λ frame is.
             let same : f.frame ≡ frame = some_injective f.frame frame (sym f.spells ∙ is) in
             subst (λ (y : Frame). IsSealed c y × IsAddressed c 0 past (Fetch 16 level index) y.authenticator) same (f.is_sealed, addressed);
@@ -128,14 +128,14 @@ module _ (clients : ℕ) (seed root : List ℕ) where
       }
 
   -- a checkpoint of no quorum, after which nothing is sent
-  pub goes_quiet : (before : List Entry) (bytes : List ℕ) (body : Body) (p : ℕ → Bool) (asked : Option (ℕ × (Level × ℕ))) (k : ℕ) → heard (members c) 0 bytes ≡ Some body → IsGiven body.message
+  pub goes_quiet : (before : List Entry) (bytes : List ℕ) (body : Body) (p : ℕ → Bool) (asked : Option (ℕ × (Level × ℕ))) (k : ℕ) → authentic (members c) 0 bytes ≡ Some body → IsGiven body.message
       → ((n : ℕ) → IsPartOf n body.message → ⊥) → At (Got 0 bytes ∷ before) p asked k → nat_le 3 (count_below p 4) ≡ false → Proceeding before → Proceeding (Got 0 bytes ∷ before)
   goes_quiet before bytes body p asked k h given no_part st few was = (first_point, gets before bytes body h given, (owes before bytes [] (Got 0 bytes ∷ before) p asked k st due, was))
     where
       due : Due before bytes [] (Got 0 bytes ∷ before)
       due = record {
         body = body;
-        hears = h;
+        receives = h;
         given = given;
         numbers_once = tt;
         none_executed = λ n has. has;
@@ -147,7 +147,7 @@ module _ (clients : ℕ) (seed root : List ℕ) where
       }
 
   -- the replica answers a message that counts by one fetch, of the root if no transfer of 16 is open yet
-  pub goes_on : (before : List Entry) (bytes sent : List ℕ) (body : Body) (index : ℕ) (level : Level) (p : ℕ → Bool) → heard (members c) 0 bytes ≡ Some body → IsGiven body.message
+  pub goes_on : (before : List Entry) (bytes sent : List ℕ) (body : Body) (index : ℕ) (level : Level) (p : ℕ → Bool) → authentic (members c) 0 bytes ≡ Some body → IsGiven body.message
       → ((n : ℕ) → IsPartOf n body.message → 16 ≡ n) → IsFrameFrom c 0 (Fetch 16 level index) (others c 0) sent → At (Sent 0 sent ∷ Got 0 bytes ∷ before) p (Some (16, (level, index))) 16
       → MayFetch c 0 (Got 0 bytes ∷ before) first_point 16 level index → (fetching before ≡ 16) ⊎ ((level ≡ levels.Root) × (index ≡ 0)) → Counts c 0 before first_point bytes body.sender body.message
       → Proceeding before → Proceeding (Sent 0 sent ∷ Got 0 bytes ∷ before)
@@ -173,7 +173,7 @@ module _ (clients : ℕ) (seed root : List ℕ) where
       due : Due before bytes (Sent 0 sent ∷ []) (Sent 0 sent ∷ Got 0 bytes ∷ before)
       due = record {
         body = body;
-        hears = h;
+        receives = h;
         given = given;
         numbers_once = (λ v i batch says none. absurd (no_proposal v i batch says), tt);
         none_executed = executed;

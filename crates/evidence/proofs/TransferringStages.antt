@@ -11,13 +11,13 @@ use Rattle.quorum.specs.Votes.{or_else}
 use Rattle.protocol.specs.System.Configuration.{Configuration, members}
 use Rattle.terms.specs.declared.state.Level.{Level}
 use Rattle.wire_format.specs.Messages.{BodyData as Body, MessageData as Message, NewViewData, CheckpointEntryData as CheckpointEntry, checkpoint as Checkpoint, fetch as Fetch, meta as Meta, page as Page, pre_prepare as PrePrepare, view_change as ViewChange, new_view as NewView}
-use Rattle.signing.specs.Heard.{heard}
+use Rattle.signing.specs.AuthenticBody.{authentic}
 use Rattle.wire_format.specs.Words.{said}
 use Rattle.wire.proofs.Skipping.{none_chosen}
 use Rattle.protocol.specs.System.Trace.{Entry}
 use Rattle.protocol.specs.System.Trace.Entry.{Got, Sent}
 use Rattle.protocol.specs.Replica.Selection.{is_quorum}
-use Rattle.protocol.specs.Replica.Certificates.{brought, view, target, low, new_view_in, new_view_from, change_from, change_sent, installed_at, started_at, stable_at, is_stable, taken, is_later, is_in_marks, counts_at, logged, proposal, begun_proposal, entry_proposal, batch_begun, batch_from, checkpoint_in, checkpoint_from, insert_checkpoint, with_checkpoint, checkpoints_of, says_checkpoint, count_checkpoints}
+use Rattle.protocol.specs.Replica.Certificates.{brought, view, target, low, new_view_in, new_view_from, change_from, change_sent, installed_at, started_at, stable_at, is_stable, taken, is_later, is_in_marks, counts_at, logged, proposal, begun_proposal, entry_proposal, batch_begun, batch_from, checkpoint_in, checkpoint_from, insert_checkpoint, with_checkpoint, checkpoints_of, lists_checkpoint, count_checkpoints}
 use Rattle.protocol.specs.Replica.Transfers.{asked_last, place_from, fetching, fetch_sent}
 use Rattle.evidence.specs.Examples.{four}
 use Rattle.protocol.proofs.Agreement.Checkpoints.{checkpoints_with, no_checkpoints}
@@ -87,7 +87,7 @@ module _ (clients : ℕ) (seed root : List ℕ) where
     pub installs : installed_at e ≡ 0
     pub part : IsPart body.message
 
-  got : (bytes : List ℕ) (body : Body) → heard (members c) 0 bytes ≡ Some body → IsPart body.message → Brings (Got 0 bytes) body
+  got : (bytes : List ℕ) (body : Body) → authentic (members c) 0 bytes ≡ Some body → IsPart body.message → Brings (Got 0 bytes) body
   got bytes body h part = record { brings = h; no_view = ap (option_and_then (new_view_from c)) h ∙ none_begins c body.sender body.message part; no_change = refl; installs = refl; part = part }
 
   sent : (bytes : List ℕ) (body : Body) → said bytes ≡ Some body → IsPart body.message → Brings (Sent 0 bytes) body
@@ -121,7 +121,7 @@ module _ (clients : ℕ) (seed root : List ℕ) where
   stable_none past e own = go (checkpoint_in c e)
     where
       unstable : (m : CheckpointEntry) → is_stable c 0 (e ∷ past) m ≡ false
-      unstable m = and_right (is_quorum c (count_checkpoints c (e ∷ past) m)) (says_checkpoint m (checkpoints_of c (e ∷ past) 0)) (ap (says_checkpoint m) own)
+      unstable m = and_right (is_quorum c (count_checkpoints c (e ∷ past) m)) (lists_checkpoint m (checkpoints_of c (e ∷ past) 0)) (ap (lists_checkpoint m) own)
 
       go : (o : Option (ℕ × CheckpointEntry)) → option_map_or (λ (x : ℕ × CheckpointEntry). cond (is_stable c 0 (e ∷ past) x.1) x.1.number 0) o 0 ≡ 0
       go None = refl
@@ -153,7 +153,7 @@ module _ (clients : ℕ) (seed root : List ℕ) where
 
   -- a checkpoint of another counts as its
   pub stage_checkpoint : (past : List Entry) (bytes : List ℕ) (r : ℕ) (p : ℕ → Bool) (asked : Option (ℕ × (Level × ℕ))) (k : ℕ) → Stage past p asked k → and_one p r 0 ≡ false
-      → heard (members c) 0 bytes ≡ Some (record { sender = r; message = Checkpoint 16 root }) → Stage (Got 0 bytes ∷ past) (and_one p r) asked k
+      → authentic (members c) 0 bytes ≡ Some (record { sender = r; message = Checkpoint 16 root }) → Stage (Got 0 bytes ∷ past) (and_one p r) asked k
   stage_checkpoint past bytes r p asked k st own h =
       let body : Body = record { sender = r; message = Checkpoint 16 root } in
       next past (Got 0 bytes) body p (and_one p r) asked asked k k st (got bytes body h tt) own (λ s. one_more (p s) (r == s)) st.asked_is (let was = st.fetching_is in omega arith)
@@ -166,13 +166,13 @@ module _ (clients : ℕ) (seed root : List ℕ) where
 
   -- a received part leaves the stage as it is
   pub stage_meta : (past : List Entry) (bytes : List ℕ) (sender number index : ℕ) (level : Level) (digests : List (List ℕ)) (p : ℕ → Bool) (asked : Option (ℕ × (Level × ℕ))) (k : ℕ)
-      → Stage past p asked k → p 0 ≡ false → heard (members c) 0 bytes ≡ Some (record { sender = sender; message = Meta number level index digests }) → Stage (Got 0 bytes ∷ past) p asked k
+      → Stage past p asked k → p 0 ≡ false → authentic (members c) 0 bytes ≡ Some (record { sender = sender; message = Meta number level index digests }) → Stage (Got 0 bytes ∷ past) p asked k
   stage_meta past bytes sender number index level digests p asked k st own h =
       let body : Body = record { sender = sender; message = Meta number level index digests } in
       next past (Got 0 bytes) body p p asked asked k k st (got bytes body h tt) own (λ s. refl) st.asked_is (let was = st.fetching_is in omega arith)
 
   pub stage_page : (past : List Entry) (bytes : List ℕ) (sender number index : ℕ) (text : List ℕ) (p : ℕ → Bool) (asked : Option (ℕ × (Level × ℕ))) (k : ℕ)
-      → Stage past p asked k → p 0 ≡ false → heard (members c) 0 bytes ≡ Some (record { sender = sender; message = Page number index text }) → Stage (Got 0 bytes ∷ past) p asked k
+      → Stage past p asked k → p 0 ≡ false → authentic (members c) 0 bytes ≡ Some (record { sender = sender; message = Page number index text }) → Stage (Got 0 bytes ∷ past) p asked k
   stage_page past bytes sender number index text p asked k st own h =
       let body : Body = record { sender = sender; message = Page number index text } in
       next past (Got 0 bytes) body p p asked asked k k st (got bytes body h tt) own (λ s. refl) st.asked_is (let was = st.fetching_is in omega arith)
@@ -188,15 +188,15 @@ module _ (clients : ℕ) (seed root : List ℕ) where
 
   -- ---- quorums of checkpoints
 
-  says_if : (m : CheckpointEntry) (b : Bool) → says_checkpoint m (marks_if b) ≡ (((16 == m.number) && bytes_eq root m.digest) && b)
+  says_if : (m : CheckpointEntry) (b : Bool) → lists_checkpoint m (marks_if b) ≡ (((16 == m.number) && bytes_eq root m.digest) && b)
   says_if m true = one_said ((16 == m.number) && bytes_eq root m.digest)
   says_if m false = none_said ((16 == m.number) && bytes_eq root m.digest)
 
   count_is : (past : List Entry) (p : ℕ → Bool) (asked : Option (ℕ × (Level × ℕ))) (k : ℕ) → Stage past p asked k → (m : CheckpointEntry)
       → count_checkpoints c past m ≡ count_below (λ s. ((16 == m.number) && bytes_eq root m.digest) && p s) 4
   count_is past p asked k st m =
-      count_same (λ s. says_checkpoint m (checkpoints_of c past s)) (λ s. ((16 == m.number) && bytes_eq root m.digest) && p s)
-      (λ s. ap (says_checkpoint m) (st.checkpoints_are s) ∙ says_if m (p s)) 4
+      count_same (λ s. lists_checkpoint m (checkpoints_of c past s)) (λ s. ((16 == m.number) && bytes_eq root m.digest) && p s)
+      (λ s. ap (lists_checkpoint m) (st.checkpoints_are s) ∙ says_if m (p s)) 4
 
   -- a quorum is of three replicas, and of this number
   pub agreed : (past : List Entry) (p : ℕ → Bool) (asked : Option (ℕ × (Level × ℕ))) (k : ℕ) → Stage past p asked k → (m : CheckpointEntry)

@@ -12,11 +12,11 @@ use Rattle.protocol.specs.System.Configuration.{Configuration, replicas, members
 use Rattle.terms.specs.declared.order.Mode.{Mode}
 use Rattle.terms.specs.declared.order.Mode.TheVariants as modes
 use Rattle.wire_format.specs.Messages.{BodyData as Body, MessageData as Message, request as Request, reply as Reply}
-use Rattle.signing.specs.Heard.{heard}
+use Rattle.signing.specs.AuthenticBody.{authentic}
 use Rattle.wire_format.specs.Words.{said}
 use Rattle.protocol.specs.System.Trace.{Entry, party_of, Once}
 use Rattle.protocol.specs.System.Trace.Entry.{Invoke, Got, Tick, Sent, Accepted}
-use Rattle.protocol.specs.Client.RightClient.{OpenCall, last_call, open_call, Vote, vote_of, newest_vote, latest, count_alike, is_complete, is_ordered_request_of, went_ordered, is_answered, Reaction, fallback, on_reply, on_got, reaction, IsReaction, IsClient, MayAccept, MayAsk, MayClient, SafeClient}
+use Rattle.protocol.specs.Client.RightClient.{OpenCall, last_call, open_call, Vote, reply_vote, newest_vote, latest, count_alike, is_complete, is_ordered_request_of, went_ordered, is_answered, Reaction, fallback, on_reply, on_got, reaction, IsReaction, IsClient, MayAccept, MayAsk, MayClient, SafeClient}
 use Rattle.protocol.specs.Client.RightClient.Reaction.{nothing, asks, accepts}
 use Rattle.evidence.specs.RefusedRuns.{going_on, AsksOrdered}
 use Rattle.evidence.specs.Clients.{WaitsForAnswers, FallsBackOnce, IgnoresOthers, RestsWithoutCall}
@@ -32,14 +32,14 @@ nothing_only c me r outputs is h =
 
 -- a client falls back at it, if at all
 reply_falls : (c : Configuration) (me s number : ℕ) (call : OpenCall) (mode : Mode) (answer : Outcome) (bytes : List ℕ) (past : List Entry)
-    → open_call past ≡ Some call → heard (members c) me bytes ≡ Some (record { sender = s; message = Reply me call.timestamp mode number answer })
+    → open_call past ≡ Some call → authentic (members c) me bytes ≡ Some (record { sender = s; message = Reply me call.timestamp mode number answer })
     → count_alike c me (Got me bytes ∷ past) call.timestamp (vote_in mode number answer) ≤ 2 * c.faults
     → reaction c me (Got me bytes ∷ past) ≡ fallback c me (Got me bytes ∷ past) call
-reply_falls c me s number call mode answer bytes past opened hears few =
+reply_falls c me s number call mode answer bytes past opened receives few =
     ap (λ (o : Option OpenCall). option_map_or (on_got c me (Got me bytes ∷ past)) o nothing) opened ∙ votes ∙ go (is_complete c me (Got me bytes ∷ past) call.timestamp (vote_in mode number answer)) refl
   where
     votes : on_got c me (Got me bytes ∷ past) call ≡ on_reply c me (Got me bytes ∷ past) call (vote_in mode number answer)
-    votes = ap (λ (o : Option Vote). option_map_or (on_reply c me (Got me bytes ∷ past) call) o nothing) (brings c me s call.timestamp number mode answer bytes past hears)
+    votes = ap (λ (o : Option Vote). option_map_or (on_reply c me (Got me bytes ∷ past) call) o nothing) (brings c me s call.timestamp number mode answer bytes past receives)
 
     go : (b : Bool) → is_complete c me (Got me bytes ∷ past) call.timestamp (vote_in mode number answer) ≡ b
         → cond b (accepts call.timestamp answer) (fallback c me (Got me bytes ∷ past) call) ≡ fallback c me (Got me bytes ∷ past) call
@@ -57,8 +57,8 @@ not_all test r (suc n) l e = go (test n) refl (r == n) refl (λ below. not_all t
     go true f false g more = let d = eqb-false r n g in let l : r < n = omega arith in let k = more l in omega arith
 
 pub waits_for_answers : WaitsForAnswers
-waits_for_answers c me s r number call mode answer bytes later outputs past opened hears few within none are h =
-    nothing_only c me (reaction c me (Got me bytes ∷ past)) outputs (reply_falls c me s number call mode answer bytes past opened hears few ∙ rests (went_ordered past call.timestamp))
+waits_for_answers c me s r number call mode answer bytes later outputs past opened receives few within none are h =
+    nothing_only c me (reaction c me (Got me bytes ∷ past)) outputs (reply_falls c me s number call mode answer bytes past opened receives few ∙ rests (went_ordered past call.timestamp))
     (gave c me later outputs (Got me bytes) past refl are h)
   where
     answered : ℕ → Bool
@@ -117,9 +117,9 @@ module _ (c : Configuration) (me : ℕ) where
   asked_went call (_ ∷ past) right opened (inr h) = asked_went call past right.1 opened h
 
 pub falls_back_once : FallsBackOnce
-falls_back_once c me s number call mode answer bytes later outputs past opened hears few before are h =
+falls_back_once c me s number call mode answer bytes later outputs past opened receives few before are h =
     nothing_only c me (reaction c me (Got me bytes ∷ past)) outputs
-    (reply_falls c me s number call mode answer bytes past opened hears few
+    (reply_falls c me s number call mode answer bytes past opened receives few
     ∙ ap (λ (b : Bool). cond (not b && is_answered c me (Got me bytes ∷ past) call.timestamp) (asks modes.Ordered call) nothing) (asked_went c me call past earlier opened before))
     (gave c me later outputs (Got me bytes) past refl are h)
   where
@@ -132,25 +132,25 @@ falls_back_once c me s number call mode answer bytes later outputs past opened h
 -- ---- a message other than a reply to the open call, and a client without an open call
 
 module _ (c : Configuration) (me timestamp : ℕ) (bytes : List ℕ) (past : List Entry)
-    (never : (s number : ℕ) (mode : Mode) (answer : Outcome) → heard (members c) me bytes ≡ Some (record { sender = s; message = Reply me timestamp mode number answer }) → ⊥) where
+    (never : (s number : ℕ) (mode : Mode) (answer : Outcome) → authentic (members c) me bytes ≡ Some (record { sender = s; message = Reply me timestamp mode number answer }) → ⊥) where
   no_vote : newest_vote c me (Got me bytes ∷ past) timestamp ≡ None
-  no_vote = go (heard (members c) me bytes) refl
+  no_vote = go (authentic (members c) me bytes) refl
     where
-      reply : (s client t number : ℕ) (mode : Mode) (answer : Outcome) → heard (members c) me bytes ≡ Some (record { sender = s; message = Reply client t mode number answer })
+      reply : (s client t number : ℕ) (mode : Mode) (answer : Outcome) → authentic (members c) me bytes ≡ Some (record { sender = s; message = Reply client t mode number answer })
           → (b : Bool) → ((s == s) && (client == me) && (t == timestamp)) ≡ b → then_some b (vote_in mode number answer) ≡ None
       reply s client t number mode answer is false e = refl
       reply s client t number mode answer is true e =
           let k = and_parts ((s == s) && (client == me)) (t == timestamp) e in
           let l = and_parts (s == s) (client == me) k.0 in
           absurd (never s number mode answer
-          (subst (λ (n : ℕ). heard (members c) me bytes ≡ Some (record { sender = s; message = Reply me n mode number answer })) (eqb-true t timestamp k.1)
-          (subst (λ (n : ℕ). heard (members c) me bytes ≡ Some (record { sender = s; message = Reply n t mode number answer })) (eqb-true client me l.1) is)))
+          (subst (λ (n : ℕ). authentic (members c) me bytes ≡ Some (record { sender = s; message = Reply me n mode number answer })) (eqb-true t timestamp k.1)
+          (subst (λ (n : ℕ). authentic (members c) me bytes ≡ Some (record { sender = s; message = Reply n t mode number answer })) (eqb-true client me l.1) is)))
 
-      message : (s : ℕ) (m : Message) → heard (members c) me bytes ≡ Some (record { sender = s; message = m }) → vote_of me timestamp s (record { sender = s; message = m }) ≡ None
+      message : (s : ℕ) (m : Message) → authentic (members c) me bytes ≡ Some (record { sender = s; message = m }) → reply_vote me timestamp s (record { sender = s; message = m }) ≡ None
       message s (Reply client t mode number answer) is = reply s client t number mode answer is ((s == s) && (client == me) && (t == timestamp)) refl
       message s _ is = refl
 
-      go : (o : Option Body) → heard (members c) me bytes ≡ o → option_and_then (λ (body : Body). vote_of me timestamp body.sender body) o ≡ None
+      go : (o : Option Body) → authentic (members c) me bytes ≡ o → option_and_then (λ (body : Body). reply_vote me timestamp body.sender body) o ≡ None
       go None is = refl
       go (Some body) is = message body.sender body.message is
 

@@ -1,5 +1,5 @@
--- What a history certifies: by whose commits a batch is executed, which new views are taken, what is logged, and that
--- certificates stay.
+-- What a history certifies: by whose commits a batch is executed, which new views are taken, which batches are logged,
+-- and that certificates stay.
 use Rattle.std.specs.Prelude.{◌≡◌, ℕ, ◌+◌, ◌*◌, ◌^◌, ◌≤◌, ◌<◌, true, List, ◌∷◌, ◌++◌, Some, None}
 use Rattle.sha2.specs.Sha256.{sha256}
 use Rattle.protocol.specs.System.Configuration.{Configuration, primary, is_correct_replica}
@@ -18,7 +18,7 @@ ExecutesWithOwnCommit =
     (c : Configuration) (me k : ℕ) (batch : List ℕ) (past : List Entry) → SafeReplica c me (Executed me k batch ∷ past)
     → (v : ℕ) × Committed c me past v k batch × (commit_of c me past v k me ≡ Some (sha256 batch))
 
--- the entry brings this body: it is heard, or said
+-- the entry brings this body: the replica receives it, or sends it
 abbrev pub EntryBringsBody : Configuration → Body → List Entry → Entry → Type 0
 EntryBringsBody c body past e = brought c e ≡ Some body
 

@@ -5,20 +5,20 @@ use Rattle.protocol.specs.System.Configuration.{Configuration, replicas, members
 use Rattle.terms.specs.declared.order.Mode.{Mode}
 use Rattle.terms.specs.declared.order.Mode.TheVariants as modes
 use Rattle.wire_format.specs.Messages.{reply as Reply}
-use Rattle.signing.specs.Heard.{heard}
-use Rattle.protocol.specs.System.Trace.{Entry, Once, AreOutputs, Hears}
+use Rattle.signing.specs.AuthenticBody.{authentic}
+use Rattle.protocol.specs.System.Trace.{Entry, Once, AreOutputs, Receives}
 use Rattle.protocol.specs.System.Trace.Entry.{Invoke, Got, Tick}
 use Rattle.protocol.specs.Client.RightClient.{OpenCall, open_call, latest, count_alike, IsClient}
 use Rattle.evidence.specs.RefusedRuns.{going_on, AsksOrdered}
 
 -- ---- the replies that count
 
--- A reply that a client hears is its sender's latest of its mode, also after an earlier one.
-abbrev pub HeardIsLatest : Type 0
-HeardIsLatest =
+-- A reply that a client receives is its sender's latest of its mode, also after an earlier one.
+abbrev pub ReceivedIsLatest : Type 0
+ReceivedIsLatest =
     (c : Configuration) (me s timestamp number : ℕ) (mode : Mode) (answer : Outcome) (bytes : List ℕ)
     (past : List Entry)
-    → heard (members c) me bytes ≡ Some (record { sender = s; message = Reply me timestamp mode number answer })
+    → authentic (members c) me bytes ≡ Some (record { sender = s; message = Reply me timestamp mode number answer })
     → latest c me (Got me bytes ∷ past) timestamp mode s
     ≡ Some (record { mode = mode; number = number; answer = answer })
 
@@ -28,7 +28,7 @@ LatestStays =
     (c : Configuration) (me s timestamp : ℕ) (mode : Mode) (e : Entry) (past : List Entry)
     → ((k t : ℕ) (op : Operation) → e ≢ Invoke k t op)
     → ((number : ℕ) (answer : Outcome)
-    → Hears c me (record { sender = s; message = Reply me timestamp mode number answer }) past e → ⊥)
+    → Receives c me (record { sender = s; message = Reply me timestamp mode number answer }) past e → ⊥)
     → latest c me (e ∷ past) timestamp mode s ≡ latest c me past timestamp mode s
 
 -- A call begins with none: a reply that the client received before it does not count.
@@ -46,7 +46,8 @@ WaitsForAnswers =
     (c : Configuration) (me s r number : ℕ) (call : OpenCall) (mode : Mode) (answer : Outcome) (bytes later : List ℕ)
     (outputs past : List Entry)
     → open_call past ≡ Some call
-    → heard (members c) me bytes ≡ Some (record { sender = s; message = Reply me call.timestamp mode number answer })
+    → authentic (members c) me bytes
+    ≡ Some (record { sender = s; message = Reply me call.timestamp mode number answer })
     → count_alike c me (Got me bytes ∷ past) call.timestamp
     (record { mode = mode; number = number; answer = answer }) ≤ 2 * c.faults
     → r < replicas c → latest c me (Got me bytes ∷ past) call.timestamp modes.ReadOnly r ≡ None
@@ -58,7 +59,8 @@ FallsBackOnce =
     (c : Configuration) (me s number : ℕ) (call : OpenCall) (mode : Mode) (answer : Outcome) (bytes later : List ℕ)
     (outputs past : List Entry)
     → open_call past ≡ Some call
-    → heard (members c) me bytes ≡ Some (record { sender = s; message = Reply me call.timestamp mode number answer })
+    → authentic (members c) me bytes
+    ≡ Some (record { sender = s; message = Reply me call.timestamp mode number answer })
     → count_alike c me (Got me bytes ∷ past) call.timestamp
     (record { mode = mode; number = number; answer = answer }) ≤ 2 * c.faults
     → Once (AsksOrdered call.timestamp) past
@@ -70,7 +72,8 @@ IgnoresOthers =
     (c : Configuration) (me : ℕ) (call : OpenCall) (bytes later : List ℕ) (outputs past : List Entry)
     → open_call past ≡ Some call
     → ((s number : ℕ) (mode : Mode) (answer : Outcome)
-    → heard (members c) me bytes ≢ Some (record { sender = s; message = Reply me call.timestamp mode number answer }))
+    → authentic (members c) me bytes
+    ≢ Some (record { sender = s; message = Reply me call.timestamp mode number answer }))
     → AreOutputs outputs → IsClient c me (going_on me later outputs (Got me bytes) past) → outputs ≡ []
 
 -- nor at a frame or a tick while no call is open.

@@ -8,7 +8,7 @@ use Rattle.terms.specs.declared.order.Mode.TheVariants as modes
 use Rattle.terms.specs.declared.state.Level.TheVariants as levels
 use Rattle.wire_format.specs.Messages.{FrameData as Frame, MessageData as Message, request as Request, reply as Reply, fetch as Fetch, meta as Meta}
 use Rattle.protocol.specs.System.Configuration.{Configuration, members}
-use Rattle.signing.specs.Heard.{heard}
+use Rattle.signing.specs.AuthenticBody.{authentic}
 use Rattle.wire_format.specs.Words.{frame_of, said, receivers_of}
 use Rattle.protocol.specs.System.Frames.{IsSealed}
 use Rattle.protocol.specs.System.Trace.Entry.{Got, Sent}
@@ -27,7 +27,7 @@ pub record IsAnswer (c : Configuration) (sender receiver : ℕ) (message : Messa
 abbrev pub FirstReadIsAnswered : Type 0
 FirstReadIsAnswered =
     (clients : ℕ) (seed : List ℕ) (me client timestamp : ℕ) (op : Operation) (read reply : List ℕ)
-    → heard (members (four clients seed)) me read
+    → authentic (members (four clients seed)) me read
     ≡ Some (record { sender = client; message = Request timestamp modes.ReadOnly op }) → is_read_only op ≡ true
     → IsAnswer (four clients seed) me client
     (Reply client timestamp modes.ReadOnly 0 (outcome no_tuples (client_number client) op)) reply
@@ -37,7 +37,8 @@ FirstReadIsAnswered =
 abbrev pub FirstFetchIsAnswered : Type 0
 FirstFetchIsAnswered =
     (clients : ℕ) (seed : List ℕ) (me other : ℕ) (fetch digests : List ℕ) (frame : Frame)
-    → heard (members (four clients seed)) me fetch ≡ Some (record { sender = other; message = Fetch 0 levels.Root 0 })
+    → authentic (members (four clients seed)) me fetch
+    ≡ Some (record { sender = other; message = Fetch 0 levels.Root 0 })
     → frame_of digests ≡ Some frame
     → IsAnswer (four clients seed) me other (Meta 0 levels.Root 0 (digests_at opening levels.Root 0)) digests
     → IsReplica (four clients seed) me (Sent me digests ∷ Got me fetch ∷ [])

@@ -4,7 +4,7 @@ use Rattle.std.specs.Prelude.{◌≡◌, ◌≢◌, ℕ, List, [], ◌∷◌, So
 use Rattle.sha2.specs.Sha256.{sha256}
 use Rattle.wire_format.specs.Messages.{FrameData as Frame, MessageData as Message, ViewChangeData, NewViewData, prepare as Prepare, view_change as ViewChange, new_view as NewView}
 use Rattle.protocol.specs.System.Configuration.{Configuration, members}
-use Rattle.signing.specs.Heard.{signed_body}
+use Rattle.signing.specs.AuthenticBody.{signed_body}
 use Rattle.wire_format.specs.Words.{frame_of, said, receivers_of}
 use Rattle.protocol.specs.System.Frames.{IsSealed, leaf_of}
 use Rattle.protocol.specs.System.Trace.Entry.{Got, Sent}

@@ -10,7 +10,7 @@ use Rattle.wire_format.specs.Spelling.{IsMessage, is_signed, frame_limit, body_s
 use Rattle.wire_format.specs.Words.{requests_of, frame_of, said, receivers_of}
 use Rattle.authenticator.specs.Membership.{sends}
 use Rattle.protocol.specs.System.Configuration.{Configuration, IsConfiguration, replicas, members}
-use Rattle.signing.specs.Heard.{heard}
+use Rattle.signing.specs.AuthenticBody.{authentic}
 use Rattle.protocol.specs.System.Frames.{IsSealed}
 use Rattle.protocol.specs.System.Trace.{Entry, history_of, Has, Unforged}
 use Rattle.protocol.specs.System.Trace.Entry.{Invoke, Got, Executed, Sent, Accepted}
@@ -31,7 +31,7 @@ pub record FirstFrames : Type 0 where
   pub commit : ℕ → List ℕ
   pub reply : ℕ → List ℕ
 
--- The bytes spell the sender's message, sealed for these receivers, and each of them hears it.
+-- The bytes spell the sender's message, sealed for these receivers, and it is authentic to each of them.
 pub record IsFrameFrom (c : Configuration) (sender : ℕ) (message : Message) (receivers : List ℕ)
     (bytes : List ℕ) : Type 0 where
   pub frame : Frame
@@ -41,8 +41,8 @@ pub record IsFrameFrom (c : Configuration) (sender : ℕ) (message : Message) (r
   pub has_macs : frame.authenticator ≡ macs entries
   pub is_sealed : IsSealed c frame
   pub is_for : receivers_of frame.authenticator ≡ receivers
-  pub is_heard : (p : ℕ) → Has (λ r. r ≡ p) receivers
-      → heard (members c) p bytes ≡ Some (record { sender = sender; message = message })
+  pub is_authentic_to : (p : ℕ) → Has (λ r. r ≡ p) receivers
+      → authentic (members c) p bytes ≡ Some (record { sender = sender; message = message })
 
 -- client 0's answer
 abbrev pub first_answer : Operation → Outcome
@@ -134,10 +134,10 @@ FirstFramesExist =
     → is_read_only op ≡ false
     → (batch : List ℕ) × (w : FirstFrames) × AreFirstFrames (four clients seed) op batch w
 
--- If a party of the right sort seals a message for others, each of them hears it. The message must be one that may be
--- said and goes with MACs, and the frame must not be too long.
-abbrev pub SealedFramesAreHeard : Type 0
-SealedFramesAreHeard =
+-- If a party of the right sort seals a message for others, it is authentic to each of them. The message must be one
+-- that may be sent and goes with MACs, and the frame must not be too long.
+abbrev pub SealedFramesAreAuthentic : Type 0
+SealedFramesAreAuthentic =
     (c : Configuration) → IsConfiguration c → (sender : ℕ) (message : Message) (receivers : List ℕ)
     → sends (members c) sender message ≡ true → IsMessage message → is_signed message ≡ false → AreReceivers c receivers
     → (Has (λ r. r ≡ sender) receivers → ⊥)

@@ -6,7 +6,7 @@ use Rattle.tuple_codec.specs.Operations.{Operation, Outcome}
 use Rattle.terms.specs.declared.order.Mode.TheVariants as modes
 use Rattle.wire_format.specs.Messages.{reply as Reply}
 use Rattle.protocol.specs.System.Configuration.{Configuration, IsConfiguration, members}
-use Rattle.signing.specs.Heard.{heard}
+use Rattle.signing.specs.AuthenticBody.{authentic}
 use Rattle.protocol.specs.System.Trace.{Entry}
 use Rattle.protocol.specs.System.Trace.Entry.{Invoke, Got, Sent, Accepted}
 use Rattle.protocol.specs.Space.Linear.{Item, points}
@@ -20,10 +20,10 @@ pub record ReadCall : Type 0 where
   pub reply : ℕ → List ℕ
   pub answer : Outcome
 
--- Each reply is read-only, with the number 1, and the client hears it.
+-- Each reply is read-only, with the number 1, and the client receives it.
 abbrev pub IsReadOf : Configuration → ℕ → ReadCall → Type 0
 IsReadOf c k read =
-    (r : ℕ) → r < 4 → heard (members c) (client_party k) (read.reply r)
+    (r : ℕ) → r < 4 → authentic (members c) (client_party k) (read.reply r)
     ≡ Some (record { sender = r; message = Reply (client_party k) 1 modes.ReadOnly 1 read.answer })
 
 -- the client calls its read and asks for it

@@ -10,7 +10,7 @@ use Rattle.partition_tree.specs.Digests.{inner_digests, page_digests}
 use Rattle.wire_format.specs.Messages.{BodyData as Body, MessageData as Message, pre_prepare as PrePrepare, new_view as NewView, meta as Meta, page as Page}
 use Rattle.protocol.specs.System.Configuration.{Configuration, IsConfiguration, replicas, is_correct_replica, is_correct_client, is_correct, primary, members}
 use Rattle.wire_format.specs.Words.{said}
-use Rattle.signing.specs.Heard.{heard, signed_body}
+use Rattle.signing.specs.AuthenticBody.{authentic, signed_body}
 use Rattle.protocol.specs.System.Trace.{Entry, history_of, Once, Always, Has, frames_in, SendsBody, Unforged}
 use Rattle.protocol.specs.System.Trace.Entry.{Invoke, Got, Tick, Executed, Installed, Sent}
 use Rattle.protocol.specs.Replica.Selection.{null_batch}
@@ -128,10 +128,10 @@ abbrev pub MayBeTaken : Configuration → List Entry → Option Body → Type 0
 MayBeTaken c past None = ⊤
 MayBeTaken c past (Some body) = (is_correct c body.sender ≡ false) ⊎ Once (SendsBody body) past
 
--- Each body that the party hears from the frame, or that the frame carries signed, is such.
+-- Each body that the party receives from the frame, or that the frame carries signed, is such.
 abbrev pub MayBeGot : Configuration → ℕ → List Entry → List ℕ → Type 0
 MayBeGot c me past bytes =
-    MayBeTaken c past (heard (members c) me bytes) × MayBeTaken c past (signed_body (members c) bytes)
+    MayBeTaken c past (authentic (members c) me bytes) × MayBeTaken c past (signed_body (members c) bytes)
 
 -- Frames of which each may be got, any party may get,
 abbrev pub FramesMayBeGot : Type 0
@@ -141,8 +141,8 @@ FramesMayBeGot =
     → Unforged c (Got me bytes ∷ trace)
 
 -- and a faulty one any bytes.
-abbrev pub FaultyHearAnything : Type 0
-FaultyHearAnything =
+abbrev pub FaultyReceiveAnything : Type 0
+FaultyReceiveAnything =
     (c : Configuration) (me : ℕ) (bytes : List ℕ) (trace : List Entry) → Unforged c trace → is_correct c me ≡ false
     → Unforged c (Got me bytes ∷ trace)
 

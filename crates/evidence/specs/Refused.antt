@@ -15,9 +15,9 @@ use Rattle.protocol.specs.System.Configuration.{Configuration, IsConfiguration, 
 use Rattle.terms.specs.declared.order.Mode.TheVariants as modes
 use Rattle.wire_format.specs.Messages.{BodyData as Body, FrameData as Frame, MacData, macs, signature, ViewChangeData, NewViewData, BatchEntryData as BatchEntry, request as Request, pre_prepare as PrePrepare, prepare as Prepare, commit as Commit, checkpoint as Checkpoint, view_change as ViewChange, new_view as NewView, reply as Reply, fetch as Fetch, meta as Meta, page as Page}
 use Rattle.authenticator.specs.Authentic.{mac_of}
-use Rattle.signing.specs.Heard.{has_signature, heard}
+use Rattle.signing.specs.AuthenticBody.{has_signature, authentic}
 use Rattle.protocol.specs.System.Frames.{leaf_of}
-use Rattle.protocol.specs.System.Trace.{Entry, is_output, Once, Always, Has, AreOutputs, Hears}
+use Rattle.protocol.specs.System.Trace.{Entry, is_output, Once, Always, Has, AreOutputs, Receives}
 use Rattle.protocol.specs.System.Trace.Entry.{Got, Tick, Executed, Installed, Sent, Accepted}
 use Rattle.wire_format.specs.Spelling.{has_children}
 use Rattle.protocol.specs.Replica.Selection.{is_quorum, is_within, changes_of, null_batch}
@@ -29,7 +29,7 @@ use Rattle.protocol.specs.Replica.State.{State, Call, call_of, Ran, run_frame, r
 use Rattle.protocol.specs.Replica.RightReplica.{Point, HistoryReaches, SafeReplica, Executes, GetsPage, WasAsked, SentBefore, HadQuorum, StartsAt, IsStep, IsInstalled, IsRootWanted, kept_states, digests_at, reply_of, IsNewViewChange, TimesOut, JoinsOthers}
 use Rattle.protocol.specs.Client.RightClient.{SafeClient}
 use Rattle.protocol.specs.Replica.Transfers.{fetch_sent, fetching, asked_last, in_place}
-use Rattle.protocol.specs.Replica.Owed.{IsSaying, SendsMessage, GivesTo, HasRequest, IsNumbered, IsPageWanted, IsReplica}
+use Rattle.protocol.specs.Replica.Owed.{IsSending, SendsMessage, SendsMessageTo, HasRequest, IsNumbered, IsPageWanted, IsReplica}
 
 -- nothing is executed here, nor installed
 abbrev pub NoExecution : List Entry → Entry → Type 0
@@ -60,13 +60,13 @@ abbrev pub NoCommitAfterChange : Type 0
 NoCommitAfterChange =
     (c : Configuration) (me v i : ℕ) (digest bytes : List ℕ) (vc : ViewChangeData) (past : List Entry)
     → said bytes ≡ Some (record { sender = me; message = Commit v i digest })
-    → Once (λ earlier. IsSaying me (ViewChange vc)) past → v < vc.view → SafeReplica c me (Sent me bytes ∷ past) → ⊥
+    → Once (λ earlier. IsSending me (ViewChange vc)) past → v < vc.view → SafeReplica c me (Sent me bytes ∷ past) → ⊥
 
 abbrev pub NoPrepareAfterChange : Type 0
 NoPrepareAfterChange =
     (c : Configuration) (me v i : ℕ) (digest bytes : List ℕ) (vc : ViewChangeData) (past : List Entry)
     → said bytes ≡ Some (record { sender = me; message = Prepare v i digest })
-    → Once (λ earlier. IsSaying me (ViewChange vc)) past → v < vc.view → SafeReplica c me (Sent me bytes ∷ past) → ⊥
+    → Once (λ earlier. IsSending me (ViewChange vc)) past → v < vc.view → SafeReplica c me (Sent me bytes ∷ past) → ⊥
 
 -- A checkpoint of a number that was never executed.
 abbrev pub NoEarlyCheckpoint : Type 0
@@ -80,7 +80,7 @@ abbrev pub OnePrePrepare : Type 0
 OnePrePrepare =
     (c : Configuration) (me v i : ℕ) (a b bytes : List ℕ) (past : List Entry)
     → said bytes ≡ Some (record { sender = me; message = PrePrepare v i b })
-    → Once (λ earlier. IsSaying me (PrePrepare v i a)) past → SafeReplica c me (Sent me bytes ∷ past) → a ≡ b
+    → Once (λ earlier. IsSending me (PrePrepare v i a)) past → SafeReplica c me (Sent me bytes ∷ past) → a ≡ b
 
 -- A prepare by the primary.
 abbrev pub NoPrepareByPrimary : Type 0
@@ -95,7 +95,7 @@ ProposesAuthentic =
     (c : Configuration) (me v i : ℕ) (batch bytes request : List ℕ) (past : List Entry)
     → said bytes ≡ Some (record { sender = me; message = PrePrepare v i batch })
     → SafeReplica c me (Sent me bytes ∷ past)
-    → Has (λ x. x ≡ request) (requests_of batch) → (body : Body) × (heard (members c) me request ≡ Some body)
+    → Has (λ x. x ≡ request) (requests_of batch) → (body : Body) × (authentic (members c) me request ≡ Some body)
 
 -- A pre-prepare by another than the view's primary, for a number outside the marks, or of a view after a view change
 -- above it.
@@ -116,7 +116,7 @@ abbrev pub NoPrePrepareAfterChange : Type 0
 NoPrePrepareAfterChange =
     (c : Configuration) (me v i : ℕ) (batch bytes : List ℕ) (vc : ViewChangeData) (past : List Entry)
     → said bytes ≡ Some (record { sender = me; message = PrePrepare v i batch })
-    → Once (λ earlier. IsSaying me (ViewChange vc)) past → v < vc.view → SafeReplica c me (Sent me bytes ∷ past) → ⊥
+    → Once (λ earlier. IsSending me (ViewChange vc)) past → v < vc.view → SafeReplica c me (Sent me bytes ∷ past) → ⊥
 
 -- A checkpoint of a number that is no multiple of the period.
 abbrev pub CheckpointsMultiples : Type 0
@@ -184,7 +184,7 @@ ReadsWhatWasAsked =
     → said bytes ≡ Some (record { sender = me; message = Reply client timestamp modes.ReadOnly number answer })
     → SafeReplica c me (Sent me bytes ∷ past)
     → (op : Operation) × (is_read_only op ≡ true)
-    × Once (Hears c me (record { sender = client; message = Request timestamp modes.ReadOnly op })) past
+    × Once (Receives c me (record { sender = client; message = Request timestamp modes.ReadOnly op })) past
     × (point : Point) × HistoryReaches c me past point
     × (answer ≡ outcome (tuples point.state) (client_number client) op)
 
@@ -235,30 +235,30 @@ EachKept c me history P =
     (λ point. (st : State) → Has (λ x. x ≡ st) (kept_states (low c me history) point.snapshots) → P st)
 
 -- Digests that no kept state of the number has there: those of another state, or of none.
-abbrev pub GivesKeptDigests : Type 0
-GivesKeptDigests =
+abbrev pub SendsKeptDigests : Type 0
+SendsKeptDigests =
     (c : Configuration) (me k index : ℕ) (level : Level) (digests : List (List ℕ)) (bytes : List ℕ) (past : List Entry)
     → said bytes ≡ Some (record { sender = me; message = Meta k level index digests })
     → EachKept c me past (λ st. st.number ≡ k → digests_at st level index ≢ digests)
     → SafeReplica c me (Sent me bytes ∷ past) → ⊥
 
 -- A page that no kept state of the number has.
-abbrev pub GivesKeptPages : Type 0
-GivesKeptPages =
+abbrev pub SendsKeptPages : Type 0
+SendsKeptPages =
     (c : Configuration) (me k index : ℕ) (text bytes : List ℕ) (past : List Entry)
     → said bytes ≡ Some (record { sender = me; message = Page k index text })
     → EachKept c me past (λ st. st.number ≡ k → page_text st index ≢ text) → SafeReplica c me (Sent me bytes ∷ past) → ⊥
 
 -- Digests, or a page, that nobody asked for.
-abbrev pub GivesAskedDigests : Type 0
-GivesAskedDigests =
+abbrev pub SendsAskedDigests : Type 0
+SendsAskedDigests =
     (c : Configuration) (me k index : ℕ) (level : Level) (digests : List (List ℕ)) (bytes : List ℕ) (past : List Entry)
     → said bytes ≡ Some (record { sender = me; message = Meta k level index digests })
     → SafeReplica c me (Sent me bytes ∷ past)
     → (s : ℕ) × WasAsked c me past s k level index
 
-abbrev pub GivesAskedPages : Type 0
-GivesAskedPages =
+abbrev pub SendsAskedPages : Type 0
+SendsAskedPages =
     (c : Configuration) (me k index : ℕ) (text bytes : List ℕ) (past : List Entry)
     → said bytes ≡ Some (record { sender = me; message = Page k index text }) → SafeReplica c me (Sent me bytes ∷ past)
     → (s : ℕ) × WasAsked c me past s k levels.Page index
@@ -286,7 +286,7 @@ RepliesToWhoAsked =
     → said bytes ≡ Some (record { sender = me; message = Reply client timestamp modes.Ordered number answer })
     → is_output input ≡ false → AreOutputs outputs → (Has (Executes number []) outputs → ⊥)
     → ((op : Operation)
-    → Hears c me (record { sender = client; message = Request timestamp modes.Ordered op }) past input → ⊥)
+    → Receives c me (record { sender = client; message = Request timestamp modes.Ordered op }) past input → ⊥)
     → SafeReplica c me (Sent me bytes ∷ outputs ++ input ∷ past) → ⊥
 
 -- the batch of the number was executed, and has the client's request of this timestamp
@@ -375,14 +375,14 @@ abbrev pub DropsUnaskedDigests : Type 0
 DropsUnaskedDigests =
     (c : Configuration) (me s k index : ℕ) (level : Level) (digests : List (List ℕ)) (bytes later : List ℕ)
     (past : List Entry)
-    → heard (members c) me bytes ≡ Some (record { sender = s; message = Meta k level index digests })
+    → authentic (members c) me bytes ≡ Some (record { sender = s; message = Meta k level index digests })
     → asked_last past ≢ Some (k, (level, index))
     → IsReplica c me (Sent me later ∷ Got me bytes ∷ past) → ⊥
 
 abbrev pub DropsUnaskedPages : Type 0
 DropsUnaskedPages =
     (c : Configuration) (me s k index : ℕ) (text bytes later : List ℕ) (past : List Entry)
-    → heard (members c) me bytes ≡ Some (record { sender = s; message = Page k index text })
+    → authentic (members c) me bytes ≡ Some (record { sender = s; message = Page k index text })
     → asked_last past ≢ Some (k, (levels.Page, index))
     → IsReplica c me (Sent me later ∷ Got me bytes ∷ past) → ⊥
 
@@ -391,7 +391,7 @@ abbrev pub DropsReplies : Type 0
 DropsReplies =
     (c : Configuration) (me s client timestamp number : ℕ) (mode : Mode) (answer : Outcome) (bytes later : List ℕ)
     (past : List Entry)
-    → heard (members c) me bytes ≡ Some (record { sender = s; message = Reply client timestamp mode number answer })
+    → authentic (members c) me bytes ≡ Some (record { sender = s; message = Reply client timestamp mode number answer })
     → IsReplica c me (Sent me later ∷ Got me bytes ∷ past) → ⊥
 
 -- A frame that answers one in the replica's own name.
@@ -440,7 +440,7 @@ FetchesWhatIsTold =
     (c : Configuration) (me k index : ℕ) (level : Level) (bytes frame : List ℕ) (past : List Entry)
     → said bytes ≡ Some (record { sender = me; message = Fetch k level index }) → level ≢ levels.Root
     → ((s n : ℕ) (digests : List (List ℕ))
-    → Once (Hears c me (record { sender = s; message = Meta n levels.Root 0 digests })) (Got me frame ∷ past) → ⊥)
+    → Once (Receives c me (record { sender = s; message = Meta n levels.Root 0 digests })) (Got me frame ∷ past) → ⊥)
     → SafeReplica c me (Sent me bytes ∷ Got me frame ∷ past) → ⊥
 
 -- A fetch of an inner part that the pages in place agree with, at bytes that the replica gets. The digests of the
@@ -450,7 +450,7 @@ FetchesWhatDiffers =
     (c : Configuration) (me k j : ℕ) (bytes frame : List ℕ) (past : List Entry)
     → said bytes ≡ Some (record { sender = me; message = Fetch k levels.Inner j })
     → ((s n : ℕ) (digests : List (List ℕ)) (digest : List ℕ)
-    → Once (Hears c me (record { sender = s; message = Meta n levels.Root 0 digests })) (Got me frame ∷ past)
+    → Once (Receives c me (record { sender = s; message = Meta n levels.Root 0 digests })) (Got me frame ∷ past)
     → slice_get digests j ≡ Some digest
     → AtEachPoint c me (Got me frame ∷ past)
     (λ point. digest ≡ inner_digest (all_pages (in_place c me k (Got me frame ∷ past) point.state)) j))
@@ -475,7 +475,7 @@ abbrev pub AnswersReads : Type 0
 AnswersReads =
     (c : Configuration) (me client timestamp : ℕ) (op : Operation) (answer : Outcome) (bytes : List ℕ)
     (outputs past : List Entry)
-    → heard (members c) me bytes ≡ Some (record { sender = client; message = Request timestamp modes.ReadOnly op })
+    → authentic (members c) me bytes ≡ Some (record { sender = client; message = Request timestamp modes.ReadOnly op })
     → is_read_only op ≡ true
     → AtEachPoint c me past (λ point. outcome (tuples point.state) (client_number client) op ≡ answer)
     → ReplicaGoesOn c me outputs (Got me bytes) past
@@ -485,26 +485,26 @@ AnswersReads =
 abbrev pub AnswersDigestFetches : Type 0
 AnswersDigestFetches =
     (c : Configuration) (me s index : ℕ) (level : Level) (st : State) (bytes : List ℕ) (outputs past : List Entry)
-    → heard (members c) me bytes ≡ Some (record { sender = s; message = Fetch st.number level index })
+    → authentic (members c) me bytes ≡ Some (record { sender = s; message = Fetch st.number level index })
     → has_children level ≡ true
     → AtEachPoint c me past (λ point. Has (λ x. x ≡ st) (kept_states (low c me past) point.snapshots))
     → ReplicaGoesOn c me outputs (Got me bytes) past
-    → GivesTo me s (Meta st.number level index (digests_at st level index)) outputs
+    → SendsMessageTo me s (Meta st.number level index (digests_at st level index)) outputs
 
 abbrev pub AnswersPageFetches : Type 0
 AnswersPageFetches =
     (c : Configuration) (me s index : ℕ) (st : State) (bytes : List ℕ) (outputs past : List Entry)
-    → heard (members c) me bytes ≡ Some (record { sender = s; message = Fetch st.number levels.Page index })
+    → authentic (members c) me bytes ≡ Some (record { sender = s; message = Fetch st.number levels.Page index })
     → AtEachPoint c me past (λ point. Has (λ x. x ≡ st) (kept_states (low c me past) point.snapshots))
     → ReplicaGoesOn c me outputs (Got me bytes) past
-    → GivesTo me s (Page st.number index (page_text st index)) outputs
+    → SendsMessageTo me s (Page st.number index (page_text st index)) outputs
 
 -- The replica receives the digests below the root that its transfer awaits. It fetches no part of that state, while
 -- another root is in place.
 abbrev pub AsksOn : Type 0
 AsksOn =
     (c : Configuration) (me s k : ℕ) (digests : List (List ℕ)) (bytes : List ℕ) (outputs past : List Entry)
-    → heard (members c) me bytes ≡ Some (record { sender = s; message = Meta k levels.Root 0 digests })
+    → authentic (members c) me bytes ≡ Some (record { sender = s; message = Meta k levels.Root 0 digests })
     → asked_last past ≡ Some (k, (levels.Root, 0)) → newest_number past < k
     → IsRootWanted c past k (digest_of_children digests)
     → ((other : List ℕ) → IsRootWanted c (Got me bytes ∷ past) k other → other ≡ digest_of_children digests)
@@ -517,7 +517,7 @@ AsksOn =
 abbrev pub InstallsFetched : Type 0
 InstallsFetched =
     (c : Configuration) (me s k index : ℕ) (text bytes : List ℕ) (outputs past : List Entry)
-    → heard (members c) me bytes ≡ Some (record { sender = s; message = Page k index text })
+    → authentic (members c) me bytes ≡ Some (record { sender = s; message = Page k index text })
     → asked_last past ≡ Some (k, (levels.Page, index)) → newest_number past < k
     → IsPageWanted c me past k index (sha256 text)
     → ((other : List ℕ) → IsPageWanted c me past k index other → other ≡ sha256 text)
@@ -532,7 +532,7 @@ InstallsFetched =
 abbrev pub AnswersAgain : Type 0
 AnswersAgain =
     (c : Configuration) (me k : ℕ) (op : Operation) (kept : Kept) (bytes : List ℕ) (outputs past : List Entry)
-    → heard (members c) me bytes
+    → authentic (members c) me bytes
     ≡ Some (record { sender = client_party k; message = Request kept.timestamp modes.Ordered op })
     → AtEachPoint c me past (λ point. kept_of point.state k ≡ Some kept)
     → ReplicaGoesOn c me outputs (Got me bytes) past
@@ -635,7 +635,7 @@ MovesForReasons =
     → said bytes ≡ Some (record { sender = me; message = ViewChange vc })
     → TimesOut c me (input ∷ past) point.waiting vc.view
     ⊎ ((s : ℕ) × (other : ViewChangeData)
-    × Hears c me (record { sender = s; message = ViewChange other }) past input × (view c past < other.view)
+    × Receives c me (record { sender = s; message = ViewChange other }) past input × (view c past < other.view)
     × (is_within c other ≡ true) × (latest_change c past s < other.view)
     × JoinsOthers c me (input ∷ past) vc.view)
     → (vc.view ≤ target (outputs ++ input ∷ past))
@@ -702,7 +702,7 @@ TakesWellSelected =
 abbrev pub TakesNoLower : Type 0
 TakesNoLower =
     (c : Configuration) (me : ℕ) (past : List Entry) (e : Entry) (new : NewViewData) (vc : ViewChangeData)
-    → taken c past e ≡ Some new → Once (λ earlier. IsSaying me (ViewChange vc)) past → vc.view ≤ new.view
+    → taken c past e ≡ Some new → Once (λ earlier. IsSending me (ViewChange vc)) past → vc.view ≤ new.view
 
 -- ---- requests
 
@@ -724,11 +724,11 @@ RunsOnce =
 -- ---- a client
 
 -- An acceptance at f + 1 replies alike, at one replica's reply that comes again, or with replies of different numbers:
--- 2f + 1 different replicas were heard, and answered the call in one mode, with one number and one answer.
+-- 2f + 1 different replicas answered the call in one mode, with one number and one answer.
 abbrev pub AcceptsAtQuorum : Type 0
 AcceptsAtQuorum =
     (c : Configuration) (me k timestamp : ℕ) (answer : Outcome) (past : List Entry)
     → SafeClient c me (Accepted k timestamp answer ∷ past)
     → (mode : Mode) × (number : ℕ) × (from : ℕ → Bool) × (2 * c.faults + 1 ≤ count_below from (replicas c))
     × ((s : ℕ) → from s ≡ true → (other : Outcome) × (outcome_spelling other ≡ outcome_spelling answer)
-    × Once (Hears c me (record { sender = s; message = Reply me timestamp mode number other })) past)
+    × Once (Receives c me (record { sender = s; message = Reply me timestamp mode number other })) past)

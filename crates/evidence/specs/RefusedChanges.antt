@@ -12,16 +12,16 @@ use Rattle.terms.specs.declared.order.Mode.TheVariants as modes
 use Rattle.terms.specs.declared.state.Level.{Level}
 use Rattle.terms.specs.declared.state.Level.TheVariants as levels
 use Rattle.wire_format.specs.Messages.{MessageData as Message, ViewChangeData, NewViewData, CheckpointEntryData as CheckpointEntry, BatchEntryData as BatchEntry, request as Request, pre_prepare as PrePrepare, prepare as Prepare, commit as Commit, checkpoint as Checkpoint, view_change as ViewChange, new_view as NewView, fetch as Fetch, meta as Meta, page as Page}
-use Rattle.signing.specs.Heard.{heard}
+use Rattle.signing.specs.AuthenticBody.{authentic}
 use Rattle.wire_format.specs.Words.{said}
-use Rattle.protocol.specs.System.Trace.{Entry, Once, Has, Hears}
+use Rattle.protocol.specs.System.Trace.{Entry, Once, Has, Receives}
 use Rattle.protocol.specs.System.Trace.Entry.{Invoke, Got, Tick, Sent}
 use Rattle.protocol.specs.Replica.Selection.{signed_change, is_within}
 use Rattle.protocol.specs.Replica.Certificates.{low, view, target, latest_change, is_active_in, is_in_marks, logged, prepare_of, commit_of, checkpoints_of, taken}
 use Rattle.protocol.specs.Replica.State.{Call, last_time}
 use Rattle.protocol.specs.Replica.RightReplica.{SafeReplica, SentBefore, HadQuorum, StartsAt}
 use Rattle.protocol.specs.Client.RightClient.{OpenCall, open_call, IsClient}
-use Rattle.protocol.specs.Replica.Owed.{IsSaying, IsReplica}
+use Rattle.protocol.specs.Replica.Owed.{IsSending, IsReplica}
 use Rattle.evidence.specs.Refused.{AtEachPoint, EachKept, newest_number}
 use Rattle.wire_format.specs.Lists.{Each}
 
@@ -45,7 +45,7 @@ abbrev pub ChangesAboveEarlier : Type 0
 ChangesAboveEarlier =
     (c : Configuration) (me : ℕ) (vc earlier : ViewChangeData) (bytes : List ℕ) (past : List Entry)
     → SendsNewChange c me vc bytes past
-    → Once (λ before. IsSaying me (ViewChange earlier)) past → earlier.view < vc.view
+    → Once (λ before. IsSending me (ViewChange earlier)) past → earlier.view < vc.view
 
 -- A new view change for a view at or above 2^48.
 abbrev pub ChangesToNumbers : Type 0
@@ -93,7 +93,7 @@ ChangesAgainLast =
     (c : Configuration) (me : ℕ) (vc earlier : ViewChangeData) (bytes : List ℕ) (past : List Entry)
     → said bytes ≡ Some (record { sender = me; message = ViewChange vc }) → SentBefore bytes past
     → SafeReplica c me (Sent me bytes ∷ past)
-    → Once (λ before. IsSaying me (ViewChange earlier)) past → earlier.view ≤ vc.view
+    → Once (λ before. IsSending me (ViewChange earlier)) past → earlier.view ≤ vc.view
 
 -- ---- why a view change is sent
 
@@ -155,7 +155,7 @@ CallsOperations =
 -- The input, of this sender and message, is answered by a frame.
 pub record FrameAnswersInput (c : Configuration) (me s : ℕ) (message : Message) (bytes : List ℕ)
     (past : List Entry) : Type 0 where
-  pub hears : heard (members c) me bytes ≡ Some (record { sender = s; message = message })
+  pub receives : authentic (members c) me bytes ≡ Some (record { sender = s; message = message })
   pub later : List ℕ
   pub is_replica : IsReplica c me (Sent me later ∷ Got me bytes ∷ past)
 
@@ -316,7 +316,7 @@ IsNoRoot c past k root =
 -- the replica received the digests below a place
 abbrev pub GotDigests : Configuration → ℕ → List Entry → Level → ℕ → List (List ℕ) → Type 0
 GotDigests c me past level index digests =
-    (s n : ℕ) × Once (Hears c me (record { sender = s; message = Meta n level index digests })) past
+    (s n : ℕ) × Once (Receives c me (record { sender = s; message = Meta n level index digests })) past
 
 -- Digests of another root.
 abbrev pub DropsOtherRoots : Type 0
@@ -350,7 +350,7 @@ DropsOtherPages =
 abbrev pub WaitsOnceGot : Type 0
 WaitsOnceGot =
     (c : Configuration) (me k timestamp : ℕ) (op : Operation) (bytes : List ℕ) (past : List Entry)
-    → heard (members c) me bytes
+    → authentic (members c) me bytes
     ≡ Some (record { sender = client_party k; message = Request timestamp modes.Ordered op })
     → k < c.clients
     → AtEachPoint c me past

@@ -8,7 +8,7 @@ use Rattle.space.specs.Applying.{Contents, no_tuples}
 use Rattle.terms.specs.declared.order.Mode.TheVariants as modes
 use Rattle.wire_format.specs.Messages.{request as Request}
 use Rattle.protocol.specs.System.Configuration.{Configuration, is_correct_replica, is_correct_client, members}
-use Rattle.signing.specs.Heard.{heard}
+use Rattle.signing.specs.AuthenticBody.{authentic}
 use Rattle.protocol.specs.System.Trace.{Entry, Once, Has, frames_in}
 use Rattle.protocol.specs.System.Trace.Entry.{Invoke, Got, Accepted}
 use Rattle.protocol.specs.Space.Linear.{Item, item_outcome, item_after, Legal, Covers, Placed, IsLinear, Linear}
@@ -51,7 +51,7 @@ abbrev pub IsAskedAt : Configuration → Item → Entry → Type 0
 IsAskedAt c item e =
     (p : ℕ) × (bytes frame : List ℕ) × (e ≡ Got p bytes) × (is_correct_replica c p ≡ true)
     × Has (λ x. x ≡ frame) (frames_in bytes)
-    × (heard (members c) p frame
+    × (authentic (members c) p frame
     ≡ Some (record { sender = item.client; message = Request item.timestamp modes.Ordered item.op }))
 
 -- A list with an item of a faulty client for which no correct replica had been asked by its position.

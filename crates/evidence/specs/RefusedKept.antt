@@ -14,15 +14,15 @@ use Rattle.evidence.specs.RefusedChanges.{SendsNewChange}
 -- ---- parts of states
 
 -- Digests, or a page, of a number below the low mark.
-abbrev pub GivesNoLowDigests : Type 0
-GivesNoLowDigests =
+abbrev pub SendsNoLowDigests : Type 0
+SendsNoLowDigests =
     (c : Configuration) (me k index : ℕ) (level : Level) (digests : List (List ℕ)) (bytes : List ℕ) (past : List Entry)
     → said bytes ≡ Some (record { sender = me; message = Meta k level index digests })
     → SafeReplica c me (Sent me bytes ∷ past)
     → low c me past ≤ k
 
-abbrev pub GivesNoLowPages : Type 0
-GivesNoLowPages =
+abbrev pub SendsNoLowPages : Type 0
+SendsNoLowPages =
     (c : Configuration) (me k index : ℕ) (text bytes : List ℕ) (past : List Entry)
     → said bytes ≡ Some (record { sender = me; message = Page k index text }) → SafeReplica c me (Sent me bytes ∷ past)
     → low c me past ≤ k

@@ -3,7 +3,7 @@ use Rattle.std.specs.Prelude.{◌≡◌, ℕ, ◌+◌, ◌*◌, ◌^◌, ◌≤�
 use Rattle.quorum.specs.Quorum.{count_below}
 use Rattle.protocol.specs.System.Configuration.{Configuration, replicas, members}
 use Rattle.wire_format.specs.Messages.{ViewChangeData, NewViewData, CheckpointEntryData as CheckpointEntry, checkpoint as Checkpoint, view_change as ViewChange}
-use Rattle.signing.specs.Heard.{heard, signed_body}
+use Rattle.signing.specs.AuthenticBody.{authentic, signed_body}
 use Rattle.wire_format.specs.Words.{said}
 use Rattle.protocol.specs.System.Trace.{Entry, Once, Has}
 use Rattle.protocol.specs.System.Trace.Entry.{Got, Installed, Sent}
@@ -81,10 +81,10 @@ LowIsMarked =
 
 -- ---- checkpoints
 
--- the entry brings a checkpoint of the replica: it is heard, or said
+-- the entry brings a checkpoint of the replica: the replica receives it, or sends it
 abbrev pub BringsCheckpoint : Configuration → ℕ → ℕ → List ℕ → Entry → Type 0
 BringsCheckpoint c s k root (Got p bytes) =
-    heard (members c) p bytes ≡ Some (record { sender = s; message = Checkpoint k root })
+    authentic (members c) p bytes ≡ Some (record { sender = s; message = Checkpoint k root })
 BringsCheckpoint c s k root (Sent p bytes) = said bytes ≡ Some (record { sender = s; message = Checkpoint k root })
 BringsCheckpoint c s k root _ = ⊥
 

@@ -3,7 +3,7 @@ use Rattle.std.specs.Prelude.{◌≡◌, ℕ, ◌<◌, true, List, Some}
 use Rattle.terms.specs.Parties.{client_party}
 use Rattle.terms.specs.declared.order.Mode.TheVariants as modes
 use Rattle.wire_format.specs.Messages.{ViewChangeData, NewViewData, CheckpointEntryData as CheckpointEntry, request as Request, pre_prepare as PrePrepare, prepare as Prepare, commit as Commit, checkpoint as Checkpoint, view_change as ViewChange, new_view as NewView}
-use Rattle.signing.specs.Heard.{heard}
+use Rattle.signing.specs.AuthenticBody.{authentic}
 use Rattle.protocol.specs.System.Configuration.{Configuration, primary, members}
 use Rattle.protocol.specs.System.Trace.{Entry, Has}
 use Rattle.protocol.specs.System.Trace.Entry.{Got}
@@ -15,7 +15,7 @@ use Rattle.evidence.specs.Refused.{AtEachPoint, ReplicaGoesOn}
 -- The bytes are a request that waits already, and a correct replica that goes on gives these outputs to them.
 pub record GetsAgain (c : Configuration) (me : ℕ) (bytes : List ℕ) (outputs past : List Entry) : Type 0 where
   pub call : Call
-  pub hears : heard (members c) me bytes
+  pub receives : authentic (members c) me bytes
       ≡ Some (record { sender = client_party call.client; message = Request call.timestamp modes.Ordered call.op })
   pub waits : AtEachPoint c me past (λ point. Has (λ x. x ≡ call) point.waiting)
   pub goes : ReplicaGoesOn c me outputs (Got me bytes) past

@@ -7,7 +7,7 @@ use Rattle.protocol.specs.System.Configuration.{Configuration, replicas, is_corr
 use Rattle.terms.specs.declared.order.Mode.{Mode}
 use Rattle.terms.specs.declared.order.Mode.TheVariants as modes
 use Rattle.wire_format.specs.Messages.{FrameData as Frame, MacData, macs, ViewChangeData, NewViewData, BatchEntryData as BatchEntry, request as Request, view_change as ViewChange, new_view as NewView, reply as Reply}
-use Rattle.signing.specs.Heard.{heard}
+use Rattle.signing.specs.AuthenticBody.{authentic}
 use Rattle.wire_format.specs.Words.{frame_of, said}
 use Rattle.protocol.specs.System.Trace.{Entry, party_of, is_output, Once, Has, AreOutputs}
 use Rattle.protocol.specs.System.Trace.Entry.{Invoke, Got, Tick, Installed, Sent, Accepted}
@@ -37,7 +37,8 @@ AcceptsAlike =
     (c : Configuration) (me s number : ℕ) (call : OpenCall) (mode : Mode) (answer : Outcome) (bytes later : List ℕ)
     (from : ℕ → Bool) (outputs past : List Entry)
     → open_call past ≡ Some call
-    → heard (members c) me bytes ≡ Some (record { sender = s; message = Reply me call.timestamp mode number answer })
+    → authentic (members c) me bytes
+    ≡ Some (record { sender = s; message = Reply me call.timestamp mode number answer })
     → 2 * c.faults + 1 ≤ count_below from (replicas c)
     → ((r : ℕ) → from r ≡ true
     → latest c me (Got me bytes ∷ past) call.timestamp mode r
@@ -58,7 +59,7 @@ FallsBack =
     (c : Configuration) (me s number : ℕ) (call : OpenCall) (answer : Outcome) (bytes later : List ℕ)
     (outputs past : List Entry)
     → open_call past ≡ Some call
-    → heard (members c) me bytes
+    → authentic (members c) me bytes
     ≡ Some (record { sender = s; message = Reply me call.timestamp modes.ReadOnly number answer })
     → ((r : ℕ) → r < replicas c → latest c me (Got me bytes ∷ past) call.timestamp modes.ReadOnly r ≢ None)
     → count_alike c me (Got me bytes ∷ past) call.timestamp

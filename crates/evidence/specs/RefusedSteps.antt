@@ -5,7 +5,7 @@ use Rattle.tuple_codec.specs.Operations.{Operation, IsOperation}
 use Rattle.wire_format.specs.Messages.{BodyData as Body, MessageData as Message, FrameData as Frame, signature}
 use Rattle.wire_format.specs.Spelling.{IsMessage, is_signed, frame_limit, body_spelling}
 use Rattle.protocol.specs.System.Configuration.{Configuration, IsConfiguration, is_replica, is_client, is_correct, is_correct_client, members}
-use Rattle.signing.specs.Heard.{heard, signed_body}
+use Rattle.signing.specs.AuthenticBody.{authentic, signed_body}
 use Rattle.wire_format.specs.Words.{frame_of, said}
 use Rattle.protocol.specs.System.Frames.{IsSealed}
 use Rattle.protocol.specs.System.Trace.{Entry, history_of, Once, Always, Has, Unforged}
@@ -171,7 +171,7 @@ AllowsNoOther =
 
 -- ---- signed frames
 
--- The bytes spell the body, signed by its sender and for all other replicas, and whoever else gets them hears it.
+-- The bytes spell the body, signed by its sender and for all other replicas, and whoever else gets them receives it.
 pub record IsSignedFrom (c : Configuration) (body : Body) (bytes : List ℕ) : Type 0 where
   pub frame : Frame
   pub made : List ℕ
@@ -180,13 +180,13 @@ pub record IsSignedFrom (c : Configuration) (body : Body) (bytes : List ℕ) : T
   pub has_signature : frame.authenticator ≡ signature made
   pub is_sealed : IsSealed c frame
   pub is_for : meant_for c body.sender frame.authenticator ≡ others c body.sender
-  pub is_heard : (p : ℕ) → body.sender ≢ p → heard (members c) p bytes ≡ Some body
+  pub is_authentic_to : (p : ℕ) → body.sender ≢ p → authentic (members c) p bytes ≡ Some body
   pub is_told : signed_body (members c) bytes ≡ Some body
 
--- If a replica signs a message with one of its 64 leaves, each other party hears it. The message must be one that may
--- be said and goes with a signature, and the frame must not be too long.
-abbrev pub SignedFramesAreHeard : Type 0
-SignedFramesAreHeard =
+-- If a replica signs a message with one of its 64 leaves, it is authentic to each other party. The message must be one
+-- that may be sent and goes with a signature, and the frame must not be too long.
+abbrev pub SignedFramesAreAuthentic : Type 0
+SignedFramesAreAuthentic =
     (c : Configuration) (replica leaf : ℕ) (message : Message)
     → IsConfiguration c → is_replica c replica ≡ true → leaf < 64 → IsMessage message → is_signed message ≡ true
     → length (signed_bytes c replica leaf

@@ -1,15 +1,15 @@
 //! Laws of the definitions of clients and of parties that stop: which replies count, when a client gives nothing, what
 //! each correct history keeps, and a client's history that is accepted.
 
-ghost use Rattle.evidence.specs.Clients.{HeardIsLatest, LatestStays, CallsForget, WaitsForAnswers, FallsBackOnce, IgnoresOthers, RestsWithoutCall};
+ghost use Rattle.evidence.specs.Clients.{ReceivedIsLatest, LatestStays, CallsForget, WaitsForAnswers, FallsBackOnce, IgnoresOthers, RestsWithoutCall};
 ghost use Rattle.evidence.specs.Correct.{ReplicasHaveOwn, ClientsHaveOwn, SealsRequests, AsksItsCall, ReplicasAreSafe, ClientsAreSafe};
 ghost use Rattle.evidence.specs.ExamplesOfClients.{FirstReadIsAccepted};
 ghost use Rattle.evidence.specs.Stopping.{ReplicasMayStop, ClientsMayStop};
 
-/// A reply that is heard is its sender's latest of its mode, whatever was heard before, until the sender's next of
-/// that mode. A call begins with none.
+/// A reply that is received is its sender's latest of its mode, whatever was received before, until the sender's next
+/// of that mode. A call begins with none.
 pub fn latest_replies_count()
-    ensures heard { HeardIsLatest }
+    ensures authentic { ReceivedIsLatest }
     ensures stays { LatestStays }
     ensures call { CallsForget }
 {}

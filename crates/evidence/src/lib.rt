@@ -11,7 +11,8 @@
 //! - A new view is selected exactly if it meets the rules ([`selected`]).
 //! - Further laws say what certificates and schedules hold, what a flush delivers next, and that the premises of the
 //!   protocol's laws can be met ([`certified`], [`fed`], [`premises`]).
-//! - What a party seals or signs is heard ([`sealed_frames_are_heard`], [`signed_frames_are_heard`]).
+//! - Sealed and signed frames are authentic to their receivers ([`sealed_frames_are_authentic`],
+//!   [`signed_frames_are_authentic`]).
 //!
 //! They are laws of definitions: that replicas and clients make runs is promised by the crates that make them.
 #![tactic(auto)]
@@ -30,15 +31,15 @@ pub mod refused_runs;
 pub mod refused_steps;
 pub mod selected;
 
-ghost use Rattle.evidence.specs.FirstOperation.{SealedFramesAreHeard};
-ghost use Rattle.evidence.specs.RefusedSteps.{SignedFramesAreHeard};
+ghost use Rattle.evidence.specs.FirstOperation.{SealedFramesAreAuthentic};
+ghost use Rattle.evidence.specs.RefusedSteps.{SignedFramesAreAuthentic};
 
-/// If a party of the configuration seals a frame for others, each of them hears it.
-pub fn sealed_frames_are_heard()
-    ensures heard { SealedFramesAreHeard }
+/// If a party of the configuration seals a frame for others, it is authentic to each of them.
+pub fn sealed_frames_are_authentic()
+    ensures authentic { SealedFramesAreAuthentic }
 {}
 
-/// If a replica signs a frame with one of its leaves, each other party hears it.
-pub fn signed_frames_are_heard()
-    ensures heard { SignedFramesAreHeard }
+/// If a replica signs a frame with one of its leaves, it is authentic to each other party.
+pub fn signed_frames_are_authentic()
+    ensures authentic { SignedFramesAreAuthentic }
 {}

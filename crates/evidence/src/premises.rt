@@ -1,6 +1,6 @@
 //! Laws that show what the premises of the laws leave open.
 
-ghost use Rattle.evidence.specs.Premises.{WidestIsValid, NarrowestIsValid, ReplicasAreCorrect, ClientsAreCorrect, CorrectAreBoth, EachIsPrimary, PrimariesReturn, RunsHaveReplicas, RunsHaveClients, RunsGoOn, ReplicasGoOn, RunsTakeCalls, OthersAreUnforged, FramesMayBeGot, FaultyHearAnything, TextsAreFew};
+ghost use Rattle.evidence.specs.Premises.{WidestIsValid, NarrowestIsValid, ReplicasAreCorrect, ClientsAreCorrect, CorrectAreBoth, EachIsPrimary, PrimariesReturn, RunsHaveReplicas, RunsHaveClients, RunsGoOn, ReplicasGoOn, RunsTakeCalls, OthersAreUnforged, FramesMayBeGot, FaultyReceiveAnything, TextsAreFew};
 ghost use Rattle.evidence.specs.Listed.{TextsAreListed, ListsAreShort};
 ghost use Rattle.evidence.specs.Fetched.{FetchFramesExist, FetchingIsRun, FetchedAreTaken, FetchedAddThemselves, FetchedAreInstalled, PagesAddThemselves};
 
@@ -46,7 +46,7 @@ pub fn runs_go_on()
 pub fn unforged_traces_go_on()
     ensures others { OthersAreUnforged }
     ensures got { FramesMayBeGot }
-    ensures faulty { FaultyHearAnything }
+    ensures faulty { FaultyReceiveAnything }
 {}
 
 /// As long as nothing is executed or installed and no party receives a page, the texts whose digests must differ are

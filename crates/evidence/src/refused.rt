@@ -1,6 +1,6 @@
 //! Laws that show what the definitions refuse: each is a small history, or a part of one, that a wrong body would make.
 
-ghost use Rattle.evidence.specs.Refused.{SealsWell, SignsWell, PrePreparesAsPrimary, PrePreparesInMarks, NoPrePrepareAfterChange, CheckpointsMultiples, BeginsAsPrimary, ReadsWhatWasAsked, DigestsToWhoAsked, PagesToWhoAsked, NumbersNoneTwice, NumbersNoneTogether, RepliesOfExecuted, ExecutesWhatIsCommitted, GivesKeptDigests, GivesKeptPages, GivesAskedDigests, GivesAskedPages, RepliesWhatRan, RepliesToWhoAsked, AnswersDigestFetches, AnswersPageFetches, AnswersAgain, AnswersRan, PreparesLogged, CommitsPrepared, ExecutesCommitted, NumbersWaiting, SendsCheckpoints, FetchesAhead, FetchesStarts, FetchesAgain, ProposesAuthentic, ReadsNewest, NoChangeWhileActive, AnswersReads, DropsReplies, DropsOwnFrames, FetchesWhatIsWanted, FetchesAbove, FetchesNewest, FetchesOnce, FetchesWhatIsTold, FetchesWhatDiffers, DropsUnaskedDigests, DropsUnaskedPages, RepliesAfterExecution, NoCommitAfterChange, NoPrepareAfterChange, NoEarlyCheckpoint, OnePrePrepare, SkipsNoNumber, GoesBackToNoNumber, PrePreparesNearby, NoPrepareByPrimary, ExecutesNext, KeepsPrepared, InstallsWhatItHas, InstallsWithHeader, RepliesToItsClient, CommitsToAll, TakesWellSelected, TakesNoLower, RunsOnce, AcceptsAtQuorum, SignsOnceByLeaf, SendsNoFrameTwice, AsksOn, InstallsFetched, MovesForReasons};
+ghost use Rattle.evidence.specs.Refused.{SealsWell, SignsWell, PrePreparesAsPrimary, PrePreparesInMarks, NoPrePrepareAfterChange, CheckpointsMultiples, BeginsAsPrimary, ReadsWhatWasAsked, DigestsToWhoAsked, PagesToWhoAsked, NumbersNoneTwice, NumbersNoneTogether, RepliesOfExecuted, ExecutesWhatIsCommitted, SendsKeptDigests, SendsKeptPages, SendsAskedDigests, SendsAskedPages, RepliesWhatRan, RepliesToWhoAsked, AnswersDigestFetches, AnswersPageFetches, AnswersAgain, AnswersRan, PreparesLogged, CommitsPrepared, ExecutesCommitted, NumbersWaiting, SendsCheckpoints, FetchesAhead, FetchesStarts, FetchesAgain, ProposesAuthentic, ReadsNewest, NoChangeWhileActive, AnswersReads, DropsReplies, DropsOwnFrames, FetchesWhatIsWanted, FetchesAbove, FetchesNewest, FetchesOnce, FetchesWhatIsTold, FetchesWhatDiffers, DropsUnaskedDigests, DropsUnaskedPages, RepliesAfterExecution, NoCommitAfterChange, NoPrepareAfterChange, NoEarlyCheckpoint, OnePrePrepare, SkipsNoNumber, GoesBackToNoNumber, PrePreparesNearby, NoPrepareByPrimary, ExecutesNext, KeepsPrepared, InstallsWhatItHas, InstallsWithHeader, RepliesToItsClient, CommitsToAll, TakesWellSelected, TakesNoLower, RunsOnce, AcceptsAtQuorum, SignsOnceByLeaf, SendsNoFrameTwice, AsksOn, InstallsFetched, MovesForReasons};
 ghost use Rattle.evidence.specs.RefusedNewViews.{SendsNewViews, BeginsItsView};
 ghost use Rattle.evidence.specs.RefusedResending.{SendsPreparesAgain, SendsCommitsAgain, SendsBatchesAgain, SendsNewViewsAgain, SendsCheckpointsAgain, SendsChangesAgain};
 
@@ -9,7 +9,7 @@ ghost use Rattle.evidence.specs.RefusedResending.{SendsPreparesAgain, SendsCommi
 /// the period. As the primary it sends no prepare. It sends a read-only reply only to a read that it received, with the
 /// newest state's answer and number. It sends no view change again while it is active. It asks only for parts of a
 /// state above its own, whose root a quorum of checkpoints or a new view's start told.
-pub fn right_replicas_do_not_say()
+pub fn right_replicas_do_not_send()
     ensures replies { RepliesAfterExecution }
     ensures commits { NoCommitAfterChange }
     ensures prepares { NoPrepareAfterChange }
@@ -63,11 +63,11 @@ pub fn right_replicas_do_not_skip()
 /// A right replica gives no digests and no page of a state that it does not keep, nor any that nobody asked for. It
 /// sends an ordered reply only for a request that ran in the event, or the kept one if the event's input is that
 /// request. So if it installed nothing, it executed the batch of the reply's number, and that batch has the request.
-pub fn right_replicas_give_what_they_have()
-    ensures digests { GivesKeptDigests }
-    ensures pages { GivesKeptPages }
-    ensures asked_digests { GivesAskedDigests }
-    ensures asked_pages { GivesAskedPages }
+pub fn right_replicas_send_what_they_have()
+    ensures digests { SendsKeptDigests }
+    ensures pages { SendsKeptPages }
+    ensures asked_digests { SendsAskedDigests }
+    ensures asked_pages { SendsAskedPages }
     ensures replies { RepliesWhatRan }
     ensures replies_asked { RepliesToWhoAsked }
     ensures replies_executed { RepliesOfExecuted }

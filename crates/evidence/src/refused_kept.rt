@@ -1,11 +1,11 @@
 //! Laws that show what the definition of the kept states refuses, in parts of states and in view changes.
 
-ghost use Rattle.evidence.specs.RefusedKept.{GivesNoLowDigests, GivesNoLowPages, ChangesFromLowMark, ListsNoneBelow, ListsSnapshots, ListsEachSnapshot, CheckpointsAscend};
+ghost use Rattle.evidence.specs.RefusedKept.{SendsNoLowDigests, SendsNoLowPages, ChangesFromLowMark, ListsNoneBelow, ListsSnapshots, ListsEachSnapshot, CheckpointsAscend};
 
 /// A right replica gives no digests and no page of a number below its low mark.
-pub fn right_replicas_give_no_low_parts()
-    ensures digests { GivesNoLowDigests }
-    ensures pages { GivesNoLowPages }
+pub fn right_replicas_send_no_low_parts()
+    ensures digests { SendsNoLowDigests }
+    ensures pages { SendsNoLowPages }
 {}
 
 /// A right replica's new view change says its low mark, and lists, in ascending order, a checkpoint of each number

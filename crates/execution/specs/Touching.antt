@@ -41,7 +41,7 @@ pub record ChangesAreTouched (w : WatchedState) (r : RepliesState) (w' : Watched
 
 -- ---- the tree
 
--- The tree has what was written of each page of tuples, the text of each page of replies that isn't touched, and
+-- The tree has the written text of each page of tuples, the text of each page of replies that isn't touched, and
 -- nothing behind the header.
 pub record HasPages (tree : List (List ℕ)) (w : WatchedState) (r : RepliesState) : Type 0 where
   pub long : length tree ≡ PAGES

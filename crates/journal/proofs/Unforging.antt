@@ -162,7 +162,7 @@ module _ (c : Configuration) (replicas : c.faulty_replicas ≡ []) (clients : c.
 
   from_sender : (me : ℕ) (past : List Entry) (frame : List ℕ) → IsSent past frame → IsFromSender c me past frame
   from_sender me past frame sent = record {
-    hears = λ body heard correct. sent body (heard_said c me frame body heard);
+    receives = λ body authentic correct. sent body (heard_said c me frame body authentic);
     signed = λ body signed correct. sent body (signed_said c frame body signed);
   }
 

@@ -6,7 +6,7 @@ use Rattle.wire_format.specs.Messages.{BodyData, request as Request}
 use Rattle.wire_format.specs.Spelling.{SpellsFrame}
 use Rattle.authenticator.specs.Sealing.{sealed_for}
 use Rattle.protocol.specs.System.Configuration.{Configuration}
-use Rattle.protocol.proofs.Words.Posting.{sealed_is_posted}
+use Rattle.protocol.proofs.Words.Posting.{sealed_is_outgoing}
 use Rattle.journal_tests.specs.Calls.{first_op, AsksFirst}
 
 -- the frame that is sealed for four replicas is the client's request
@@ -15,4 +15,4 @@ pub asks_first : (c : Configuration) (k : ℕ) (bytes : List ℕ) → c.faults �
 asks_first c k bytes one spells =
     let four : range_with_len 0 (3 * c.faults + 1) ≡ 0 ∷ 1 ∷ 2 ∷ 3 ∷ [] = ap (λ (f : ℕ). range_with_len 0 (3 * f + 1)) one in
     let body : BodyData = record { sender = 256 + k; message = Request 1 modes.Ordered first_op } in
-    sealed_is_posted c body (range_with_len 0 (3 * c.faults + 1)) bytes (subst (λ (ps : List ℕ). SpellsFrame bytes (sealed_for c.seed body ps)) (sym four) spells)
+    sealed_is_outgoing c body (range_with_len 0 (3 * c.faults + 1)) bytes (subst (λ (ps : List ℕ). SpellsFrame bytes (sealed_for c.seed body ps)) (sym four) spells)

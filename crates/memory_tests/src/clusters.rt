@@ -34,7 +34,7 @@ fn tally_of<R: Files + Threads + Wait + Copy + Send + 'static>(
     let mut taken = Taken::new(rt, alloc, CRUMBS, CRUMB)?;
     for _ in 0..CRUMBS {
         tally.add(start_and_finish::<Brand, R>(rt, alloc, Opened::new(), config));
-        taken.give_back();
+        taken.put_back();
     }
     Some(tally)
 }

@@ -109,7 +109,7 @@ impl Taken {
     }
 
     /// Gives a crumb back, if there is one.
-    pub fn give_back(&mut self) {
+    pub fn put_back(&mut self) {
         self.crumbs.pop();
     }
 }
@@ -131,7 +131,7 @@ pub fn under_each_size<R: Files, C: Call>(
     let mut taken = Taken::new(rt, alloc, crumbs, len)?;
     for _ in 0..crumbs {
         tally.add(call.call(alloc));
-        taken.give_back();
+        taken.put_back();
     }
     Some(tally)
 }

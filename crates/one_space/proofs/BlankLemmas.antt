@@ -13,7 +13,7 @@ use Rattle.tuple_text.specs.Lines.{operation_name, IsSkipped, IsComment}
 use Rattle.tuple_text.specs.Faults.{RefusesLine, IsBadAt, LineBegins, EndsTooLong, KeepsBoth}
 use Rattle.tuple_text.specs.declared.faults.LineFault.TheVariants.{BadByte, NoMemory}
 use Rattle.one_space.specs.Pieces.{TakesPiece}
-use Rattle.one_space.specs.NextLines.{GivesLine, NextLineFails, IsJudged, IsRefused}
+use Rattle.one_space.specs.NextLines.{ReturnsLine, NextLineFails, IsJudged, IsRefused}
 use Rattle.one_space.specs.declared.pieces.PieceEnd.TheVariants.{Full, LineFeed, InputEnd}
 use Rattle.one_space.specs.declared.input.NextLine.{NextLine}
 use Rattle.one_space.specs.declared.input.NextLine.TheVariants as next
@@ -212,7 +212,7 @@ abbrev pub EndJudged : {A : Type 0} → Result (NextLine A) NoLine → List ℕ 
 EndJudged r l = (p : List ℕ) → AreBlanks p → 65537 ≤ length p → MatchResult r (λ given. IsJudged given (p ++ l)) (λ failed. IsRefused failed (p ++ l))
 
 abbrev pub Answers : {A : Type 0} → Option (List ℕ) → Result (NextLine A) NoLine → List ℕ → Type 0
-Answers left r xs = MatchResult r (λ given. GivesLine given xs left) (λ failed. NextLineFails failed xs)
+Answers left r xs = MatchResult r (λ given. ReturnsLine given xs left) (λ failed. NextLineFails failed xs)
 
 end_at : {A : Type 0} (xs before mid full : List ℕ) (known left : Option (List ℕ)) (limit : ℕ) (r : Result (NextLine A) NoLine)
     → Drops xs known before mid → IfSome known (λ ys. TakesPiece (Some LineFeed) limit ys left mid full) → EndJudged r (strip_carriage_return full)

@@ -8,7 +8,7 @@ use Rattle.tuple_text.specs.Faults.{Faults, PassesNoLimit, StopsAt, LineBegins, 
 use Rattle.tuple_text.specs.declared.faults.LineFault.{LineFault}
 use Rattle.tuple_text.specs.declared.faults.LineFault.TheVariants.{BadByte, TooDeep, TooManyFields, TooLong, NoMemory}
 use Rattle.one_space.specs.Pieces.{TakesPiece}
-use Rattle.one_space.specs.NextLines.{IsNextLine, BeginsWith, GivesLine, NextLineFails, IsJudged, IsRefused}
+use Rattle.one_space.specs.NextLines.{IsNextLine, BeginsWith, ReturnsLine, NextLineFails, IsJudged, IsRefused}
 use Rattle.one_space.specs.declared.pieces.PieceEnd.TheVariants.{Full, LineFeed, InputEnd}
 use Rattle.one_space.specs.declared.input.NextLine.{NextLine}
 use Rattle.one_space.specs.declared.input.NextLine.TheVariants as next
@@ -43,7 +43,7 @@ module _ (limit : ℕ) (xs : List ℕ) (left : Option (List ℕ)) (line : List �
       empty (x ∷ l) e = absurd (omega arith)
 
 module _ (l xs : List ℕ) where
-  pub given_of : {A : Type 0} (left : Option (List ℕ)) (given : NextLine A) → IsNextLine l xs left → IsJudged given l → GivesLine given xs left
+  pub given_of : {A : Type 0} (left : Option (List ℕ)) (given : NextLine A) → IsNextLine l xs left → IsJudged given l → ReturnsLine given xs left
   given_of left next.End first judged = absurd judged
   given_of left next.Skipped first judged = (l, first, judged)
   given_of left (next.Operation op) first judged = (l, first, judged)
@@ -55,7 +55,7 @@ module _ (l xs : List ℕ) where
 
   pub judged_of : {A : Type 0} (left : Option (List ℕ)) (r : Result (NextLine A) NoLine) → IsNextLine l xs left
       → MatchResult r (λ given. IsJudged given l) (λ failed. IsRefused failed l)
-      → MatchResult r (λ given. GivesLine given xs left) (λ failed. NextLineFails failed xs)
+      → MatchResult r (λ given. ReturnsLine given xs left) (λ failed. NextLineFails failed xs)
   judged_of left (Ok given) first judged = given_of left given first judged
   judged_of left (Err failed) first judged = failed_of (lines first.rest) failed first.split judged
 
@@ -66,20 +66,20 @@ next_at (Some xs) left limit line taken = begins_at limit xs left line taken
 
 pub judged_next : {A : Type 0} (start left : Option (List ℕ)) (l : List ℕ) (r : Result (NextLine A) NoLine) → IfSome start (λ xs. IsNextLine l xs left)
     → MatchResult r (λ given. IsJudged given l) (λ failed. IsRefused failed l)
-    → IfSome start (λ xs. MatchResult r (λ given. GivesLine given xs left) (λ failed. NextLineFails failed xs))
+    → IfSome start (λ xs. MatchResult r (λ given. ReturnsLine given xs left) (λ failed. NextLineFails failed xs))
 judged_next None left l r first judged = tt
 judged_next (Some xs) left l r first judged = judged_of l xs left r first judged
 
 pub judged_at : {A : Type 0} (start left : Option (List ℕ)) (limit : ℕ) (line : List ℕ) (r : Result (NextLine A) NoLine)
     → IfSome start (λ xs. TakesPiece (Some LineFeed) limit xs left [] line)
     → MatchResult r (λ given. IsJudged given (strip_carriage_return line)) (λ failed. IsRefused failed (strip_carriage_return line))
-    → IfSome start (λ xs. MatchResult r (λ given. GivesLine given xs left) (λ failed. NextLineFails failed xs))
+    → IfSome start (λ xs. MatchResult r (λ given. ReturnsLine given xs left) (λ failed. NextLineFails failed xs))
 judged_at start left limit line r taken judged = judged_next start left (strip_carriage_return line) r (next_at start left limit line taken) judged
 
 pub judged_last : {A : Type 0} (start left : Option (List ℕ)) (limit : ℕ) (line : List ℕ) (r : Result (NextLine A) NoLine) → 0 < length line
     → IfSome start (λ xs. TakesPiece (Some InputEnd) limit xs left [] line)
     → MatchResult r (λ given. IsJudged given line) (λ failed. IsRefused failed line)
-    → IfSome start (λ xs. MatchResult r (λ given. GivesLine given xs left) (λ failed. NextLineFails failed xs))
+    → IfSome start (λ xs. MatchResult r (λ given. ReturnsLine given xs left) (λ failed. NextLineFails failed xs))
 judged_last None left limit line r some taken judged = tt
 judged_last (Some xs) left limit line r some taken judged = judged_of line xs left r (begins_last limit xs left line taken some) judged
 

@@ -12,7 +12,7 @@ use Rattle.tuple_text.specs.declared.faults.LineFault.TheVariants.{TooLong}
 use Rattle.space.specs.Applying.{Contents, outcome, tuples_after}
 use Rattle.space.specs.Births.{SpaceState, tuples_of, state_after}
 use Rattle.one_space.specs.Run.{Ending, complete, refused_at, cut_short, result_line, RunsLines, at_end, stops, skips, answers, refuses, is_late}
-use Rattle.one_space.specs.NextLines.{GivesLine, NextLineFails, BeginsWith, IsNextLine}
+use Rattle.one_space.specs.NextLines.{ReturnsLine, NextLineFails, BeginsWith, IsNextLine}
 use Rattle.one_space.specs.declared.pieces.ReadFault.{ReadFault}
 use Rattle.one_space.specs.declared.pieces.ReadFault.TheVariants as pieces
 use Rattle.one_space.specs.Endings.{Along, AddsResults, StopsBy, FrontIsWritten, IsWriteFault, fault_at_line, read_fault_of}
@@ -103,16 +103,16 @@ state_after_next s o = omega (arith, next_after s 0 o)
 
 -- The bytes left, after the next line was read.
 module _ {A : Type 0} (initial : Contents) (bytes : List ℕ) (known old new : Option (List ℕ)) (n : ℕ) (ts : Contents) (pending : List ℕ) (along : Along initial bytes known old new n ts pending)
-    (left : Option (List ℕ)) (result : Result (NextLine A) NoLine) (read : IfSome known (λ xs. MatchResult result (λ x. GivesLine x xs left) (λ why. NextLineFails why xs))) where
-  told : MatchResult result (λ x. GivesLine x along.rest left) (λ why. NextLineFails why along.rest)
-  told = known_of (λ xs. MatchResult result (λ x. GivesLine x xs left) (λ why. NextLineFails why xs)) initial bytes known old new n ts pending along read
+    (left : Option (List ℕ)) (result : Result (NextLine A) NoLine) (read : IfSome known (λ xs. MatchResult result (λ x. ReturnsLine x xs left) (λ why. NextLineFails why xs))) where
+  told : MatchResult result (λ x. ReturnsLine x along.rest left) (λ why. NextLineFails why along.rest)
+  told = known_of (λ xs. MatchResult result (λ x. ReturnsLine x xs left) (λ why. NextLineFails why xs)) initial bytes known old new n ts pending along read
 
-  gives : (field x : NextLine A) → result ≡ Ok field → field ≡ x → GivesLine x along.rest left
+  gives : (field x : NextLine A) → result ≡ Ok field → field ≡ x → ReturnsLine x along.rest left
   gives field x e f =
-      subst (λ y. GivesLine y along.rest left) f (subst (λ r. MatchResult r (λ y. GivesLine y along.rest left) (λ why. NextLineFails why along.rest)) e told)
+      subst (λ y. ReturnsLine y along.rest left) f (subst (λ r. MatchResult r (λ y. ReturnsLine y along.rest left) (λ why. NextLineFails why along.rest)) e told)
 
   fails : (why : NoLine) → result ≡ Err why → NextLineFails why along.rest
-  fails why e = subst (λ r. MatchResult r (λ y. GivesLine y along.rest left) (λ why. NextLineFails why along.rest)) e told
+  fails why e = subst (λ r. MatchResult r (λ y. ReturnsLine y along.rest left) (λ why. NextLineFails why along.rest)) e told
 
   pub ends : (field : NextLine A) → result ≡ Ok field → field ≡ next.End → AddsResults initial bytes complete old new pending
   ends field e f = at_last initial bytes known old new n ts pending along (gives field next.End e f)

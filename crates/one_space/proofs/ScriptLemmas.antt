@@ -8,7 +8,7 @@ use Rattle.tuple_codec.specs.OperationView.{operation_of}
 use Rattle.tuple_codec.specs.declared.operations.Op.{Op}
 use Rattle.tuple_text.specs.declared.faults.LineFault.TheVariants.{TooLong}
 use Rattle.one_space.specs.Run.{Ending, complete, refused_at}
-use Rattle.one_space.specs.NextLines.{GivesLine, NextLineFails, BeginsWith}
+use Rattle.one_space.specs.NextLines.{ReturnsLine, NextLineFails, BeginsWith}
 use Rattle.one_space.specs.Endings.{fault_at_line}
 use Rattle.one_space.specs.Scripts.{LinesSay, at_end, skips, calls, refuses, is_late, SaysSome, EndsBy, ReadSoFar, KeptSoFar, KeepsFirst, AreFirstOperations}
 use Rattle.one_space.specs.declared.pieces.ReadFault.{ReadFault}
@@ -48,19 +48,19 @@ module _ (most : ℕ) (xs : List (Op Global)) (op : Op Global) (all : List Opera
 -- The bytes left, after the next line was read.
 module _ (most : ℕ) (bytes : List ℕ) (known : Option (List ℕ)) (n : ℕ) (old : Vec (Op Global) Global) (before : KeptSoFar most bytes known n old)
     (left : Option (List ℕ)) (result : Result (NextLine Global) NoLine)
-    (read : IfSome known (λ xs. MatchResult result (λ x. GivesLine x xs left) (λ why. NextLineFails why xs))) where
+    (read : IfSome known (λ xs. MatchResult result (λ x. ReturnsLine x xs left) (λ why. NextLineFails why xs))) where
   so_far : ReadSoFar bytes known n before.all
   so_far = before.so_far
 
-  told : MatchResult result (λ x. GivesLine x so_far.rest left) (λ why. NextLineFails why so_far.rest)
-  told = subst (λ o. IfSome o (λ xs. MatchResult result (λ x. GivesLine x xs left) (λ why. NextLineFails why xs))) so_far.known_is read
+  told : MatchResult result (λ x. ReturnsLine x so_far.rest left) (λ why. NextLineFails why so_far.rest)
+  told = subst (λ o. IfSome o (λ xs. MatchResult result (λ x. ReturnsLine x xs left) (λ why. NextLineFails why xs))) so_far.known_is read
 
-  gives : (field x : NextLine Global) → result ≡ Ok field → field ≡ x → GivesLine x so_far.rest left
+  gives : (field x : NextLine Global) → result ≡ Ok field → field ≡ x → ReturnsLine x so_far.rest left
   gives field x e f =
-      subst (λ y. GivesLine y so_far.rest left) f (subst (λ r. MatchResult r (λ y. GivesLine y so_far.rest left) (λ why. NextLineFails why so_far.rest)) e told)
+      subst (λ y. ReturnsLine y so_far.rest left) f (subst (λ r. MatchResult r (λ y. ReturnsLine y so_far.rest left) (λ why. NextLineFails why so_far.rest)) e told)
 
   fails : (why : NoLine) → result ≡ Err why → NextLineFails why so_far.rest
-  fails why e = subst (λ r. MatchResult r (λ y. GivesLine y so_far.rest left) (λ why. NextLineFails why so_far.rest)) e told
+  fails why e = subst (λ r. MatchResult r (λ y. ReturnsLine y so_far.rest left) (λ why. NextLineFails why so_far.rest)) e told
 
   ends_so : (ending : Ending) → LinesSay n (lines so_far.rest) [] ending → LinesSay 1 (lines bytes) before.all ending
   ends_so ending r = subst (λ os. LinesSay 1 (lines bytes) os ending) (append-nil before.all) (so_far.leads [] ending r)

@@ -25,10 +25,10 @@ pub record BeginsWith (P : List ℕ → Type 0) (xs : List ℕ) : Type 0 where
   pub split : lines xs ≡ first ∷ others
   pub holds : P first
 
-abbrev pub GivesLine : {A : Type 0} → NextLine A → List ℕ → Option (List ℕ) → Type 0
-GivesLine next.End xs left = lines xs ≡ []
-GivesLine next.Skipped xs left = (l : List ℕ) × IsNextLine l xs left × IsSkipped l
-GivesLine (next.Operation op) xs left = (l : List ℕ) × IsNextLine l xs left × IsLine (operation_of op) l
+abbrev pub ReturnsLine : {A : Type 0} → NextLine A → List ℕ → Option (List ℕ) → Type 0
+ReturnsLine next.End xs left = lines xs ≡ []
+ReturnsLine next.Skipped xs left = (l : List ℕ) × IsNextLine l xs left × IsSkipped l
+ReturnsLine (next.Operation op) xs left = (l : List ℕ) × IsNextLine l xs left × IsLine (operation_of op) l
 
 abbrev pub NextLineFails : NoLine → List ℕ → Type 0
 NextLineFails (no.Refused fault) xs = (fault ≢ NoMemory) × BeginsWith (RefusesLine fault) xs
@@ -37,7 +37,7 @@ NextLineFails (no.Read error) xs = Unit {0}
 
 -- The first line of the bytes xs is read, or the fault says why not.
 abbrev pub ReadsLine : {A : Type 0} → Result (NextLine A) NoLine → List ℕ → Option (List ℕ) → Type 0
-ReadsLine result xs left = MatchResult result (λ next. GivesLine next xs left) (λ no. NextLineFails no xs)
+ReadsLine result xs left = MatchResult result (λ next. ReturnsLine next xs left) (λ no. NextLineFails no xs)
 
 -- the same of the bytes that are left, if they are known
 abbrev pub ReadsNext : {A : Type 0} → Result (NextLine A) NoLine → Option (List ℕ) → Option (List ℕ) → Type 0

@@ -23,10 +23,10 @@ ShowFails NoMemory digits old new = new ≡ old
 ShowFails (Write error) digits old new = (t : TupleTree) × DigitsSpell digits t
 
 -- the property of digits that gave no tuple
-abbrev pub GivesNone : ShowFault → List ℕ → Type 0
-GivesNone Malformed digits = (t : TupleTree) → DigitsSpell digits t → ⊥
-GivesNone NoMemory digits = Unit {0}
-GivesNone (Write error) digits = ⊥
+abbrev pub ReturnsNone : ShowFault → List ℕ → Type 0
+ReturnsNone Malformed digits = (t : TupleTree) → DigitsSpell digits t → ⊥
+ReturnsNone NoMemory digits = Unit {0}
+ReturnsNone (Write error) digits = ⊥
 
 -- The digits' tuple was shown, or the fault says why not.
 abbrev pub EndsShow : Result (Unit {0}) ShowFault → List ℕ → Option (List ℕ) → Option (List ℕ) → Type 0
@@ -36,4 +36,4 @@ EndsShow result digits old new =
 -- The digits' tuple was read, or the fault says why not.
 abbrev pub ReadsDigits : Result TupleTree ShowFault → List ℕ → Type 0
 ReadsDigits result digits =
-    MatchResult result (λ tuple. DigitsSpell digits tuple) (λ fault. GivesNone fault digits)
+    MatchResult result (λ tuple. DigitsSpell digits tuple) (λ fault. ReturnsNone fault digits)

@@ -6,7 +6,7 @@ use Rattle.wire_format.specs.declared.messages.Checkpoint.{Checkpoint as Checkpo
 use Rattle.ordering.specs.declared.dropped.Dropped.{Dropped}
 use Rattle.ordering.specs.Log as logs
 use Rattle.ordering.specs.Log.{LogData}
-use Rattle.ordering.specs.Checkpoints.{says_checkpoint}
+use Rattle.ordering.specs.Checkpoints.{lists_checkpoint}
 use Rattle.ordering.specs.Messages.{checkpoint_fault_of, LogTakesPrepare, LogTakesCommit, LogTakesCheckpoint}
 use Rattle.ordering.specs.Taking.{TakesOrDrops}
 use Rattle.orderer.specs.State.{OrdererData, HoldsBatches, IsOrderer}
@@ -27,8 +27,8 @@ use Rattle.wire_format.specs.declared.messages.Meta.{Meta as WireMeta}
 use Rattle.wire_format.specs.declared.messages.NewView.{NewView as WireNewView}
 use Rattle.wire_format.specs.declared.messages.PrePrepare.{PrePrepare as WirePrePrepare}
 use Rattle.authenticator.specs.Membership.{Membership}
-use Rattle.signing.specs.Heard.{heard}
-use Rattle.signing.proofs.Heard.{heard_was_opened}
+use Rattle.signing.specs.AuthenticBody.{authentic}
+use Rattle.signing.proofs.AuthenticBody.{authentic_was_opened}
 use Rattle.ordering.specs.Keeping.{IsLog}
 use Rattle.ordering.specs.declared.votes.Phase.{Phase}
 use Rattle.ordering.specs.declared.votes.Phase.TheVariants as phases
@@ -47,9 +47,9 @@ use Rattle.claims.specs.ClaimsView.{ClaimsData, IsAmongTexts}
 use Rattle.view_change.specs.ReceivedData.{HeldData, AreHeldFrom, IsJoined, later_view, later_views}
 use Rattle.view_change.specs.ReceivedView.{ReceivedState, AreReceived, judging_configuration}
 use Rattle.view_change.specs.Selecting.{AreFrom, IsAvailable}
-use Rattle.orderer.specs.Changing.{IsJoinedBy, IsJoinedByNone, IsNextView, aimed_view}
-use Rattle.orderer.specs.EnteringViews.{IsSelection}
-use Rattle.desk.specs.Transferring.{MayBeSaid}
+use Rattle.orderer.specs.ViewChangeOut.{IsJoinedBy, IsJoinedByNone, IsNextView, target_view}
+use Rattle.orderer.specs.EnterView.{IsSelection}
+use Rattle.desk.specs.Transferring.{MayBeSent}
 use Rattle.orderer.proofs.ChangingViews.{joined_by, joined_by_none, later_above}
 
 -- the message was taken
@@ -58,32 +58,32 @@ taken_by (Ok x) fault old new after none h = h
 taken_by (Err e) fault old new after none h = cc
 
 pub takes_checkpoint : (old new : OrdererData) (sender : ReplicaId) (m : CheckpointMessage) (test : Bool) → checkpoint_fault_of old.log sender m ≡ None → new ≡ counting old sender.0 (said_entry m)
-    → test ≡ says_checkpoint (said_entry m) (logs.checkpoints_of new.log sender.0) → TakesOne old sender m new test
+    → test ≡ lists_checkpoint (said_entry m) (logs.checkpoints_of new.log sender.0) → TakesOne old sender m new test
 takes_checkpoint old new sender m true free is test = (free, is, sym test)
 takes_checkpoint old new sender m false free is test = inr (is, sym test)
 
 -- ---- received messages
 
 -- a body of the bytes may be sent
-heard_message : (m : Membership) (me : ℕ) (bytes : List ℕ) (body : Body) → heard m me bytes ≡ Some body → IsMessage body.message
+heard_message : (m : Membership) (me : ℕ) (bytes : List ℕ) (body : Body) → authentic m me bytes ≡ Some body → IsMessage body.message
 heard_message m me bytes body h =
-    let o = heard_was_opened m me bytes body h in
+    let o = authentic_was_opened m me bytes body h in
     subst (λ (b : Body). IsMessage b.message) o.body_is o.opens.spelled.valid.message
 
-pub heard_batch : (m : Membership) (me s : ℕ) (bytes : List ℕ) (message : WireMessage) (x : WirePrePrepare) → heard m me bytes ≡ Some (record { sender = s; message = message_data message }) → message ≡ messages.PrePrepare x
+pub heard_batch : (m : Membership) (me s : ℕ) (bytes : List ℕ) (message : WireMessage) (x : WirePrePrepare) → authentic m me bytes ≡ Some (record { sender = s; message = message_data message }) → message ≡ messages.PrePrepare x
     → IsBatch 1 x.batch.text.items
 heard_batch m me s bytes message x h is =
     let said : IsMessage (PrePrepare x.view.0 x.number.0 x.batch.text.items) = heard_message m me bytes _ (h ∙ ap (λ (y : WireMessage). Some (record { sender = s; message = message_data y })) is) in
     said.2
 
-pub heard_batches : (m : Membership) (me s : ℕ) (bytes : List ℕ) (message : WireMessage) (x : WireNewView) → heard m me bytes ≡ Some (record { sender = s; message = message_data message }) → message ≡ messages.NewView x
+pub heard_batches : (m : Membership) (me s : ℕ) (bytes : List ℕ) (message : WireMessage) (x : WireNewView) → authentic m me bytes ≡ Some (record { sender = s; message = message_data message }) → message ≡ messages.NewView x
     → Each (IsBatch 0) (new_view_data x).batches
 heard_batches m me s bytes message x h is =
     let said : IsMessage (NewView (new_view_data x)) = heard_message m me bytes _ (h ∙ ap (λ (y : WireMessage). Some (record { sender = s; message = message_data y })) is) in
     said.batches
 
-pub heard_digests : (m : Membership) (me s : ℕ) (bytes : List ℕ) (message : WireMessage) (x : WireMeta) → heard m me bytes ≡ Some (record { sender = s; message = message_data message }) → message ≡ messages.Meta x
-    → MayBeSaid x
+pub heard_digests : (m : Membership) (me s : ℕ) (bytes : List ℕ) (message : WireMessage) (x : WireMeta) → authentic m me bytes ≡ Some (record { sender = s; message = message_data message }) → message ≡ messages.Meta x
+    → MayBeSent x
 heard_digests m me s bytes message x h is = heard_message m me bytes _ (h ∙ ap (λ (y : WireMessage). Some (record { sender = s; message = message_data y })) is)
 
 -- ---- texts
@@ -236,20 +236,20 @@ pub joined_is_number : (r : ReceivedState) (me target view : ℕ) → AreReceive
 joined_is_number r me target view are has = held_number (judging_configuration r) me target view 0 r.held are.each has
 
 -- the view to which others move the replica is a number
-pub joins_next : (o : OrdererData) (me : ℕ) (target : View) (view : Option View) → AreReceived o.received → target.0 ≡ aimed_view o
+pub joins_next : (o : OrdererData) (me : ℕ) (target : View) (view : Option View) → AreReceived o.received → target.0 ≡ target_view o
     → MatchOption view (length (later_views me target.0 o.received.held) ≤ o.received.sizes.faults) (λ v. IsJoined o.received.sizes.faults (later_views me target.0 o.received.held) v.0)
     → IfSome view (λ v. IsNextView o v.0)
 joins_next o me target None are aimed h = tt
 joins_next o me target (Some v) are aimed h =
     (subst (λ (n : ℕ). n < v.0) aimed (later_above me target.0 v.0 o.received.held h.there), joined_is_number o.received me target.0 v.0 are h.there)
 
-pub joins_others : (o : OrdererData) (me : ℕ) (target : View) (view : Option View) → IsOrderer o → AreReceived o.received → me ≡ o.log.me → target.0 ≡ aimed_view o
+pub joins_others : (o : OrdererData) (me : ℕ) (target : View) (view : Option View) → IsOrderer o → AreReceived o.received → me ≡ o.log.me → target.0 ≡ target_view o
     → MatchOption view (length (later_views me target.0 o.received.held) ≤ o.received.sizes.faults) (λ v. IsJoined o.received.sizes.faults (later_views me target.0 o.received.held) v.0)
     → IfSome view (λ v. IsJoinedBy o v.0)
 joins_others o me target None own are mine aimed h = tt
 joins_others o me target (Some v) own are mine aimed h = joined_by o me target.0 v.0 own are mine aimed h
 
-pub joins_none : (o : OrdererData) (me : ℕ) (target : View) (view : Option View) → IsOrderer o → AreReceived o.received → me ≡ o.log.me → target.0 ≡ aimed_view o
+pub joins_none : (o : OrdererData) (me : ℕ) (target : View) (view : Option View) → IsOrderer o → AreReceived o.received → me ≡ o.log.me → target.0 ≡ target_view o
     → MatchOption view (length (later_views me target.0 o.received.held) ≤ o.received.sizes.faults) (λ v. IsJoined o.received.sizes.faults (later_views me target.0 o.received.held) v.0)
     → IfNone view (IsJoinedByNone o)
 joins_none o me target None own are mine aimed h = joined_by_none o me target.0 own are mine aimed h

@@ -7,7 +7,7 @@ use Rattle.protocol.specs.Replica.Selection.{list_of, signed_change, is_within}
 use Rattle.view_change.specs.ReceivedData.{HeldData, later_view, later_views, IsJoined, AreHeldFrom, held_of}
 use Rattle.view_change.specs.ReceivedView.{AreReceived, judging_configuration, ReceivedState, held_as}
 use Rattle.orderer.specs.State.{OrdererData, IsOrderer}
-use Rattle.orderer.specs.Changing.{IsJoinedBy, IsJoinedByNone, aimed_view, AreChanges, IsUnsayable, change_for, SignsChange}
+use Rattle.orderer.specs.ViewChangeOut.{IsJoinedBy, IsJoinedByNone, target_view, AreChanges, IsUnsendable, change_for, SignsChange}
 use Rattle.wire_format.specs.Messages.{view_change as ViewChange, AuthenticatorData as Authenticator, BodyData as Body, CheckpointEntryData as CheckpointEntry, MessageData as Message, ViewChangeData, macs, signature}
 use Rattle.wire_format.proofs.Saying.{reads_said, says_what_is_spelled}
 use Rattle.authenticator.specs.Membership.{Membership}
@@ -22,7 +22,7 @@ use Rattle.wire_format.specs.Words.{said}
 use Rattle.wire_format.specs.Spelling.{IsAuthenticator, authenticator_is_signed, authenticator_spelling, body_spelling, frame_limit, is_signed, piece}
 use Rattle.std.specs.declared.alloc.Global.{Global}
 use Rattle.wire_format.specs.Views.{view_change_data}
-use Rattle.posting.specs.Endpoint.{SignedExceeds, says, IsOwnSigned}
+use Rattle.frame_endpoint.specs.Endpoint.{SignedExceeds, says, IsOwnSigned}
 use Rattle.protocol.specs.Replica.RightReplica.{Point, HistoryReaches, IsNewViewChange, kept_states, SentBefore}
 use Rattle.view_change.specs.declared.changes.Change.{Change}
 use Rattle.claims.specs.ClaimsView.{ClaimsData}
@@ -32,22 +32,22 @@ use Rattle.replica_histories.specs.Desk.{Desk, snapshot_of}
 use Rattle.replica_histories.specs.Logs.{FitsLog}
 use Rattle.replica_histories.specs.Views.{entries_of}
 use Rattle.replica_histories.proofs.OneChange.{said_valid, new_changes_are_one}
-use Rattle.orderer.specs.Claiming.{MaySign, SaysFrame}
+use Rattle.orderer.specs.Claiming.{MaySign, MulticastsFrame}
 use Rattle.orderer.specs.Fitting.{changes_held, given, FitsEvent}
 use Rattle.orderer.specs.Going.{IsVotedAll}
 use Rattle.std.proofs.lemmas.List.{append-nil}
 use Rattle.ordering.specs.Log.{left}
 use Rattle.ordering.specs.Keeping.{IsLog}
 use Rattle.events.specs.declared.output.Output.{Output}
-use Rattle.protocol.specs.System.Frames.{IsPosted, leaf_of}
+use Rattle.protocol.specs.System.Frames.{IsOutgoing, leaf_of}
 use Rattle.protocol.specs.System.Trace.Entry.{Sent}
 use Rattle.replica_histories.specs.Events.{Start, after_outputs}
 use Rattle.replica_histories.proofs.ChangesKept.{sent_keep, own_are_signed}
 use Rattle.replica_histories.proofs.Changing.{view_changes_go_again}
 use Rattle.desk.specs.Waiting.{WaitingData}
-use Rattle.orderer.specs.Saying.{AreBelow, PostedFrame, PostsChange, SaysLastAlso}
+use Rattle.orderer.specs.Multicasting.{AreBelow, OutputsHaveFrame, OutputsHaveViewChange, MulticastsLastAlso}
 use Rattle.orderer.proofs.Again.{frame_now, never_said}
-use Rattle.orderer.proofs.Staying.{gives_one, fits_on, sent_beside}
+use Rattle.orderer.proofs.Staying.{emits_one, fits_on, sent_beside}
 use Rattle.orderer.proofs.Parties.{same_log}
 
 -- a later view is above the target
@@ -63,20 +63,20 @@ later_above me target view (Some h ∷ held) has = go (later_above me target vie
     go rest true is (inr has) = rest has
 
 -- the replica joins it
-pub joined_by : (o : OrdererData) (me t v : ℕ) → IsOrderer o → AreReceived o.received → me ≡ o.log.me → t ≡ aimed_view o → IsJoined o.received.sizes.faults (later_views me t o.received.held) v → IsJoinedBy o v
+pub joined_by : (o : OrdererData) (me t v : ℕ) → IsOrderer o → AreReceived o.received → me ≡ o.log.me → t ≡ target_view o → IsJoined o.received.sizes.faults (later_views me t o.received.held) v → IsJoinedBy o v
 joined_by o me t v own are mine aimed joined = (
   are.each,
-  subst (λ (n : ℕ). IsJoined n (later_views o.endpoint.me (aimed_view o) o.received.held) v) own.3
-      (subst (λ (n : ℕ). IsJoined o.received.sizes.faults (later_views n (aimed_view o) o.received.held) v) (mine ∙ own.0)
+  subst (λ (n : ℕ). IsJoined n (later_views o.endpoint.me (target_view o) o.received.held) v) own.3
+      (subst (λ (n : ℕ). IsJoined o.received.sizes.faults (later_views n (target_view o) o.received.held) v) (mine ∙ own.0)
       (subst (λ (n : ℕ). IsJoined o.received.sizes.faults (later_views me n o.received.held) v) aimed joined)),
 )
 
 -- or it joins none
-pub joined_by_none : (o : OrdererData) (me t : ℕ) → IsOrderer o → AreReceived o.received → me ≡ o.log.me → t ≡ aimed_view o → length (later_views me t o.received.held) ≤ o.received.sizes.faults → IsJoinedByNone o
+pub joined_by_none : (o : OrdererData) (me t : ℕ) → IsOrderer o → AreReceived o.received → me ≡ o.log.me → t ≡ target_view o → length (later_views me t o.received.held) ≤ o.received.sizes.faults → IsJoinedByNone o
 joined_by_none o me t own are mine aimed few = (
   are.each,
-  subst (λ (n : ℕ). length (later_views o.endpoint.me (aimed_view o) o.received.held) ≤ n) own.3
-      (subst (λ (n : ℕ). length (later_views n (aimed_view o) o.received.held) ≤ o.received.sizes.faults) (mine ∙ own.0)
+  subst (λ (n : ℕ). length (later_views o.endpoint.me (target_view o) o.received.held) ≤ n) own.3
+      (subst (λ (n : ℕ). length (later_views n (target_view o) o.received.held) ≤ o.received.sizes.faults) (mine ∙ own.0)
       (subst (λ (n : ℕ). length (later_views me n o.received.held) ≤ o.received.sizes.faults) aimed few)),
 )
 
@@ -151,7 +151,7 @@ module _ (c : Configuration) (me : ℕ) (desk : Desk) (o : OrdererData) (history
       ∙ ap (λ (w : ℕ). change_for w (entries_of desk.snapshots) o) at
 
   -- so its keys are spent
-  pub unsaid_spent : ChangesAreJudged → ((vc : ViewChangeData) → is_within c vc ≡ is_within (judging_configuration o.received) vc) → IsUnsayable o (change_for v (entries_of desk.snapshots) o)
+  pub unsaid_spent : ChangesAreJudged → ((vc : ViewChangeData) → is_within c vc ≡ is_within (judging_configuration o.received) vc) → IsUnsendable o (change_for v (entries_of desk.snapshots) o)
       → (vc : ViewChangeData) (bytes : List ℕ) → vc.view ≡ v → IsNewViewChange c me history point vc → is_within c vc ≡ true → said bytes ≡ Some (record { sender = me; message = ViewChange vc })
       → o.spent ≡ 64
   unsaid_spent judge alike unsaid vc bytes at may within says_it = go unsaid
@@ -159,7 +159,7 @@ module _ (c : Configuration) (me : ℕ) (desk : Desk) (o : OrdererData) (history
       same : vc ≡ its
       same = is_change_for vc bytes at may says_it
 
-      go : IsUnsayable o its → o.spent ≡ 64
+      go : IsUnsendable o its → o.spent ≡ 64
       go (inl spent) = spent
       go (inr (inl unsaid)) =
           absurd (unsaid bytes (subst (λ (n : ℕ). said bytes ≡ Some (record { sender = n; message = ViewChange its })) (sym named)
@@ -193,13 +193,13 @@ made_is view low checkpoints claims o vc made at same =
 -- the copy of the view change isn't signed
 pub not_signed : (o later : OrdererData) (view low : ℕ) (checkpoints : List CheckpointEntry) (claims : ClaimsData) (said x : Change) (message : Message) (r : Option (Vec ℕ Global))
     → view_change_data x.change ≡ record { view = view; low = low; checkpoints = checkpoints; prepared = claims.prepared; pre_prepared = claims.logged } → low ≡ o.log.low → claims ≡ o.claims
-    → change_pair said ≡ change_pair x → message ≡ ViewChange (view_change_data said.change) → r ≡ None → MaySign message o later r → (later ≡ o) × IsUnsayable o (change_for view checkpoints o)
+    → change_pair said ≡ change_pair x → message ≡ ViewChange (view_change_data said.change) → r ≡ None → MaySign message o later r → (later ≡ o) × IsUnsendable o (change_for view checkpoints o)
 not_signed o later view low checkpoints claims said x message r made at same copy is none signs = let h = subst (MaySign message o later) none signs in (h.0, go h.1)
   where
     says_it : message ≡ ViewChange (change_for view checkpoints o)
     says_it = is ∙ ap (λ (p : ℕ × ViewChangeData). ViewChange p.1) copy ∙ ap (λ (y : ViewChangeData). ViewChange y) (made_is view low checkpoints claims o (view_change_data x.change) made at same)
 
-    go : (o.spent ≡ 64) ⊎ SignedExceeds (says o.endpoint.me message) → IsUnsayable o (change_for view checkpoints o)
+    go : (o.spent ≡ 64) ⊎ SignedExceeds (says o.endpoint.me message) → IsUnsendable o (change_for view checkpoints o)
     go (inl spent) = inl spent
     go (inr exceeds) =
         inr (inl (too_long o.endpoint.me (change_for view checkpoints o) (subst (λ (m : Message). SignedExceeds (says o.endpoint.me m)) says_it exceeds)))
@@ -217,7 +217,7 @@ own_is_signed o x frame own is sender signed =
     c : Configuration
     c = record (judging_configuration o.received) { faults = o.endpoint.membership.faults; clients = o.endpoint.membership.clients }
 
-    posted : IsPosted c o.endpoint.me (ViewChange (view_change_data x.change)) [] frame
+    posted : IsOutgoing c o.endpoint.me (ViewChange (view_change_data x.change)) [] frame
     posted = signed c (ap (λ (seed : List ℕ). record o.endpoint.membership { seed = seed }) own.2)
 
     known : o.endpoint.me < replicas (judging_configuration o.received)
@@ -253,14 +253,14 @@ signs_copy o said x message frame copy is signed = subst (λ (m : Message). IsOw
 
 -- ---- it multicasts the view change again
 
-pub no_change_again : (o : OrdererData) (outs : List Output) → option_map (λ h. h.frame) (held_of o.received.held o.log.me) ≡ None → SaysLastAlso false 0 PostsChange o outs o outs
+pub no_change_again : (o : OrdererData) (outs : List Output) → option_map (λ h. h.frame) (held_of o.received.held o.log.me) ≡ None → MulticastsLastAlso false 0 OutputsHaveViewChange o outs o outs
 no_change_again o outs none = (
   record { goes = λ inactive c s desk w known below f. f; same = refl; more = []; given_is = sym (append-nil outs) },
   λ held is. absurd (let bad : None ≡ Some held.frame = sym none ∙ ap (option_map (λ (h : HeldData). h.frame)) is in cc),
 )
 
-pub change_again : (o : OrdererData) (frame : List ℕ) (before after : List Output) → IsOrderer o → option_map (λ h. h.frame) (held_of o.received.held o.log.me) ≡ Some frame → SaysFrame o frame before after
-    → SaysLastAlso false 0 PostsChange o before o after
+pub change_again : (o : OrdererData) (frame : List ℕ) (before after : List Output) → IsOrderer o → option_map (λ h. h.frame) (held_of o.received.held o.log.me) ≡ Some frame → MulticastsFrame o frame before after
+    → MulticastsLastAlso false 0 OutputsHaveViewChange o before o after
 change_again o frame before after own has says = (
   record {
     goes = λ inactive c s desk w known below f. goes c s desk w known below inactive f;
@@ -268,7 +268,7 @@ change_again o frame before after own has says = (
     more = says.output ∷ [];
     given_is = says.given_is;
   },
-  λ held is. subst (λ (b : List ℕ). PostedFrame o b after) (some_injective frame held.frame (sym has ∙ ap (option_map (λ (h : HeldData). h.frame)) is)) (frame_now o frame before after says),
+  λ held is. subst (λ (b : List ℕ). OutputsHaveFrame o b after) (some_injective frame held.frame (sym has ∙ ap (option_map (λ (h : HeldData). h.frame)) is)) (frame_now o frame before after says),
 )
   where
     goes : (c : Configuration) (s : Start) (desk : Desk) (w : WaitingData) → members c ≡ o.endpoint.membership → AreBelow o.endpoint.me 0 (given o.endpoint.me before) → o.log.active ≡ false → FitsEvent c o.endpoint.me s o desk w [] before
@@ -280,10 +280,10 @@ change_again o frame before after own has says = (
         let there : Some h.own.frame ≡ Some frame =
         ap (option_map (λ (x : HeldData). x.frame)) (sym h.held) ∙ ap (λ (m : ℕ). option_map (λ (x : HeldData). x.frame) (held_of o.received.held m)) (sym own.0) ∙ has in
         let is = some_injective h.own.frame frame there in
-        let posted : IsPosted c me (ViewChange h.own.change) [] frame = subst (IsPosted c me (ViewChange h.own.change) []) is h.posted in
+        let posted : IsOutgoing c me (ViewChange h.own.change) [] frame = subst (IsOutgoing c me (ViewChange h.own.change) []) is h.posted in
         let left : o.log.view < target past = leb-false (target past) o.log.view (f.fits.of_log.active ∙ inactive) in
         let last : h.own.change.view ≡ target past = h.view ∙ sym f.changes.target in
-        fits_on c me s o o desk w [] [] before after (Sent me frame) (gives_one c me before after says.output (Sent me frame) says.given_is says.sends.sends (says.sends.meant c (ViewChange h.own.change) known posted))
+        fits_on c me s o o desk w [] [] before after (Sent me frame) (emits_one c me before after says.output (Sent me frame) says.given_is says.sends.sends (says.sends.meant c (ViewChange h.own.change) known posted))
         (sent_beside c me (ViewChange h.own.change) [] frame past tt posted) (sent_keep c me past (ViewChange h.own.change) frame posted.says (omega (arith, last)) (λ signed. subst (λ (b : List ℕ). SentBefore b past) is h.sent))
         (same_log o.log) refl refl refl refl f
         (view_changes_go_again c me s desk o.log [] (given me before) h.own.change frame left last (subst (λ (b : List ℕ). SentBefore b past) is h.sent)

@@ -5,7 +5,7 @@ use Rattle.ordering.specs.Log.{with_batch, Row, LogData, is_in_marks}
 use Rattle.claims.specs.ClaimsView.{ClaimsData, claim_of, IsAmongTexts, digests_of}
 use Rattle.claims.specs.Recording.{with_logged, with_all}
 use Rattle.orderer.specs.State.{OrdererData}
-use Rattle.orderer.specs.Claiming.{LogsBatch, MaySign, SaysFrame}
+use Rattle.orderer.specs.Claiming.{LogsBatch, MaySign, MulticastsFrame}
 use Rattle.std.specs.Arc.{arc_value}
 use Rattle.std.specs.declared.sync.Arc.{Arc}
 use Rattle.std.specs.declared.alloc.Global.{Global}
@@ -18,8 +18,8 @@ use Rattle.replica_histories.specs.Changes.{AddsLogged, claims_from, texts_in_ma
 use Rattle.replica_histories.specs.Views.{with_batches}
 use Rattle.desk.specs.Waiting.{texts}
 use Rattle.orderer.specs.Going.{NoVoteIsDue}
-use Rattle.orderer.specs.Saying.{SaysVotes, PostedFrame, PostsNewView, SaysAlso}
-use Rattle.orderer.specs.EnteringViews.{LogsBatches, SaysVotesOf, HasNoSelection, IsSelection, MaySignView, new_view_of}
+use Rattle.orderer.specs.Multicasting.{MulticastsVotes, OutputsHaveFrame, OutputsHaveNewView, MulticastsAlso}
+use Rattle.orderer.specs.EnterView.{LogsBatches, MulticastsVotesOf, HasNoSelection, IsSelection, MaySignView, new_view_of}
 use Rattle.orderer.proofs.Parties.{same_orderer, orderers_twice, same_log}
 use Rattle.orderer.proofs.Voting.{goes_twice}
 use Rattle.std.specs.Option.{option_map_or}
@@ -28,8 +28,8 @@ use Rattle.sha2.specs.Sha256.{sha256}
 use Rattle.wire_format.specs.Spelling.{IsNewView}
 use Rattle.wire_format.specs.Views.{batch_text}
 use Rattle.wire_format.specs.declared.messages.Batch.{Batch}
-use Rattle.posting.specs.Endpoint.{IsOwnSigned, SignedExceeds, says as of_party}
-use Rattle.posting.proofs.Fitting.{new_views_fit}
+use Rattle.frame_endpoint.specs.Endpoint.{IsOwnSigned, SignedExceeds, says as of_party}
+use Rattle.frame_endpoint.proofs.Fitting.{new_views_fit}
 use Rattle.ordering.specs.Log as logs
 use Rattle.view_change.specs.declared.changes.Selection.{Selection}
 use Rattle.view_change.specs.declared.changes.Sizes.{Sizes}
@@ -49,7 +49,7 @@ use Rattle.replica_histories.proofs.ChangesKept.{sent_keep}
 use Rattle.orderer.specs.Fitting.{given}
 use Rattle.replica_histories.proofs.Primaries.{claimed_select_nothing}
 use Rattle.orderer.proofs.Again.{frame_now, nothing_again, never_said, one_below}
-use Rattle.orderer.proofs.Staying.{GivesOne, gives_one, IsBeside, fits_on}
+use Rattle.orderer.proofs.Staying.{EmitsOne, emits_one, IsBeside, fits_on}
 
 pub logs_batch : (number view : ℕ) (text noted : List ℕ) (inside old new : OrdererData) (claims : ClaimsData) → inside ≡ old → view ≡ inside.log.view → noted ≡ text
     → claims.prepared ≡ inside.claims.prepared → claims.logged ≡ with_logged (claim_of number view noted) inside.claims.logged → Each (IsAmongTexts (noted ∷ inside.claims.texts)) claims.texts
@@ -66,7 +66,7 @@ logs_batch number view text noted inside old new claims same at read prepared lo
 
 -- ---- votes
 
-pub no_votes : (start : ℕ) (o : OrdererData) (outs : List Output) → SaysVotesOf start start o outs o outs
+pub no_votes : (start : ℕ) (o : OrdererData) (outs : List Output) → MulticastsVotesOf start start o outs o outs
 no_votes start o outs = record {
   goes = λ c s desk w due known f. f;
   same = same_orderer o;
@@ -79,7 +79,7 @@ no_votes start o outs = record {
     go i (inl within) = let over = within.0 in let up = within.1 in absurd (omega (arith, over, up))
     go i (inr v) = v
 
-pub one_voted : (start last : ℕ) (a b d : OrdererData) (x y z : List Output) → SaysVotesOf start last a x b y → SaysVotes (last + 1) b y d z → SaysVotesOf start (last + 1) a x d z
+pub one_voted : (start last : ℕ) (a b d : OrdererData) (x y z : List Output) → MulticastsVotesOf start last a x b y → MulticastsVotes (last + 1) b y d z → MulticastsVotesOf start (last + 1) a x d z
 one_voted start last a b d x y z p q = record {
   goes = goes_twice a b d x y z p.same.endpoint p.goes q.says.goes;
   same = orderers_twice a b d p.same q.says.same;
@@ -184,7 +184,7 @@ pub all_logged : (first : ℕ) (texts : List (List ℕ)) (old now : OrdererData)
 all_logged first texts old now n items none left =
     left now (subst (λ (xs : List (Arc (List ℕ) Global)). LogsBatches (suc n) (texts_of xs) now now) (sym none) (logs_none (suc n) now))
 
-pub no_view_again : (o : OrdererData) (outs : List Output) → o.new_view ≡ None → SaysAlso 0 1 PostsNewView o outs o outs
+pub no_view_again : (o : OrdererData) (outs : List Output) → o.new_view ≡ None → MulticastsAlso 0 1 OutputsHaveNewView o outs o outs
 no_view_again o outs none = (nothing_again 0 1 o outs (omega arith), λ frame is. absurd (let bad : None ≡ Some frame = sym none ∙ is in cc))
 
 -- the replica takes no second new view of its view
@@ -199,15 +199,15 @@ module _ (c : Configuration) (me v : ℕ) (past : List Entry) (frame : List ℕ)
     sends = ap (λ (o : Option Body). option_map_or (λ (b : Body). is_pre_prepare b.message) o false) own.posted.says;
   }
 
-pub view_again : (frame : List ℕ) (o : OrdererData) (before after : List Output) → o.new_view ≡ Some frame → SaysFrame o frame before after → SaysAlso 0 1 PostsNewView o before o after
+pub view_again : (frame : List ℕ) (o : OrdererData) (before after : List Output) → o.new_view ≡ Some frame → MulticastsFrame o frame before after → MulticastsAlso 0 1 OutputsHaveNewView o before o after
 view_again frame o before after there says = (
   record {
     goes = λ active c s desk w known below f.
         let me : ℕ = o.endpoint.me in
         let past : List Entry = after_outputs s (given me before) in
         let own : IsOwnView c me o.log.view past frame = f.changes.own_view frame there in
-        let is : GivesOne c me before after (Sent me frame) =
-        gives_one c me before after says.output (Sent me frame) says.given_is says.sends.sends (says.sends.meant c (NewView own.new) known own.posted) in (
+        let is : EmitsOne c me before after (Sent me frame) =
+        emits_one c me before after says.output (Sent me frame) says.given_is says.sends.sends (says.sends.meant c (NewView own.new) known own.posted) in (
           fits_on c me s o o desk w [] [] before after (Sent me frame) is
               (is_beside c me o.log.view past frame own f.fits.of_log.view) (keeps_all c me o.log.view past frame own f.fits.of_log.view)
               (same_log o.log) refl refl refl refl f
@@ -219,7 +219,7 @@ view_again frame o before after there says = (
     more = says.output ∷ [];
     given_is = says.given_is;
   },
-  λ other is_it. subst (λ (b : List ℕ). PostedFrame o b after) (some_injective frame other (sym there ∙ is_it)) (frame_now o frame before after says),
+  λ other is_it. subst (λ (b : List ℕ). OutputsHaveFrame o b after) (some_injective frame other (sym there ∙ is_it)) (frame_now o frame before after says),
 )
 
 -- ---- a selection

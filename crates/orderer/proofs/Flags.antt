@@ -15,7 +15,7 @@ use Rattle.protocol.proofs.Words.Elements.{each_has, each_where, has_filter}
 use Rattle.protocol.proofs.Words.Pairs.{all_pairs, pairs_of}
 use Rattle.replica_histories.specs.Numbers.{FitsNumbers, Waiting, BegunCall as HistoryCall, calls_of, AreCalls, KeepsNumbers, NoneFalls, AreOfNoLaterView, begun_in, arrived, entries_with, IsNextFree}
 use Rattle.replica_histories.specs.Numbers as numbers
-use Rattle.replica_histories.proofs.Numbers.{first_numbers_fit, numbers_are_given}
+use Rattle.replica_histories.proofs.Numbers.{first_numbers_fit, numbers_are_assigned}
 use Rattle.replica_histories.proofs.NumbersBegun.{views_begin}
 use Rattle.replica_histories.proofs.NumbersGiven.{numbers_fit}
 use Rattle.replica_histories.proofs.NumbersLists.{has_taken, mapped_kept, pairs_mapped}
@@ -24,7 +24,7 @@ use Rattle.replica_histories.proofs.NumbersWaiting.{requests_fit, states_fit}
 use Rattle.desk.specs.declared.waiting.WaitingRequest.{WaitingRequest}
 use Rattle.desk.specs.declared.waiting.BegunCall.{BegunCall}
 use Rattle.desk.specs.Waiting.{WaitingData, none_waiting, texts, is_of, is_begun, all_unnumbered, unnumbered, count_unnumbered, all_numbered, with_numbered, renumbered, with_view, forgotten}
-use Rattle.orderer.specs.Flags.{flag, flagged, FitsFlags}
+use Rattle.orderer.specs.Flags.{flagged_call, flagged, FitsFlags}
 use Rattle.desk.specs.Begun.{begun_of}
 use Rattle.desk.specs.DeskOf.{waiting_call, waiting_calls, SpellCalls, AreOfDifferentClients}
 
@@ -38,8 +38,8 @@ flagged_numbered c (suc n) (r ∷ rs) = go r.numbered (flagged_numbered c (suc n
   where
     go : (b : Bool) → flagged c (all_numbered (suc n) rs) ≡ numbers.with_numbered (suc n) (flagged c rs) → flagged c (all_numbered n rs) ≡ numbers.with_numbered n (flagged c rs)
         → flagged c (cond b (r ∷ all_numbered (suc n) rs) (record r { numbered = true } ∷ all_numbered n rs))
-        ≡ cond b (flag c r ∷ numbers.with_numbered (suc n) (flagged c rs)) (record { call = waiting_call c r; numbered = true } ∷ numbers.with_numbered n (flagged c rs))
-    go true many fewer = ap (λ (ws : List Waiting). flag c r ∷ ws) many
+        ≡ cond b (flagged_call c r ∷ numbers.with_numbered (suc n) (flagged c rs)) (record { call = waiting_call c r; numbered = true } ∷ numbers.with_numbered n (flagged c rs))
+    go true many fewer = ap (λ (ws : List Waiting). flagged_call c r ∷ ws) many
     go false many fewer = ap (λ (ws : List Waiting). record { call = waiting_call c r; numbered = true } ∷ ws) fewer
 
 -- if a view begins
@@ -55,7 +55,7 @@ flagged_begun c begun (r ∷ rs) =
 
 -- those without numbers
 flagged_unnumbered : (c : Configuration) (rs : List WaitingRequest) → flagged c (all_unnumbered rs) ≡ numbers.unnumbered (flagged c rs)
-flagged_unnumbered c rs = mapped_kept (flag c) (λ w. not w.numbered) rs
+flagged_unnumbered c rs = mapped_kept (flagged_call c) (λ w. not w.numbered) rs
 
 spelled : (c : Configuration) (rs : List WaitingRequest) → SpellCalls c rs → AreCalls c (texts rs) (calls_of (flagged c rs))
 spelled c [] h = refl
@@ -63,12 +63,12 @@ spelled c (r ∷ rs) h = ap (λ o. o ∷ map (call_of c) (texts rs)) h.0 ∙ ap 
 
 -- The oldest ones' frames spell their calls.
 pub oldest_spelled : (c : Configuration) (n : ℕ) (rs : List WaitingRequest) → SpellCalls c rs → AreCalls c (texts (take n (all_unnumbered rs))) (calls_of (take n (numbers.unnumbered (flagged c rs))))
-oldest_spelled c n rs h = subst (λ (ws : List Waiting). AreCalls c (texts (take n (all_unnumbered rs))) (calls_of ws)) (sym (take-map (flag c) n (all_unnumbered rs)) ∙ ap (take n) (flagged_unnumbered c rs))
+oldest_spelled c n rs h = subst (λ (ws : List Waiting). AreCalls c (texts (take n (all_unnumbered rs))) (calls_of ws)) (sym (take-map (flagged_call c) n (all_unnumbered rs)) ∙ ap (take n) (flagged_unnumbered c rs))
     (spelled c (take n (all_unnumbered rs)) (each_where (λ (r : WaitingRequest). call_of c r.frame.items ≡ Some (waiting_call c r)) (take n (all_unnumbered rs))
     (λ r has. each_has (λ (r : WaitingRequest). call_of c r.frame.items ≡ Some (waiting_call c r)) rs r h (has_filter (λ x. x ≡ r) (λ x. not x.numbered) rs (has_taken (λ x. x ≡ r) n (all_unnumbered rs) has)))))
 
 pub count_same : (c : Configuration) (w : WaitingData) → count_unnumbered w ≡ numbers.count_unnumbered (flagged c w.requests)
-count_same c w = sym (length-map (all_unnumbered w.requests) (flag c)) ∙ ap (λ (ws : List Waiting). length ws) (flagged_unnumbered c w.requests)
+count_same c w = sym (length-map (all_unnumbered w.requests) (flagged_call c)) ∙ ap (λ (ws : List Waiting). length ws) (flagged_unnumbered c w.requests)
 
 -- ---- from event to event
 
@@ -84,7 +84,7 @@ pub flags_forgotten : (c : Configuration) (me v used : ℕ) (w : WaitingData) (o
     → FitsFlags c me v used w old calls history → FitsFlags c me v used (forgotten new w) new (still_waiting new calls) history
 flags_forgotten c me v used w old new calls history grows f =
     subst (λ (ws : List Waiting). FitsNumbers c me v used (begun_of w.begun) ws new (still_waiting new calls) history)
-    (sym (mapped_kept (flag c) (λ x. nat_lt (last_time new x.call.client) x.call.timestamp) w.requests))
+    (sym (mapped_kept (flagged_call c) (λ x. nat_lt (last_time new x.call.client) x.call.timestamp) w.requests))
     (states_fit c me v used (begun_of w.begun) (flagged c w.requests) old new calls history grows f)
 
 -- a newer request, which replaces its client's
@@ -102,8 +102,8 @@ module _ (c : Configuration) (me v used : ℕ) (w : WaitingData) (st : State) (c
 
   entries_are : flagged c (filter (λ x. not (is_of r.client.number x)) w.requests ++ r ∷ []) ≡ others ++ arrived (begun_of w.begun) call ∷ []
   entries_are =
-      map-append (flag c) (filter (λ x. not (is_of r.client.number x)) w.requests) (r ∷ [])
-      ∙ ap (λ (ws : List Waiting). ws ++ flag c r ∷ []) (mapped_kept (flag c) (λ z. not (z.call.client == r.client.number)) w.requests)
+      map-append (flagged_call c) (filter (λ x. not (is_of r.client.number x)) w.requests) (r ∷ [])
+      ∙ ap (λ (ws : List Waiting). ws ++ flagged_call c r ∷ []) (mapped_kept (flagged_call c) (λ z. not (z.call.client == r.client.number)) w.requests)
       ∙ ap (λ (b : Bool). others ++ record { call = call; numbered = b } ∷ []) (flag_is ∙ sym (begun_same w.begun r.client.number r.timestamp.0))
 
   pub flags_waiting : FitsFlags c me v used (record w { requests = filter (λ x. not (is_of r.client.number x)) w.requests ++ r ∷ [] }) st (with_waiting st calls call) history
@@ -148,4 +148,4 @@ flags_begun c me w begun st past e new differ enters none is =
 pub flags_given : (c : Configuration) (me v used : ℕ) (w : WaitingData) (st : State) (calls : List Call) (history : List Entry) → FitsFlags c me v used w st calls history
     → (IsNextFree c me history used st.number → count_unnumbered w ≡ 0) → (i : ℕ) (call : Call) → Has (λ x. x ≡ call) calls → IsFree c me history st.number v i → IsNumbered c me history v call.client call.timestamp
 flags_given c me v used w st calls history f all =
-    numbers_are_given c me v used (begun_of w.begun) (flagged c w.requests) st calls history f (λ free. sym (count_same c w) ∙ all free)
+    numbers_are_assigned c me v used (begun_of w.begun) (flagged c w.requests) st calls history f (λ free. sym (count_same c w) ∙ all free)

@@ -7,14 +7,14 @@ use Rattle.events.specs.Outputs.{entry_of, IsSentAsMeant, AreSentAsMeant}
 use Rattle.events.proofs.Meant.{one_more_meant}
 use Rattle.protocol.specs.System.Configuration.{Configuration}
 use Rattle.protocol.specs.System.Trace.{Entry, party_of}
-use Rattle.orderer.specs.Fitting.{given, FitsWaiting, WasSaid, FitsEvent, changes_held}
+use Rattle.orderer.specs.Fitting.{given, FitsWaiting, WasSent, FitsEvent, changes_held}
 use Rattle.std.specs.Prelude.{option_and_then, ⊤}
 use Rattle.std.specs.Option.{option_map_or}
 use Rattle.std.specs.Bool.{then_some}
 use Rattle.wire_format.specs.Messages.{BodyData as Body, MessageData as Message, CheckpointEntryData as CheckpointEntry, NewViewData, pre_prepare as PrePrepare, new_view as NewView}
 use Rattle.ordering.specs.Log as logs
 use Rattle.ordering.specs.Log.{Row, LogData}
-use Rattle.protocol.specs.System.Frames.{IsPosted}
+use Rattle.protocol.specs.System.Frames.{IsOutgoing}
 use Rattle.protocol.specs.System.Trace.Entry.{Executed, Installed, Sent}
 use Rattle.protocol.specs.Replica.Certificates.{view, target, is_later, new_view_from, taken}
 use Rattle.replica_histories.specs.Desk.{Desk}
@@ -36,13 +36,13 @@ given_one me outs more o same =
     ap (given me) same ∙ ap reverse (map-append (entry_of me) outs (o ∷ [])) ∙ reverse-append (map (entry_of me) outs) (entry_of me o ∷ [])
 
 -- The event has one output more, of this entry. If it is a frame, it goes to the parties for whom it is.
-pub record GivesOne (c : Configuration) (me : ℕ) (before after : List Output) (e : Entry) : Type 0 where
+pub record EmitsOne (c : Configuration) (me : ℕ) (before after : List Output) (e : Entry) : Type 0 where
   pub is : given me after ≡ e ∷ given me before
   pub meant : AreSentAsMeant c me before → AreSentAsMeant c me after
 
-pub gives_one : (c : Configuration) (me : ℕ) (before after : List Output) (output : Output) (e : Entry) → after ≡ before ++ output ∷ [] → entry_of me output ≡ e → IsSentAsMeant c me output
-    → GivesOne c me before after e
-gives_one c me before after output e more same meant = record {
+pub emits_one : (c : Configuration) (me : ℕ) (before after : List Output) (output : Output) (e : Entry) → after ≡ before ++ output ∷ [] → entry_of me output ≡ e → IsSentAsMeant c me output
+    → EmitsOne c me before after e
+emits_one c me before after output e more same meant = record {
   is = given_one me before after output more ∙ ap (λ (x : Entry). x ∷ given me before) same;
   meant = one_more_meant c me before after output more meant;
 }
@@ -56,18 +56,18 @@ pub record IsBeside (c : Configuration) (me : ℕ) (past : List Entry) (e : Entr
   pub sends : sends_pre_prepare e ≡ false
 
 -- messages that are no pre-prepare and no new view
-abbrev pub GivesNoNumber : Message → Type 0
-GivesNoNumber message = elim message [ PrePrepare v i batch ↦ ⊥ | NewView new ↦ ⊥ | _ ↦ ⊤ ]
+abbrev pub AssignsNoNumber : Message → Type 0
+AssignsNoNumber message = elim message [ PrePrepare v i batch ↦ ⊥ | NewView new ↦ ⊥ | _ ↦ ⊤ ]
 
-begins_none : (c : Configuration) (me : ℕ) (message : Message) → GivesNoNumber message → new_view_from c (record { sender = me; message = message }) ≡ None
+begins_none : (c : Configuration) (me : ℕ) (message : Message) → AssignsNoNumber message → new_view_from c (record { sender = me; message = message }) ≡ None
 begins_none c me (NewView new) h = absurd h
 begins_none c me _ h = refl
 
-proposes_none : (message : Message) → GivesNoNumber message → is_pre_prepare message ≡ false
+proposes_none : (message : Message) → AssignsNoNumber message → is_pre_prepare message ≡ false
 proposes_none (PrePrepare v i batch) h = absurd h
 proposes_none _ h = refl
 
-pub sent_beside : (c : Configuration) (me : ℕ) (message : Message) (receivers bytes : List ℕ) (past : List Entry) → GivesNoNumber message → IsPosted c me message receivers bytes → IsBeside c me past (Sent me bytes)
+pub sent_beside : (c : Configuration) (me : ℕ) (message : Message) (receivers bytes : List ℕ) (past : List Entry) → AssignsNoNumber message → IsOutgoing c me message receivers bytes → IsBeside c me past (Sent me bytes)
 sent_beside c me message receivers bytes past none posted = record {
   here = refl;
   none = ap (option_and_then (λ (new : NewViewData). then_some (is_later (view c past) (target past) new) new))
@@ -110,7 +110,7 @@ numbers_alike c me w old new desk history same used f own =
     (subst (λ (u : ℕ). FitsFlags c me old.log.view u w desk.state desk.waiting history) (sym used) (f was))
 
 -- what the replica sent, after any entry
-pub said_on : (me : ℕ) (last : Option CheckpointEntry) (past : List Entry) (e : Entry) → WasSaid me last past → WasSaid me last (e ∷ past)
+pub said_on : (me : ℕ) (last : Option CheckpointEntry) (past : List Entry) (e : Entry) → WasSent me last past → WasSent me last (e ∷ past)
 said_on me last past e h entry is = inr (h entry is)
 
 -- ---- view-change data
@@ -140,22 +140,22 @@ changes_still c me s old new desk later due rest outputs e f on keeps same low h
 
 -- If desk and log fit the history after one output more, and so do the numbers and the view-change data, all fits it.
 pub fits_behind : (c : Configuration) (me : ℕ) (s : Start) (old new : OrdererData) (desk later : Desk) (w more : WaitingData) (due rest : List Message) (before after : List Output) (e : Entry)
-    → GivesOne c me before after e → new.last_checkpoint ≡ old.last_checkpoint → FitsEvent c me s old desk w due before
+    → EmitsOne c me before after e → new.last_checkpoint ≡ old.last_checkpoint → FitsEvent c me s old desk w due before
     → events.BothFitWithinEvent c me s later new.log rest (e ∷ given me before) → FitsWaiting c me new more later (e ∷ after_outputs s (given me before))
     → FitsChanges c me new.log (changes_held new) (e ∷ after_outputs s (given me before))
     → FitsEvent c me s new later more rest after
 fits_behind c me s old new desk later w more due rest before after e gives last f on numbers changes = record {
   fits = subst (λ (es : List Entry). events.BothFitWithinEvent c me s later new.log rest es) (sym gives.is) on;
   numbers = subst (λ (es : List Entry). FitsWaiting c me new more later (after_outputs s es)) (sym gives.is) numbers;
-  said = subst (λ (es : List Entry). WasSaid me new.last_checkpoint (after_outputs s es)) (sym gives.is)
-      (subst (λ (x : Option CheckpointEntry). WasSaid me x (e ∷ after_outputs s (given me before))) (sym last) (said_on me old.last_checkpoint (after_outputs s (given me before)) e f.said));
+  said = subst (λ (es : List Entry). WasSent me new.last_checkpoint (after_outputs s es)) (sym gives.is)
+      (subst (λ (x : Option CheckpointEntry). WasSent me x (e ∷ after_outputs s (given me before))) (sym last) (said_on me old.last_checkpoint (after_outputs s (given me before)) e f.said));
   changes = subst (λ (es : List Entry). FitsChanges c me new.log (changes_held new) (after_outputs s es)) (sym gives.is) changes;
   meant = gives.meant f.meant;
 }
 
 -- So does all after an entry that assigns no number, if the log stays in its view.
 pub fits_with : (c : Configuration) (me : ℕ) (s : Start) (old new : OrdererData) (desk : Desk) (w : WaitingData) (due rest : List Message) (before after : List Output) (e : Entry)
-    → GivesOne c me before after e → IsBeside c me (after_outputs s (given me before)) e
+    → EmitsOne c me before after e → IsBeside c me (after_outputs s (given me before)) e
     → IsSameLog old.log new.log → new.used ≡ old.used → new.last_checkpoint ≡ old.last_checkpoint
     → FitsChanges c me new.log (changes_held new) (e ∷ after_outputs s (given me before))
     → FitsEvent c me s old desk w due before → events.BothFitWithinEvent c me s desk new.log rest (e ∷ given me before)
@@ -167,7 +167,7 @@ fits_with c me s old new desk w due rest before after e is beside same used last
 
 -- And if it changes no view-change data, and the low mark stays.
 pub fits_on : (c : Configuration) (me : ℕ) (s : Start) (old new : OrdererData) (desk : Desk) (w : WaitingData) (due rest : List Message) (before after : List Output) (e : Entry)
-    → GivesOne c me before after e → IsBeside c me (after_outputs s (given me before)) e → KeepsChanges c me (after_outputs s (given me before)) e
+    → EmitsOne c me before after e → IsBeside c me (after_outputs s (given me before)) e → KeepsChanges c me (after_outputs s (given me before)) e
     → IsSameLog old.log new.log → new.log.low ≡ old.log.low → new.used ≡ old.used → new.last_checkpoint ≡ old.last_checkpoint → changes_held new ≡ changes_held old
     → FitsEvent c me s old desk w due before → events.BothFitWithinEvent c me s desk new.log rest (e ∷ given me before)
     → FitsEvent c me s new desk w rest after

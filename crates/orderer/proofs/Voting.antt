@@ -15,14 +15,14 @@ use Rattle.sha2.specs.Sha256.{sha256}
 use Rattle.wire_format.specs.Messages.{MessageData as Message, prepare as Prepare, commit as Commit}
 use Rattle.ordering.proofs.Reading.{prepares_count, commits_count}
 use Rattle.protocol.specs.System.Configuration.{Configuration, members}
-use Rattle.protocol.specs.System.Frames.{IsPosted}
+use Rattle.protocol.specs.System.Frames.{IsOutgoing}
 use Rattle.protocol.specs.System.Trace.{Entry, Has}
 use Rattle.protocol.specs.System.Trace.Entry.{Sent}
 use Rattle.protocol.proofs.Words.Options.{some_injective}
 use Rattle.claims.specs.ClaimsView.{ClaimsData}
 use Rattle.claims.specs.Recording.{with_prepared}
 use Rattle.protocol.specs.Replica.RightReplica.{others}
-use Rattle.posting.proofs.Posting.{posted_for_others}
+use Rattle.frame_endpoint.proofs.Posting.{posted_for_others}
 use Rattle.events.specs.declared.output.Output.{Output}
 use Rattle.replica_histories.specs.Events as events
 use Rattle.replica_histories.specs.Events.{after_outputs, Start}
@@ -33,8 +33,8 @@ use Rattle.orderer.specs.State.{OrdererData, IsOrderer}
 use Rattle.orderer.specs.Fitting.{given, changes_held, FitsEvent}
 use Rattle.orderer.specs.Going.{KeepsFitting, NoVoteIsDue}
 use Rattle.orderer.specs.Claiming.{claiming, ClaimsLogged}
-use Rattle.orderer.specs.Saying.{SaysToOthers, AddsVote, SaysVote, SaysPrepare, SaysCommit, SaysVotes}
-use Rattle.orderer.proofs.Staying.{GivesOne, gives_one, sent_beside, same_rows, fits_on, fits_with, changes_still, fits_behind, numbers_beside}
+use Rattle.orderer.specs.Multicasting.{Multicasts, AddsVote, MulticastsVote, MulticastsPrepare, MulticastsCommit, MulticastsVotes}
+use Rattle.orderer.proofs.Staying.{EmitsOne, emits_one, sent_beside, same_rows, fits_on, fits_with, changes_still, fits_behind, numbers_beside}
 use Rattle.orderer.proofs.Parties.{same_orderer, orderers_twice, same_log}
 use Rattle.replica_histories.proofs.ChangesKept.{sent_keep}
 use Rattle.state_transfer.specs.Transfer.{TransferData}
@@ -124,19 +124,19 @@ prepare_stays m i vote is hi = ap (prepare_by m (is_in_marks m i)) (row_here m i
 -- the sent message, as the laws over histories ask for it
 pub record SaidIn (c : Configuration) (o : OrdererData) (message : Message) (before after : List Output) : Type 0 where
   pub bytes : List ℕ
-  pub posted : IsPosted c o.endpoint.me message (others c o.endpoint.me) bytes
-  pub is : GivesOne c o.endpoint.me before after (Sent o.endpoint.me bytes)
+  pub posted : IsOutgoing c o.endpoint.me message (others c o.endpoint.me) bytes
+  pub is : EmitsOne c o.endpoint.me before after (Sent o.endpoint.me bytes)
 
-pub said_in : (c : Configuration) (o : OrdererData) (message : Message) (before after : List Output) → members c ≡ o.endpoint.membership → SaysToOthers o message before after
+pub said_in : (c : Configuration) (o : OrdererData) (message : Message) (before after : List Output) → members c ≡ o.endpoint.membership → Multicasts o message before after
     → SaidIn c o message before after
 said_in c o message before after known s = record {
   bytes = s.posts.bytes;
   posted = posted_for_others o.endpoint.membership o.endpoint.me message s.posts.bytes s.posts.posted c known;
-  is = gives_one c o.endpoint.me before after s.output (Sent o.endpoint.me s.posts.bytes) s.given_is s.posts.sends (s.posts.meant c known);
+  is = emits_one c o.endpoint.me before after s.output (Sent o.endpoint.me s.posts.bytes) s.given_is s.posts.sends (s.posts.meant c known);
 }
 
 -- nothing is asked for, and nothing is sent
-pub silent : (number : ℕ) (o : OrdererData) (outs : List Output) → SaysVote number o outs o outs
+pub silent : (number : ℕ) (o : OrdererData) (outs : List Output) → MulticastsVote number o outs o outs
 silent number o outs = record {
   goes = λ c s desk w due known f. f;
   same = same_orderer o;
@@ -145,12 +145,12 @@ silent number o outs = record {
   others = λ i ne v. v;
 }
 
-pub no_commit : (number : ℕ) (o : OrdererData) (outs : List Output) → due_commit o.log number ≡ None → SaysCommit number o outs o outs
+pub no_commit : (number : ℕ) (o : OrdererData) (outs : List Output) → due_commit o.log number ≡ None → MulticastsCommit number o outs o outs
 no_commit number o outs h = record { says = silent number o outs; said = h; prepared = refl }
 
 -- a vote is counted, and no claim of a logged batch changes
 votes : (phase : Phase) (number : ℕ) (vote : Vote) (old : OrdererData) (claims : ClaimsData) (before after : List Output) → claims.logged ≡ old.claims.logged → is_in_marks old.log number ≡ true
-    → (let new : OrdererData = record old { log = with_vote_in phase old.log number vote; claims = claims } in KeepsFitting old before new after → SaysVote number old before new after)
+    → (let new : OrdererData = record old { log = with_vote_in phase old.log number vote; claims = claims } in KeepsFitting old before new after → MulticastsVote number old before new after)
 votes phase number vote old claims before after logged inside goes = record {
   goes = goes;
   same = record {
@@ -167,7 +167,7 @@ votes phase number vote old claims before after logged inside goes = record {
 -- ---- a prepare
 
 prepare_goes : (number : ℕ) (digest : List ℕ) (vote : Vote) (o : OrdererData) (before after : List Output) → o.log.me ≡ o.endpoint.me → due_prepare o.log number ≡ Some digest
-    → vote.sender.0 ≡ o.log.me → vote.digest ≡ digest → SaysToOthers o (Prepare o.log.view number digest) before after
+    → vote.sender.0 ≡ o.log.me → vote.digest ≡ digest → Multicasts o (Prepare o.log.view number digest) before after
     → KeepsFitting o before (record o { log = with_prepare o.log number vote }) after
 prepare_goes number digest vote o before after own due sender same says c s desk w d known f =
     let k = said_in c o (Prepare o.log.view number digest) before after known says in
@@ -178,9 +178,9 @@ prepare_goes number digest vote o before after own due sender same says c s desk
     (prepares_fit c o.endpoint.me s desk o.log d (given o.endpoint.me before) number digest k.bytes vote due (sender ∙ own) same k.posted f.fits)
 
 pub says_prepare : (number : ℕ) (digest : List ℕ) (old new : OrdererData) (before after : List Output) → IsLog old.log → IsOrderer old → due_prepare old.log number ≡ Some digest
-    → SaysToOthers old (Prepare old.log.view number digest) before after → AddsVote phases.Prepare number digest old new → SaysPrepare number old before new after
+    → Multicasts old (Prepare old.log.view number digest) before after → AddsVote phases.Prepare number digest old new → MulticastsPrepare number old before new after
 says_prepare number digest old new before after is own due says adds =
-    subst (λ (x : OrdererData). SaysPrepare number old before x after) (sym adds.new_is) (record {
+    subst (λ (x : OrdererData). MulticastsPrepare number old before x after) (sym adds.new_is) (record {
       says = votes phases.Prepare number adds.vote old old.claims before after refl inside (prepare_goes number digest adds.vote old before after own.0 due adds.sender adds.digest_is says);
       said = vote_said phases.Prepare old.log number adds.vote is inside adds.sender;
     })
@@ -219,7 +219,7 @@ claims_due number digest old new due claims = go (logged_batch old.log number) h
     go (Some text) e is = record { text = text; digest_is = some_injective (sha256 text) digest e; new_is = is }
 
 commit_goes : (number : ℕ) (digest text : List ℕ) (vote : Vote) (o : OrdererData) (before after : List Output) → o.log.me ≡ o.endpoint.me → due_commit o.log number ≡ Some digest
-    → sha256 text ≡ digest → vote.sender.0 ≡ o.log.me → vote.digest ≡ digest → SaysToOthers (claiming number text o) (Commit o.log.view number digest) before after
+    → sha256 text ≡ digest → vote.sender.0 ≡ o.log.me → vote.digest ≡ digest → Multicasts (claiming number text o) (Commit o.log.view number digest) before after
     → KeepsFitting o before (record (claiming number text o) { log = with_commit o.log number vote }) after
 commit_goes number digest text vote o before after own due hashed sender same says c s desk w d known f =
     fits_with c me s o (record (claiming number text o) { log = log }) desk w d d before after e k.is
@@ -250,9 +250,9 @@ commit_goes number digest text vote o before after own due hashed sender same sa
     on = commits_fit c me s desk o.log d (given me before) number digest k.bytes vote due (sender ∙ own) same k.posted f.fits
 
 claimed_commit : (number : ℕ) (digest text : List ℕ) (old new : OrdererData) (before after : List Output) → IsLog old.log → IsOrderer old → due_commit old.log number ≡ Some digest → sha256 text ≡ digest
-    → SaysToOthers (claiming number text old) (Commit old.log.view number digest) before after → AddsVote phases.Commit number digest (claiming number text old) new → SaysCommit number old before new after
+    → Multicasts (claiming number text old) (Commit old.log.view number digest) before after → AddsVote phases.Commit number digest (claiming number text old) new → MulticastsCommit number old before new after
 claimed_commit number digest text old new before after is own due hashed says adds =
-    subst (λ (x : OrdererData). SaysCommit number old before x after) (sym adds.new_is) (record {
+    subst (λ (x : OrdererData). MulticastsCommit number old before x after) (sym adds.new_is) (record {
       says = votes phases.Commit number adds.vote old (claiming number text old).claims before after refl inside (commit_goes number digest text adds.vote old before after own.0 due hashed adds.sender adds.digest_is says);
       said = vote_said phases.Commit old.log number adds.vote is inside adds.sender;
       prepared = prepare_stays old.log number adds.vote is inside;
@@ -262,11 +262,11 @@ claimed_commit number digest text old new before after is own due hashed says ad
     inside = due_within phases.Commit old.log number digest due
 
 pub says_commit : (number : ℕ) (digest : List ℕ) (old mid new : OrdererData) (before after : List Output) → IsLog old.log → IsOrderer old → due_commit old.log number ≡ Some digest
-    → ClaimsLogged number old mid → SaysToOthers mid (Commit mid.log.view number digest) before after → AddsVote phases.Commit number digest mid new → SaysCommit number old before new after
+    → ClaimsLogged number old mid → Multicasts mid (Commit mid.log.view number digest) before after → AddsVote phases.Commit number digest mid new → MulticastsCommit number old before new after
 says_commit number digest old mid new before after is own due claims says adds =
     let k = claims_due number digest old mid due claims in
     claimed_commit number digest k.text old new before after is own due k.digest_is
-    (subst (λ (x : OrdererData). SaysToOthers x (Commit x.log.view number digest) before after) k.new_is says)
+    (subst (λ (x : OrdererData). Multicasts x (Commit x.log.view number digest) before after) k.new_is says)
     (subst (λ (x : OrdererData). AddsVote phases.Commit number digest x new) k.new_is adds)
 
 -- ---- both
@@ -277,7 +277,7 @@ goes_twice a b d x y z same first second c s desk w due known f =
     subst (λ e. FitsEvent c e.me s d desk w due z) same
     (second c s desk w due (known ∙ ap (λ e. e.membership) (sym same)) (subst (λ e. FitsEvent c e.me s b desk w due y) (sym same) (first c s desk w due known f)))
 
-pub says_votes : (number : ℕ) (a b d : OrdererData) (x y z : List Output) → SaysPrepare number a x b y → SaysCommit number b y d z → SaysVotes number a x d z
+pub says_votes : (number : ℕ) (a b d : OrdererData) (x y z : List Output) → MulticastsPrepare number a x b y → MulticastsCommit number b y d z → MulticastsVotes number a x d z
 says_votes number a b d x y z p q = record {
   says = record {
     goes = goes_twice a b d x y z p.says.same.endpoint p.says.goes q.says.goes;
@@ -290,7 +290,7 @@ says_votes number a b d x y z p q = record {
 }
 
 module _ (c : Configuration) (s : Start) (o : OrdererData) (desk : Desk) (w : WaitingData) (before after : List Output) (t : TransferData) (known : members c ≡ o.endpoint.membership)
-    (says : SaysToOthers o (fetch_of t) before after) where
+    (says : Multicasts o (fetch_of t) before after) where
   abbrev pub me : ℕ
   me = o.endpoint.me
 

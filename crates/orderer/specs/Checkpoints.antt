@@ -5,10 +5,10 @@ use Rattle.wire_format.specs.Messages.{CheckpointEntryData as CheckpointEntry, c
 use Rattle.wire_format.specs.declared.messages.Checkpoint.{Checkpoint as CheckpointMessage}
 use Rattle.events.specs.declared.output.Output.{Output}
 use Rattle.ordering.specs.Log as logs
-use Rattle.ordering.specs.Checkpoints.{says_checkpoint}
+use Rattle.ordering.specs.Checkpoints.{lists_checkpoint}
 use Rattle.ordering.specs.Messages.{checkpoint_fault_of}
 use Rattle.orderer.specs.State.{OrdererData}
-use Rattle.orderer.specs.Saying.{SaysToOthers}
+use Rattle.orderer.specs.Multicasting.{Multicasts}
 
 -- the number and root in a checkpoint message
 abbrev pub said_entry : CheckpointMessage → CheckpointEntry
@@ -23,14 +23,14 @@ counting o s entry = record o { log = logs.with_checkpoint_of o.log s entry }
 abbrev pub TakesCheckpoint : OrdererData → ReplicaId → CheckpointMessage → OrdererData → Bool → Type 0
 TakesCheckpoint old sender m new true =
     (checkpoint_fault_of old.log sender m ≡ None) × (new ≡ counting old sender.0 (said_entry m))
-    × (says_checkpoint (said_entry m) (logs.checkpoints_of new.log sender.0) ≡ true)
+    × (lists_checkpoint (said_entry m) (logs.checkpoints_of new.log sender.0) ≡ true)
 TakesCheckpoint old sender m new false =
     ((is_none (checkpoint_fault_of old.log sender m) ≡ false) × (new ≡ old))
     ⊎ ((new ≡ counting old sender.0 (said_entry m))
-    × (says_checkpoint (said_entry m) (logs.checkpoints_of new.log sender.0) ≡ false))
+    × (lists_checkpoint (said_entry m) (logs.checkpoints_of new.log sender.0) ≡ false))
 
 -- The replica multicasts, counts and notes its own checkpoint.
-pub record SaysCheckpoint (entry : CheckpointEntry) (old : OrdererData) (before : List Output) (new : OrdererData)
+pub record MulticastsCheckpoint (entry : CheckpointEntry) (old : OrdererData) (before : List Output) (new : OrdererData)
     (after : List Output) : Type 0 where
-  pub says : SaysToOthers old (Checkpoint entry.number entry.digest) before after
+  pub says : Multicasts old (Checkpoint entry.number entry.digest) before after
   pub new_is : new ≡ record (counting old old.log.me entry) { last_checkpoint = Some entry }

@@ -4,7 +4,7 @@ use Rattle.std.specs.Prelude.{◌≡◌, ℕ, ◌+◌, ◌⊎◌, List, [], ◌�
 use Rattle.std.specs.declared.alloc.Global.{Global}
 use Rattle.wire_format.specs.Messages.{MessageData as Message}
 use Rattle.events.specs.declared.output.Output.{Output}
-use Rattle.posting.specs.Endpoint.{IsOwnSigned, SendsToOthers, SignedExceeds, says}
+use Rattle.frame_endpoint.specs.Endpoint.{IsOwnSigned, SendsToOthers, SignedExceeds, says}
 use Rattle.protocol.specs.System.Frames.{leaf_of}
 use Rattle.ordering.specs.Log as logs
 use Rattle.claims.specs.ClaimsView.{ClaimsData, claim_of}
@@ -40,7 +40,7 @@ MaySign message old new (Some frame) =
     × (new ≡ record old { spent = old.spent + 1 })
 
 -- the bytes go to the other replicas, after the earlier outputs
-pub record SaysFrame (o : OrdererData) (bytes : List ℕ) (before after : List Output) : Type 0 where
+pub record MulticastsFrame (o : OrdererData) (bytes : List ℕ) (before after : List Output) : Type 0 where
   pub output : Output
   pub sends : SendsToOthers o.endpoint bytes output
   pub given_is : after ≡ before ++ output ∷ []

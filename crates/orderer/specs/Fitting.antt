@@ -7,7 +7,7 @@ use Rattle.events.specs.Outputs.{entry_of, AreSentAsMeant}
 use Rattle.ordering.specs.Log as logs
 use Rattle.protocol.specs.System.Configuration.{Configuration}
 use Rattle.protocol.specs.System.Trace.{Entry, Once}
-use Rattle.protocol.specs.Replica.Owed.{IsSaying}
+use Rattle.protocol.specs.Replica.Owed.{IsSending}
 use Rattle.replica_histories.specs.Desk.{Desk}
 use Rattle.replica_histories.specs.Events as events
 use Rattle.replica_histories.specs.Events.{Start, after_outputs}
@@ -38,9 +38,9 @@ changes_held o = record {
 }
 
 -- the replica sent its last checkpoint
-abbrev pub WasSaid : ℕ → Option CheckpointEntry → List Entry → Type 0
-WasSaid me last history =
-    ForSome last (λ entry. Once (λ earlier e. IsSaying me (Checkpoint entry.number entry.digest) e) history)
+abbrev pub WasSent : ℕ → Option CheckpointEntry → List Entry → Type 0
+WasSent me last history =
+    ForSome last (λ entry. Once (λ earlier e. IsSending me (Checkpoint entry.number entry.digest) e) history)
 
 -- Desk and orderer fit the history with the event's outputs, and these messages are due. Each frame among the outputs
 -- goes to the parties for whom it is.
@@ -48,6 +48,6 @@ pub record FitsEvent (c : Configuration) (me : ℕ) (s : Start) (o : OrdererData
     (w : WaitingData) (due : List Message) (outs : List Output) : Type 0 where
   pub fits : events.BothFitWithinEvent c me s desk o.log due (given me outs)
   pub numbers : FitsWaiting c me o w desk (after_outputs s (given me outs))
-  pub said : WasSaid me o.last_checkpoint (after_outputs s (given me outs))
+  pub said : WasSent me o.last_checkpoint (after_outputs s (given me outs))
   pub changes : FitsChanges c me o.log (changes_held o) (after_outputs s (given me outs))
   pub meant : AreSentAsMeant c me outs

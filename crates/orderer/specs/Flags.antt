@@ -10,11 +10,11 @@ use Rattle.desk.specs.DeskOf.{waiting_call}
 use Rattle.desk.specs.Waiting.{WaitingData}
 
 -- a request's call, with its flag
-abbrev pub flag : Configuration → WaitingRequest → Waiting
-flag c r = record { call = waiting_call c r; numbered = r.numbered }
+abbrev pub flagged_call : Configuration → WaitingRequest → Waiting
+flagged_call c r = record { call = waiting_call c r; numbered = r.numbered }
 
 abbrev pub flagged : Configuration → List WaitingRequest → List Waiting
-flagged c requests = map (flag c) requests
+flagged c requests = map (flagged_call c) requests
 
 -- In the view v, whose greatest assigned number is `used`, the flags of the waiting requests are those of the history.
 abbrev pub FitsFlags : Configuration → ℕ → ℕ → ℕ → WaitingData → State → List Call → List Entry → Type 0

@@ -5,9 +5,9 @@ pub mod Fitting
 pub mod Going
 pub mod Claiming
 pub mod Taking
-pub mod Saying
+pub mod Multicasting
 pub mod Checkpoints
 pub mod Numbering
-pub mod Changing
+pub mod ViewChangeOut
 pub mod Receiving
-pub mod EnteringViews
+pub mod EnterView

@@ -3,7 +3,7 @@ use Rattle.std.specs.Prelude.{◌≡◌, ℕ, ◌<◌, List, Option, Some}
 use Rattle.wire_format.specs.Lists.{Each}
 use Rattle.wire_format.specs.Messages.{CheckpointEntryData as CheckpointEntry}
 use Rattle.wire_format.specs.Spelling.{IsBatch}
-use Rattle.posting.specs.Endpoint.{EndpointState}
+use Rattle.frame_endpoint.specs.Endpoint.{EndpointState}
 use Rattle.ordering.specs.Log.{LogData, logged_batch}
 use Rattle.claims.specs.ClaimsView.{ClaimsData}
 use Rattle.view_change.specs.ReceivedView.{ReceivedState}

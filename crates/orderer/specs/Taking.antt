@@ -7,7 +7,7 @@ use Rattle.wire_format.specs.declared.messages.Commit.{Commit}
 use Rattle.wire_format.specs.Words.{requests_of}
 use Rattle.ordering.specs.Log.{new_log, with_prepare, with_commit}
 use Rattle.ordering.specs.Messages.{preprepare_fault_of, prepare_fault_of, commit_fault_of}
-use Rattle.posting.specs.Endpoint.{are_heard}
+use Rattle.frame_endpoint.specs.Endpoint.{are_authentic}
 use Rattle.protocol.specs.System.Configuration.{Configuration, members, replicas, span}
 use Rattle.claims.specs.ClaimsView.{no_claims}
 use Rattle.orderer.specs.State.{OrdererData}
@@ -36,11 +36,11 @@ IsNewOrderer c me o = (o ≡ record {
 abbrev pub TakesBatch : OrdererData → ReplicaId → PrePrepare → OrdererData → Bool → Type 0
 TakesBatch old sender p new true =
     (preprepare_fault_of old.log sender p ≡ None)
-    × (are_heard old.endpoint.membership old.endpoint.me (requests_of p.batch.text.items) ≡ true)
+    × (are_authentic old.endpoint.membership old.endpoint.me (requests_of p.batch.text.items) ≡ true)
     × LogsBatch p.number.0 p.batch.text.items old new
 TakesBatch old sender p new false =
     ((is_none (preprepare_fault_of old.log sender p) ≡ false)
-    ⊎ (are_heard old.endpoint.membership old.endpoint.me (requests_of p.batch.text.items) ≡ false))
+    ⊎ (are_authentic old.endpoint.membership old.endpoint.me (requests_of p.batch.text.items) ≡ false))
     × (new ≡ old)
 
 -- The same of votes, if the log has no fault for them.

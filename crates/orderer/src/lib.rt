@@ -5,7 +5,7 @@
 //! An [`Orderer`] has the endpoint, which authenticates and seals frames, and the log of the three phases. It has the
 //! number used last and the checkpoint sent last. For view changes it has the target, the claims, the view changes that
 //! came, and its own new view. The crate `replica` joins it to a desk, hands it the messages that came, and asks it for
-//! what is committed.
+//! committed batches.
 //!
 //! # What it keeps
 //!
@@ -16,7 +16,7 @@
 //!
 //! # What it costs
 //!
-//! A vote goes over the votes of one number, and a checkpoint over three of each replica. What is sent again goes over
+//! A vote goes over the votes of one number, and a checkpoint over three of each replica. Sending again goes over
 //! the numbers above the executed one. Nothing is hashed but batches, frames and what a signature covers.
 //!
 //! # What is proved
@@ -27,17 +27,18 @@
 //! desk.
 //!
 //! `take_batch`, `take_prepare`, `take_commit` and `take_checkpoint` take what the log has no fault for, and drop all
-//! else. `say_votes` sends the prepare and the commit that are due of a number, and then none is due (`SaysVotes`).
-//! `say_batch` sends the primary's batch for a number (`SaysBatch`). `free_number` gives the next number if an active
-//! primary may assign it (`IsFree`).
+//! else. `multicast_votes` sends the prepare and the commit that are due of a number, and then none is due
+//! (`MulticastsVotes`). `multicast_batch` sends the primary's batch for a number (`SaysBatch`). `free_number` gives the
+//! next number if an active primary may assign it (`IsFree`).
 //!
-//! `say_again` sends again, in order, what the replica sent for the numbers above the executed one (`PostsAll`), and
-//! `say_change_again` its view change (`PostsChange`). Both change nothing.
+//! `multicast_again` sends again, in order, what the replica sent for the numbers above the executed one
+//! (`OutputsHaveAll`), and `multicast_view_change_again` its view change (`OutputsHaveViewChange`). Both change
+//! nothing.
 //!
 //! `sign_change` signs and stores the replica's own view change, or nothing changes (`MaySignChange`). `receive` stores
 //! another's if nothing refuses it. `joined_view` gives the view to which `f + 1` others move the replica
 //! (`IsJoinedBy`). `selection` gives what the new view begins with, if the view changes allow it (`IsSelection`).
-//! `enter`, `log_begun` and `say_all_votes` enter a view, batch by batch.
+//! `enter`, `log_begun` and `multicast_all_votes` enter a view, batch by batch.
 //!
 //! If memory runs out, a call gives an error, and its caller stops.
 //!
@@ -49,16 +50,16 @@
 //! - A signed frame is kept as bytes, so a view change spends one key, however often it goes again.
 #![tactic(auto)]
 
-mod changing;
 mod claiming;
-mod entering_views;
-mod joining;
+mod enter_view;
 mod marks;
-mod new_views;
+mod multicasting;
+mod new_view;
 mod orderer;
 mod reading;
-mod saying;
 mod signing_frames;
+mod view_change_in;
+mod view_change_out;
 mod votes;
 
 pub use marks::entry_in;

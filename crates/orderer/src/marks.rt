@@ -6,12 +6,12 @@ ghost use Rattle.wire_format.specs.Views.{checkpoint_entry_data};
 ghost use Rattle.ordering.specs.Log.{count_checkpoints};
 ghost use Rattle.orderer.specs.Going.{KeepsParty};
 ghost use Rattle.orderer.specs.Claiming.{CutsLog};
-ghost use Rattle.orderer.specs.Checkpoints.{SaysCheckpoint, TakesCheckpoint, said_entry};
-ghost use Rattle.orderer.specs.Saying.{PostsCheckpoint, SaysToOthers, SaysLastAlso};
+ghost use Rattle.orderer.specs.Checkpoints.{MulticastsCheckpoint, TakesCheckpoint, said_entry};
+ghost use Rattle.orderer.specs.Multicasting.{OutputsHaveCheckpoint, Multicasts, MulticastsLastAlso};
 
 use crate::orderer::Orderer;
 use events::{Outputs, Stop};
-use posting::checkpoint_message;
+use frame_endpoint::checkpoint_message;
 use std::alloc::Global;
 use terms::{Number, ReplicaId};
 use wire::{Checkpoint, CheckpointEntry};
@@ -30,20 +30,20 @@ impl Orderer {
     }
 
     /// Multicasts the replica's own checkpoint, and counts it.
-    pub fn say_checkpoint(
+    pub fn multicast_checkpoint(
         &mut self,
         alloc: Global,
         entry: CheckpointEntry,
         outputs: &mut Outputs,
     ) -> Result<(), Stop>
         requires { entry.number.0 < 2 ^ 48 }
-        ensures ok { OnOk result (SaysCheckpoint (checkpoint_entry_data entry) self.old outputs.old.items self.new
+        ensures ok { OnOk result (MulticastsCheckpoint (checkpoint_entry_data entry) self.old outputs.old.items self.new
             outputs.new.items) }
         ensures party { KeepsParty self.old self.new }
         ensures received { self.new.received ≡ self.old.received }
     {
         self.keeps();
-        self.post_checkpoint(alloc, entry, outputs)?;
+        self.multicast_checkpoint_message(alloc, entry, outputs)?;
         let me = self.log.me();
         self.log.add_checkpoint(me, entry);
         self.last_checkpoint = Some(entry);
@@ -51,33 +51,33 @@ impl Orderer {
     }
 
     /// Multicasts the replica's latest checkpoint again, if there was one, also at or below the low mark.
-    pub(crate) fn say_checkpoint_again(
+    pub(crate) fn multicast_checkpoint_again(
         &mut self,
         alloc: Global,
         outputs: &mut Outputs,
     ) -> Result<(), Stop>
-        ensures ok { OnOk result ((place : ℕ) → SaysLastAlso true place PostsCheckpoint self.old
+        ensures ok { OnOk result ((place : ℕ) → MulticastsLastAlso true place OutputsHaveCheckpoint self.old
             outputs.old.items self.new outputs.new.items) }
         ensures same { self.new ≡ self.old }
     {
         match self.last_checkpoint {
-            Some(entry) => self.post_checkpoint(alloc, entry, outputs),
+            Some(entry) => self.multicast_checkpoint_message(alloc, entry, outputs),
             None => Ok(()),
         }
     }
 
-    fn post_checkpoint(
+    fn multicast_checkpoint_message(
         &mut self,
         alloc: Global,
         entry: CheckpointEntry,
         outputs: &mut Outputs,
     ) -> Result<(), Stop>
-        ensures said { OnOk result (SaysToOthers self.old (checkpoint entry.number.0 entry.digest)
+        ensures said { OnOk result (Multicasts self.old (checkpoint entry.number.0 entry.digest)
             outputs.old.items outputs.new.items) }
         ensures same { self.new ≡ self.old }
     {
         let message = checkpoint_message(entry.number, entry.digest);
-        self.say(alloc, message, outputs)
+        self.multicast(alloc, message, outputs)
     }
 
     /// Whether a quorum of replicas sent this checkpoint.

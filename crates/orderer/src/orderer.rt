@@ -4,19 +4,19 @@
 ghost use Rattle.std.specs.Prelude.{◌≡◌, ◌+◌, ◌*◌, ◌<◌, true, IfOk, IfSome, IsNone};
 ghost use Rattle.wire.specs.Marks.{has_type_of_requests};
 ghost use Rattle.wire_format.specs.Spelling.{IsBatch};
-ghost use Rattle.signing.specs.Heard.{heard};
-ghost use Rattle.signing.specs.Requests.{HearsRequest};
-ghost use Rattle.posting.specs.Endpoint.{HearsBody};
+ghost use Rattle.signing.specs.AuthenticBody.{authentic};
+ghost use Rattle.signing.specs.Requests.{AuthenticatesRequest};
+ghost use Rattle.frame_endpoint.specs.Endpoint.{AuthenticatesBody};
 ghost use Rattle.orderer.specs.Going.{KeepsParty};
-ghost use Rattle.orderer.specs.Changing.{AreChanges};
+ghost use Rattle.orderer.specs.ViewChangeOut.{AreChanges};
 ghost use Rattle.orderer.specs.Taking.{IsNewOrderer, TakesBatch, TakesPrepare, TakesCommit};
 
 use authenticator::{Ring, signing_seed};
 use claims::Claims;
 use events::{Config, Stop};
+use frame_endpoint::Endpoint;
 use ordering::{HashedBatch, Log};
-use posting::Endpoint;
-use signing::{HeardRequest, PublicKeys, Signer};
+use signing::{AuthenticRequest, PublicKeys, Signer};
 use std::alloc::Global;
 use std::marker::Model;
 use std::sync::Arc;
@@ -107,23 +107,23 @@ impl Orderer {
     }
 
     /// Authenticates the bytes and returns their body, if they have one.
-    pub fn hear(&mut self, alloc: Global, bytes: &[u8]) -> Result<Option<Body>, Stop>
-        ensures heard { IfOk result (HearsBody self.old.endpoint bytes.now) }
+    pub fn authenticate(&mut self, alloc: Global, bytes: &[u8]) -> Result<Option<Body>, Stop>
+        ensures authentic { IfOk result (AuthenticatesBody self.old.endpoint bytes.now) }
         ensures same { self.new ≡ self.old }
     {
-        Ok(self.endpoint.hear(alloc, bytes)?)
+        Ok(self.endpoint.authenticate(alloc, bytes)?)
     }
 
     /// Authenticates bytes with the type of requests and returns the request in them, if they have one.
-    pub fn hear_request<'b>(&mut self, bytes: &'b [u8]) -> Option<HeardRequest<'b>>
+    pub fn authenticate_request<'b>(&mut self, bytes: &'b [u8]) -> Option<AuthenticRequest<'b>>
         requires { has_type_of_requests bytes.now ≡ true }
         ensures some { IfSome result
-            (HearsRequest self.old.endpoint.membership self.old.endpoint.me bytes.now) }
+            (AuthenticatesRequest self.old.endpoint.membership self.old.endpoint.me bytes.now) }
         ensures none { IsNone result
-            → heard self.old.endpoint.membership self.old.endpoint.me bytes.now ≡ None }
+            → authentic self.old.endpoint.membership self.old.endpoint.me bytes.now ≡ None }
         ensures same { self.new ≡ self.old }
     {
-        self.endpoint.hear_request(bytes)
+        self.endpoint.authenticate_request(bytes)
     }
 
     /// Takes the primary's batch for a number, if its place is free and its requests are authentic. Returns whether.

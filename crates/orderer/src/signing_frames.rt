@@ -3,11 +3,11 @@
 ghost use Rattle.std.specs.Prelude.{◌≡◌, true, IfOk, OnOk};
 ghost use Rattle.wire_format.specs.Spelling.{IsMessage, is_signed};
 ghost use Rattle.wire_format.specs.Views.{message_data};
-ghost use Rattle.orderer.specs.Claiming.{MaySign, SaysFrame};
+ghost use Rattle.orderer.specs.Claiming.{MaySign, MulticastsFrame};
 
 use crate::orderer::Orderer;
-use events::{Outputs, Stop, give};
-use posting::PostFault;
+use events::{Outputs, Stop, emit};
+use frame_endpoint::SendFault;
 use std::alloc::Global;
 use wire::Message;
 
@@ -22,16 +22,21 @@ impl Orderer {
     {
         match self.endpoint.sign(alloc, message) {
             Ok(frame) => Ok(Some(frame)),
-            Err(PostFault::NoMemory) => Err(Stop::NoMemory),
-            Err(PostFault::KeysSpent) => Ok(None),
-            Err(PostFault::TooLarge) => Ok(None),
+            Err(SendFault::NoMemory) => Err(Stop::NoMemory),
+            Err(SendFault::KeysSpent) => Ok(None),
+            Err(SendFault::TooLarge) => Ok(None),
         }
     }
 
     /// Multicasts what stands in a signed frame.
-    pub fn say_frame(&self, alloc: Global, frame: &[u8], outputs: &mut Outputs) -> Result<(), Stop>
-        ensures { OnOk result (SaysFrame self.now frame.now outputs.old.items outputs.new.items) }
+    pub fn multicast_frame(
+        &self,
+        alloc: Global,
+        frame: &[u8],
+        outputs: &mut Outputs,
+    ) -> Result<(), Stop>
+        ensures { OnOk result (MulticastsFrame self.now frame.now outputs.old.items outputs.new.items) }
     {
-        give(outputs, self.endpoint.post_frame(alloc, frame)?)
+        emit(outputs, self.endpoint.send_frame_to_others(alloc, frame)?)
     }
 }

@@ -4,13 +4,13 @@ ghost use Rattle.std.specs.Prelude.{◌≡◌, ◌==◌, true, false, OnOk};
 ghost use Rattle.ordering.specs.Keeping.{IsLog};
 ghost use Rattle.ordering.specs.Log.{is_in_marks, primary};
 ghost use Rattle.orderer.specs.Going.{KeepsParty};
-ghost use Rattle.orderer.specs.Saying.{AddsVote, SaysToOthers, SaysCommit, SaysPrepare, SaysVotes, vote_message};
+ghost use Rattle.orderer.specs.Multicasting.{AddsVote, Multicasts, MulticastsCommit, MulticastsPrepare, MulticastsVotes, vote_message};
 ghost use Rattle.orderer.specs.State.{IsOrderer};
 
 use crate::orderer::Orderer;
 use events::{Outputs, Stop};
+use frame_endpoint::{commit_message, prepare_message};
 use ordering::{Phase, Vote};
-use posting::{commit_message, prepare_message};
 use std::alloc::Global;
 use terms::{Digest, Number};
 
@@ -32,47 +32,47 @@ impl Orderer {
 
     /// Multicasts the votes that the log asks for, for one number: the prepare of a taken batch, and the commit of a
     /// prepared one.
-    pub fn say_votes(
+    pub fn multicast_votes(
         &mut self,
         alloc: Global,
         number: Number,
         outputs: &mut Outputs,
     ) -> Result<(), Stop>
         ensures ok { OnOk result
-            (SaysVotes number.0 self.old outputs.old.items self.new outputs.new.items) }
+            (MulticastsVotes number.0 self.old outputs.old.items self.new outputs.new.items) }
         ensures party { KeepsParty self.old self.new }
     {
-        self.say_due_prepare(alloc, number, outputs)?;
-        self.say_due_commit(alloc, number, outputs)
+        self.multicast_due_prepare(alloc, number, outputs)?;
+        self.multicast_due_commit(alloc, number, outputs)
     }
 
-    fn say_due_prepare(
+    fn multicast_due_prepare(
         &mut self,
         alloc: Global,
         number: Number,
         outputs: &mut Outputs,
     ) -> Result<(), Stop>
         ensures ok { OnOk result
-            (SaysPrepare number.0 self.old outputs.old.items self.new outputs.new.items) }
+            (MulticastsPrepare number.0 self.old outputs.old.items self.new outputs.new.items) }
         ensures party { KeepsParty self.old self.new }
     {
         self.keeps();
         let Some(digest) = self.log.due_vote(Phase::Prepare, number) else {
             return Ok(());
         };
-        self.say_vote(alloc, Phase::Prepare, number, digest, outputs)?;
+        self.multicast_vote(alloc, Phase::Prepare, number, digest, outputs)?;
         self.add_vote(Phase::Prepare, number, digest);
         Ok(())
     }
 
-    fn say_due_commit(
+    fn multicast_due_commit(
         &mut self,
         alloc: Global,
         number: Number,
         outputs: &mut Outputs,
     ) -> Result<(), Stop>
         ensures ok { OnOk result
-            (SaysCommit number.0 self.old outputs.old.items self.new outputs.new.items) }
+            (MulticastsCommit number.0 self.old outputs.old.items self.new outputs.new.items) }
         ensures party { KeepsParty self.old self.new }
     {
         self.keeps();
@@ -80,7 +80,7 @@ impl Orderer {
             return Ok(());
         };
         self.note_prepared(number)?;
-        self.say_vote(alloc, Phase::Commit, number, digest, outputs)?;
+        self.multicast_vote(alloc, Phase::Commit, number, digest, outputs)?;
         self.add_vote(Phase::Commit, number, digest);
         Ok(())
     }
@@ -96,7 +96,7 @@ impl Orderer {
     }
 
     /// Multicasts a prepare, or a commit.
-    pub(crate) fn say_vote(
+    pub(crate) fn multicast_vote(
         &mut self,
         alloc: Global,
         phase: Phase,
@@ -104,14 +104,14 @@ impl Orderer {
         digest: Digest,
         outputs: &mut Outputs,
     ) -> Result<(), Stop>
-        ensures said { OnOk result (SaysToOthers self.old (vote_message phase self.old.log.view number.0 digest)
+        ensures said { OnOk result (Multicasts self.old (vote_message phase self.old.log.view number.0 digest)
             outputs.old.items outputs.new.items) }
         ensures same { self.new ≡ self.old }
     {
         let view = self.log.view();
         match phase {
-            Phase::Prepare => self.say(alloc, prepare_message(view, number, digest), outputs),
-            Phase::Commit => self.say(alloc, commit_message(view, number, digest), outputs),
+            Phase::Prepare => self.multicast(alloc, prepare_message(view, number, digest), outputs),
+            Phase::Commit => self.multicast(alloc, commit_message(view, number, digest), outputs),
         }
     }
 }

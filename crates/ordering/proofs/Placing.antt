@@ -6,11 +6,11 @@ use Rattle.std.proofs.lemmas.Bool.{leb-true, leb-false, lt-ltb, le-ltb, eqb-fals
 use Rattle.wire_format.specs.Messages.{CheckpointEntryData}
 use Rattle.wire_format.specs.declared.messages.CheckpointEntry.{CheckpointEntry}
 use Rattle.wire_format.specs.Views.{checkpoint_entry_data}
-use Rattle.ordering.specs.Checkpoints.{insert_checkpoint, says_checkpoint, with_checkpoint}
+use Rattle.ordering.specs.Checkpoints.{insert_checkpoint, lists_checkpoint, with_checkpoint}
 use Rattle.ordering.specs.Places.{place_in, stands_at}
 
 pub says_entry : (entry : CheckpointEntryData) (xs : List CheckpointEntry)
-    → list_any (λ e. (e.number.0 == entry.number) && bytes_eq e.digest entry.digest) xs ≡ says_checkpoint entry (map checkpoint_entry_data xs)
+    → list_any (λ e. (e.number.0 == entry.number) && bytes_eq e.digest entry.digest) xs ≡ lists_checkpoint entry (map checkpoint_entry_data xs)
 says_entry entry [] = refl
 says_entry entry (x ∷ xs) = ap (λ b. ((x.number.0 == entry.number) && bytes_eq x.digest entry.digest) || b) (says_entry entry xs)
 

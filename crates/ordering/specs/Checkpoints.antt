@@ -21,6 +21,6 @@ abbrev pub root_at : List CheckpointEntryData → ℕ → Option (List ℕ)
 root_at entries number = option_map (λ e. e.digest) (find (λ e. e.number == number) entries)
 
 -- whether one of these checkpoints has this number and root
-abbrev pub says_checkpoint : CheckpointEntryData → List CheckpointEntryData → Bool
-says_checkpoint entry entries =
+abbrev pub lists_checkpoint : CheckpointEntryData → List CheckpointEntryData → Bool
+lists_checkpoint entry entries =
     list_any (λ e. (e.number == entry.number) && bytes_eq e.digest entry.digest) entries

@@ -46,7 +46,7 @@ CommitsCount =
     else commit_of m i s))
     × (is_in_marks m i ≡ true → (row_of (with_commit m j vote) i).decided ≡ (row_of m i).decided)
 
--- A cut keeps what is within the marks before and after it, and leaves nothing else.
+-- A cut keeps the entries within the marks before and after it, and leaves nothing else.
 abbrev pub CutsKeep : Type 0
 CutsKeep =
     (m : LogData) (h i s : ℕ) → IsLog m

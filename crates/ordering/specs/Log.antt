@@ -1,6 +1,6 @@
--- PBFT's message log of one replica, as plain data: how each message of its view changes it, and what is logged,
--- prepared, committed and stable (Castro and Liskov, Practical Byzantine fault tolerance and proactive recovery, TOCS
--- 2002, on normal-case operation and garbage collection).
+-- PBFT's message log of one replica, as plain data: how each message of its view changes it, and which batches are
+-- logged, prepared, committed and stable (Castro and Liskov, Practical Byzantine fault tolerance and proactive
+-- recovery, TOCS 2002, on normal-case operation and garbage collection).
 use Rattle.std.specs.Prelude.{ℕ, ◌+◌, ◌-◌, ◌*◌, ◌%◌, ◌^◌, Bool, true, false, ◌&&◌, not, List, [], ◌++◌, drop, map, replicate, nat_le, nat_lt, ◌==◌, if◌then◌else◌, Option, Some, None, slice_set, slice_index_or, option_map, min, is_none}
 use Rattle.std.specs.Option.{option_map_or}
 use Rattle.sha2.specs.Sha256.{sha256}
@@ -11,7 +11,7 @@ use Rattle.ordering.specs.declared.votes.Phase.{Phase}
 use Rattle.ordering.specs.declared.votes.Phase.TheVariants.{Prepare, Commit}
 use Rattle.ordering.specs.declared.votes.Vote.{Vote}
 use Rattle.ordering.specs.Votes.{voted_digest, voters, with_vote}
-use Rattle.ordering.specs.Checkpoints.{with_checkpoint, says_checkpoint}
+use Rattle.ordering.specs.Checkpoints.{with_checkpoint, lists_checkpoint}
 
 -- One number's row: the text of the batch that is logged in the view, the prepares and commits of the view, and the
 -- batch that was committed in an earlier view.
@@ -191,7 +191,7 @@ entered m view =
 
 -- ---- the votes that the replica still has to send, while it is active
 
--- A backup prepares what it logged, and each replica commits what is prepared.
+-- A backup prepares the batch that it logged, and each replica commits the prepared batch.
 abbrev pub votes_in : Phase → LogData → ℕ → Bool
 votes_in Prepare m i = not (m.me == primary m m.view)
 votes_in Commit m i = is_prepared m i
@@ -213,10 +213,10 @@ due_commit m i = due_vote Commit m i
 -- how many replicas have sent this checkpoint
 abbrev pub count_checkpoints : LogData → CheckpointEntryData → ℕ
 count_checkpoints m entry =
-    count_below (λ s. says_checkpoint entry (checkpoints_of m s)) (replicas m)
+    count_below (λ s. lists_checkpoint entry (checkpoints_of m s)) (replicas m)
 
 -- Stable: a quorum has sent this checkpoint, the replica itself among them.
 abbrev pub is_stable : LogData → CheckpointEntryData → Bool
 is_stable m entry =
     nat_le (2 * m.faults + 1) (count_checkpoints m entry)
-    && says_checkpoint entry (checkpoints_of m m.me)
+    && lists_checkpoint entry (checkpoints_of m m.me)

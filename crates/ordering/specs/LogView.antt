@@ -4,7 +4,7 @@ use Rattle.terms.specs.declared.parties.ReplicaId.{ReplicaId}
 use Rattle.wire_format.specs.declared.messages.CheckpointEntry.{CheckpointEntry}
 use Rattle.wire_format.specs.Views.{checkpoint_entry_data}
 use Rattle.ordering.specs.declared.log.Log.TheInside.{Inside}
-use Rattle.ordering.specs.Checkpoints.{says_checkpoint}
+use Rattle.ordering.specs.Checkpoints.{lists_checkpoint}
 use Rattle.ordering.specs.Log.{LogData, checkpoints_of}
 
 abbrev pub log_data : Inside → LogData
@@ -23,4 +23,4 @@ log_data l =
 -- whether a replica has sent this checkpoint
 abbrev pub has_checkpoint : LogData → ReplicaId → CheckpointEntry → Bool
 has_checkpoint m sender entry =
-    says_checkpoint (checkpoint_entry_data entry) (checkpoints_of m sender.0)
+    lists_checkpoint (checkpoint_entry_data entry) (checkpoints_of m sender.0)

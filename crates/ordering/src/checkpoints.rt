@@ -3,7 +3,7 @@
 ghost use Rattle.std.specs.Prelude.{◌≡◌, ◌≤◌, [], map, length};
 ghost use Rattle.std.specs.List.{list_any};
 ghost use Rattle.wire_format.specs.Views.{checkpoint_entry_data};
-ghost use Rattle.ordering.specs.Checkpoints.{with_checkpoint, root_at, says_checkpoint};
+ghost use Rattle.ordering.specs.Checkpoints.{with_checkpoint, root_at, lists_checkpoint};
 ghost use Rattle.ordering.specs.Places.{place_in, stands_at, is_entry};
 
 use smallvec::SmallVec;
@@ -70,7 +70,7 @@ impl Checkpoints {
 
     /// Whether there is a checkpoint of this number and root.
     pub fn has(&self, entry: &CheckpointEntry) -> bool
-        ensures { result ≡ says_checkpoint (checkpoint_entry_data entry.now) self.now }
+        ensures { result ≡ lists_checkpoint (checkpoint_entry_data entry.now) self.now }
     {
         has_entry(self.entries.as_slice(), entry)
     }

@@ -14,7 +14,7 @@ pub fn messages_are_read()
     ensures commits { CommitsCount }
 {}
 
-/// A cut keeps what is within the marks before and after it.
+/// A cut keeps the entries within the marks before and after it.
 pub fn cuts_keep()
     ensures keep { CutsKeep }
 {}

@@ -11,7 +11,7 @@
 //! changes. If the replica enters a later view, only a committed batch stays of each number.
 //!
 //! Laws: `first_votes_count`, `messages_are_read` (a taken message changes the answers at its number, and at no other),
-//! `cuts_keep` (what is within the marks before and after a cut stays) and `committed_stay` (a later view keeps each
+//! `cuts_keep` (entries within the marks before and after a cut stay) and `committed_stay` (a later view keeps each
 //! committed batch).
 //!
 //! # How it is made

@@ -1,8 +1,8 @@
-//! Tests of the part of a replica that hears and posts frames (`posting`), among four replicas: the bytes of each
-//! message that it posts, their receivers, whether frames are heard that are whole, changed or for others, and each
+//! Tests of the part of a replica that receives and sends frames (`posting`), among four replicas: the bytes of each
+//! message that it sends, their receivers, whether frames are received that are whole, changed or for others, and each
 //! fault.
 
 mod endpoints;
-mod hearing;
 mod posts;
+mod receiving;
 mod requests;

@@ -3,5 +3,5 @@
 
 mod answering;
 mod frames;
-mod hearing;
+mod receiving;
 mod refusals;

@@ -12,7 +12,7 @@ use Rattle.points.specs.Leveling.{level_position}
 use Rattle.points.specs.Numbering.{Numbered, AscendsFrom, before, numbered_points, points_at}
 use Rattle.points.specs.declared.point.Placed.{Placed}
 use Rattle.points.specs.PointView.{placings_of}
-use Rattle.points.specs.Running.{PlacedSoFar, placed_so_far, state_of, frame_placed, PlacesOneFrame, PlacesAllFrames, RunsEach}
+use Rattle.points.specs.Running.{PlacedSoFar, placed_so_far, placed_state, frame_placed, PlacesOneFrame, PlacesAllFrames, RunsEach}
 use Rattle.space.specs.Births.{SpaceState, empty_state}
 use Rattle.reply_cache.specs.Replies.{Replies, no_replies}
 use Rattle.wire_format.specs.Lists.{Each}
@@ -28,10 +28,10 @@ texts xs = map (λ f. f.now) xs
 -- Running the rest leads to the end of the whole.
 pub record Left (turn : Turn) (xs : List (Bor (List ℕ))) (x y : PlacedSoFar) (i : ℕ) : Type 0 where
   pub states : (c : Configuration) (n : ℕ) → c.clients ≡ turn.clients
-      → fold (run_frame c turn.number.0) (state_of n x) (texts xs) ≡ fold (run_frame c turn.number.0) (state_of n y) (texts (drop i xs))
+      → fold (run_frame c turn.number.0) (placed_state n x) (texts xs) ≡ fold (run_frame c turn.number.0) (placed_state n y) (texts (drop i xs))
   pub points : (c : Configuration) (n : ℕ) → c.clients ≡ turn.clients
-      → x.points ++ points_at turn.place turn.number.0 (ran_in c turn.number.0 (state_of n x) (texts xs))
-      ≡ y.points ++ points_at turn.place turn.number.0 (ran_in c turn.number.0 (state_of n y) (texts (drop i xs)))
+      → x.points ++ points_at turn.place turn.number.0 (ran_in c turn.number.0 (placed_state n x) (texts xs))
+      ≡ y.points ++ points_at turn.place turn.number.0 (ran_in c turn.number.0 (placed_state n y) (texts (drop i xs)))
 
 pub goes_on : (turn : Turn) (xs : List (Bor (List ℕ))) (x y z : PlacedSoFar) (i : ℕ) (d : Bor (List ℕ)) → i < length xs
     → Left turn xs x y i → PlacesOneFrame turn (get_or xs i d).now y z → Left turn xs x z (i + 1)
@@ -43,7 +43,7 @@ goes_on turn xs x y z i d l left step = record {
       let k = step c n e in
       let f : List ℕ = (get_or xs i d).now in
       let rest : List (List ℕ) = texts (drop (suc i) xs) in
-      let st : State = state_of n y in
+      let st : State = placed_state n y in
       let at : List Ran → List Placing = points_at turn.place turn.number.0 in
       left.points c n e
       ∙ rw (drop-cons xs i d l) (ap (λ t. y.points ++ t) (points_append turn.place turn.number.0 (frame_placed c turn.number.0 st f) (ran_in c turn.number.0 (run_frame c turn.number.0 st f) rest))
@@ -59,8 +59,8 @@ points_none (Some p) k = refl
 pub ends : (turn : Turn) (xs : List (Bor (List ℕ))) (x y : PlacedSoFar) (i : ℕ) → drop i xs ≡ []
     → Left turn xs x y i → PlacesAllFrames turn (texts xs) x y
 ends turn xs x y i e left = λ c n m. record {
-  state = sym (left.states c n m ∙ ap (λ ys. fold (run_frame c turn.number.0) (state_of n y) (texts ys)) e);
-  points = sym (left.points c n m ∙ ap (λ ys. y.points ++ points_at turn.place turn.number.0 (ran_in c turn.number.0 (state_of n y) (texts ys))) e
+  state = sym (left.states c n m ∙ ap (λ ys. fold (run_frame c turn.number.0) (placed_state n y) (texts ys)) e);
+  points = sym (left.points c n m ∙ ap (λ ys. y.points ++ points_at turn.place turn.number.0 (ran_in c turn.number.0 (placed_state n y) (texts ys))) e
       ∙ ap (λ t. y.points ++ t) (points_none turn.place turn.number.0) ∙ append-nil y.points);
 }
 
@@ -70,17 +70,17 @@ ends turn xs x y i e left = λ c n m. record {
 abbrev pub Going : ℕ → List Rise → List Numbered → PlacedSoFar → List Numbered → Type 0
 Going clients found all x rest =
     (c : Configuration) (n : ℕ) → c.clients ≡ clients
-    → x.points ++ numbered_points c (level_position found) (state_of n x) rest ≡ numbered_points c (level_position found) opening all
+    → x.points ++ numbered_points c (level_position found) (placed_state n x) rest ≡ numbered_points c (level_position found) opening all
 
 after : (k : ℕ) → 1 ≤ k → suc (before k) ≡ k
 after zero l = absurd (omega arith)
 after (suc k) l = refl
 
 batch_state : (c : Configuration) (k : ℕ) (batch : List ℕ) (x y : PlacedSoFar) → 1 ≤ k
-    → state_of (before k) y ≡ fold (run_frame c k) (state_of (before k) x) (requests_of batch) → execute c (state_of (before k) x) batch ≡ state_of k y
+    → placed_state (before k) y ≡ fold (run_frame c k) (placed_state (before k) x) (requests_of batch) → execute c (placed_state (before k) x) batch ≡ placed_state k y
 unfolding execute
 batch_state c k batch x y l h =
-    ap (λ (m : ℕ). let s : State = record (fold (run_frame c m) (state_of (before k) x) (requests_of batch)) { number = m } in s) (after k l)
+    ap (λ (m : ℕ). let s : State = record (fold (run_frame c m) (placed_state (before k) x) (requests_of batch)) { number = m } in s) (after k l)
     ∙ ap (λ (s : State). let t : State = record s { number = k } in t) (sym h)
 
 batch_more : (turn : Turn) (found : List Rise) (all rest : List Numbered) (batch : List ℕ) (x y : PlacedSoFar) → 1 ≤ turn.number.0 → turn.place ≡ level_position found turn.number.0
@@ -88,11 +88,11 @@ batch_more : (turn : Turn) (found : List Rise) (all rest : List Numbered) (batch
 batch_more turn found all rest batch x y l at going run = λ c n e.
     let k : ℕ = turn.number.0 in
     let r = run c (before k) e in
-    let ran : List Ran = ran_in c k (state_of (before k) x) (requests_of batch) in
+    let ran : List Ran = ran_in c k (placed_state (before k) x) (requests_of batch) in
     let left : State → List Placing = λ st. numbered_points c (level_position found) st rest in
-    ap (λ t. t ++ left (state_of n y)) (r.points ∙ ap (λ o. x.points ++ points_at o k ran) at)
-    ∙ append_assoc x.points (points_at (level_position found k) k ran) (left (state_of n y))
-    ∙ ap (λ t. x.points ++ (points_at (level_position found k) k ran ++ t)) (any_number c (level_position found) (state_of n y) n k rest ∙ sym (ap left (batch_state c k batch x y l r.state)))
+    ap (λ t. t ++ left (placed_state n y)) (r.points ∙ ap (λ o. x.points ++ points_at o k ran) at)
+    ∙ append_assoc x.points (points_at (level_position found k) k ran) (left (placed_state n y))
+    ∙ ap (λ t. x.points ++ (points_at (level_position found k) k ran ++ t)) (any_number c (level_position found) (placed_state n y) n k rest ∙ sym (ap left (batch_state c k batch x y l r.state)))
     ∙ going c n e
 
 -- the rest begins with this batch, and each number is one
@@ -112,7 +112,7 @@ going_begins clients found all now space replies points s r p is c n e =
 
 pub going_ends : (clients : ℕ) (found : List Rise) (all now : List Numbered) (x : PlacedSoFar) → now ≡ [] → Going clients found all x now → RunsEach clients found all x.points
 going_ends clients found all now x none going c e =
-    sym (append-nil x.points) ∙ sym (ap (λ ys. x.points ++ numbered_points c (level_position found) (state_of 0 x) ys) none) ∙ going c 0 e
+    sym (append-nil x.points) ∙ sym (ap (λ ys. x.points ++ numbered_points c (level_position found) (placed_state 0 x) ys) none) ∙ going c 0 e
 
 ascends_above : (m : ℕ) (xs : List Numbered) → 1 ≤ m → AscendsFrom m xs → Each (λ (z : Numbered). 1 ≤ z.number) xs
 ascends_above m [] l a = tt

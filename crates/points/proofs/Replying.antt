@@ -15,8 +15,8 @@ use Rattle.wire_format.specs.Views.{message_data}
 use Rattle.protocol.specs.System.Frames.{same_mode}
 use Rattle.protocol.specs.Client.RightClient.{Vote}
 use Rattle.authenticator.specs.Membership.{Membership}
-use Rattle.signing.specs.Heard.{heard}
-use Rattle.signing.proofs.Heard.{heard_was_opened}
+use Rattle.signing.specs.AuthenticBody.{authentic}
+use Rattle.signing.proofs.AuthenticBody.{authentic_was_opened}
 use Rattle.points.specs.Seating.{answers, number_in, read_number}
 
 abbrev pub said_by : ℕ → Message → BodyData
@@ -80,11 +80,11 @@ kinded p t s (reply client timestamp modes.Ordered number outcome) a e = go _
 kinded p t s _ a e = refl
 
 pub none_kinded : (m : Membership) (p t : ℕ) (bytes : List ℕ) → (slice_index bytes 17 == 1) ≡ false → None ≡ read_number m p t bytes
-none_kinded m p t bytes kind = go (heard m p bytes) refl
+none_kinded m p t bytes kind = go (authentic m p bytes) refl
   where
-    go : (o : Option BodyData) → heard m p bytes ≡ o → None ≡ option_and_then (number_in p t) o
+    go : (o : Option BodyData) → authentic m p bytes ≡ o → None ≡ option_and_then (number_in p t) o
     go None e = refl
     go (Some body) e =
-        let was = heard_was_opened m p bytes body e in
+        let was = authentic_was_opened m p bytes body e in
         let same : (slice_index (frame_spelling was.frame) 17 == 1) ≡ false = sym (ap (λ bs. slice_index bs 17 == 1) was.opens.spelled.spelled) ∙ kind in
         subst (λ b. None ≡ number_in p t b) was.body_is (kinded p t was.frame.body.sender was.frame.body.message was.frame.authenticator same)

@@ -6,12 +6,12 @@ use Rattle.std.specs.Option.{option_map_or}
 use Rattle.terms.specs.declared.order.Mode.TheVariants as modes
 use Rattle.tuple_codec.specs.Operations.{Outcome}
 use Rattle.wire_format.specs.Messages.{BodyData}
-use Rattle.signing.specs.Heard.{heard}
+use Rattle.signing.specs.AuthenticBody.{authentic}
 use Rattle.protocol.specs.System.Configuration.{Configuration, members}
 use Rattle.protocol.specs.System.Frames.{same_mode}
 use Rattle.protocol.specs.System.Trace.{Entry, party_of, history_of}
 use Rattle.protocol.specs.System.Trace.Entry.{Invoke, Got, Tick, Executed, Installed, Sent, Accepted}
-use Rattle.protocol.specs.Client.RightClient.{Vote, OpenCall, vote_of, open_call, newest_vote}
+use Rattle.protocol.specs.Client.RightClient.{Vote, OpenCall, reply_vote, open_call, newest_vote}
 use Rattle.protocol.specs.Space.Linear.{Placing, invoked_at, invoke_past, read_point, read_points}
 use Rattle.points.proofs.Finding.{position_of}
 use Rattle.points.specs.Seating.{seat_after_entry, seat_of, number_in, read_number, read_at, seat_read, with_read, seat_reads}
@@ -54,7 +54,7 @@ invoked_is p (Sent q bytes ∷ past) = keeps p (Sent q bytes) past (q == p) refl
 
 -- the vote in the bytes
 abbrev vote_in : Configuration → ℕ → ℕ → List ℕ → Option Vote
-vote_in c p timestamp bytes = option_and_then (λ (body : BodyData). vote_of p timestamp body.sender body) (heard (members c) p bytes)
+vote_in c p timestamp bytes = option_and_then (λ (body : BodyData). reply_vote p timestamp body.sender body) (authentic (members c) p bytes)
 
 pub vote_is : (c : Configuration) (p timestamp : ℕ) (past : List Entry) → newest_vote c p (history_of p past) timestamp ≡ option_and_then (vote_in c p timestamp) (seat_of p past).got
 vote_is c p timestamp [] = refl
@@ -94,9 +94,9 @@ same_read f g same p answer invoked (Some vote) (Some call) = go (same_mode vote
 same_number : (c : Configuration) (p timestamp : ℕ) (got : Option (List ℕ))
     → option_and_then number_by (option_and_then (vote_in c p timestamp) got) ≡ option_and_then (read_number (members c) p timestamp) got
 same_number c p timestamp None = refl
-same_number c p timestamp (Some bytes) = go (heard (members c) p bytes)
+same_number c p timestamp (Some bytes) = go (authentic (members c) p bytes)
   where
-    go : (o : Option BodyData) → option_and_then number_by (option_and_then (λ (body : BodyData). vote_of p timestamp body.sender body) o) ≡ option_and_then (number_in p timestamp) o
+    go : (o : Option BodyData) → option_and_then number_by (option_and_then (λ (body : BodyData). reply_vote p timestamp body.sender body) o) ≡ option_and_then (number_in p timestamp) o
     go None = refl
     go (Some body) = refl
 

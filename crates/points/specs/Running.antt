@@ -23,8 +23,8 @@ abbrev pub placed_so_far : SpaceState → Replies → List Placed → PlacedSoFa
 placed_so_far space replies found = record { space = space; replies = replies; points = placings_of found }
 
 -- the state then, of the number before the batch
-abbrev pub state_of : ℕ → PlacedSoFar → State
-state_of before x = record { space = x.space; number = before; replies = x.replies }
+abbrev pub placed_state : ℕ → PlacedSoFar → State
+placed_state before x = record { space = x.space; number = before; replies = x.replies }
 
 -- the requests that a frame runs
 abbrev pub frame_placed : Configuration → ℕ → State → List ℕ → List Ran
@@ -34,13 +34,13 @@ frame_placed c number st frame = option_map_or (ran_by st number) (call_of c fra
 pub record PlacesFrame (c : Configuration) (place : Option ℕ) (number before : ℕ) (frame : List ℕ)
     (old new : PlacedSoFar)
     : Type 0 where
-  pub state : state_of before new ≡ run_frame c number (state_of before old) frame
-  pub points : new.points ≡ old.points ++ points_at place number (frame_placed c number (state_of before old) frame)
+  pub state : placed_state before new ≡ run_frame c number (placed_state before old) frame
+  pub points : new.points ≡ old.points ++ points_at place number (frame_placed c number (placed_state before old) frame)
 
 pub record PlacesFrames (c : Configuration) (place : Option ℕ) (number before : ℕ) (frames : List (List ℕ))
     (old new : PlacedSoFar) : Type 0 where
-  pub state : state_of before new ≡ fold (run_frame c number) (state_of before old) frames
-  pub points : new.points ≡ old.points ++ points_at place number (ran_in c number (state_of before old) frames)
+  pub state : placed_state before new ≡ fold (run_frame c number) (placed_state before old) frames
+  pub points : new.points ≡ old.points ++ points_at place number (ran_in c number (placed_state before old) frames)
 
 -- They do so in each configuration with so many clients.
 abbrev pub PlacesOneFrame : Turn → List ℕ → PlacedSoFar → PlacedSoFar → Type 0

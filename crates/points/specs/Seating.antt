@@ -13,11 +13,11 @@ use Rattle.tuple_codec.specs.OperationView.{operation_of}
 use Rattle.wire_format.specs.Messages.{BodyData}
 use Rattle.wire_format.specs.declared.messages.Reply.{Reply}
 use Rattle.authenticator.specs.Membership.{Membership}
-use Rattle.signing.specs.Heard.{heard}
+use Rattle.signing.specs.AuthenticBody.{authentic}
 use Rattle.protocol.specs.System.Frames.{same_mode}
 use Rattle.protocol.specs.System.Trace.{Entry, party_of}
 use Rattle.protocol.specs.System.Trace.Entry.{Invoke, Got, Accepted}
-use Rattle.protocol.specs.Client.RightClient.{OpenCall, vote_of}
+use Rattle.protocol.specs.Client.RightClient.{OpenCall, reply_vote}
 use Rattle.protocol.specs.Space.Linear.{Placing}
 use Rattle.points.specs.Places.{position_in}
 use Rattle.points.specs.declared.levels.Rise.{Rise}
@@ -51,11 +51,11 @@ seat_of p (e ∷ past) = if party_of e == p then seat_after_entry (length past) 
 abbrev pub number_in : ℕ → ℕ → BodyData → Option ℕ
 number_in p timestamp body =
     option_and_then (λ vote. then_some (same_mode vote.mode modes.ReadOnly) vote.number)
-    (vote_of p timestamp body.sender body)
+    (reply_vote p timestamp body.sender body)
 
 -- the same of bytes
 abbrev pub read_number : Membership → ℕ → ℕ → List ℕ → Option ℕ
-read_number m p timestamp bytes = option_and_then (number_in p timestamp) (heard m p bytes)
+read_number m p timestamp bytes = option_and_then (number_in p timestamp) (authentic m p bytes)
 
 -- the read of this call
 abbrev pub read_at : (ℕ → ℕ) → ℕ → Outcome → ℕ → OpenCall → ℕ → Placing

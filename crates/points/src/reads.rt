@@ -4,7 +4,7 @@ ghost use Rattle.std.specs.Prelude.{◌≡◌, ◌^◌, ◌==◌, IfOk, IsFalse,
 ghost use Rattle.terms.specs.Parties.{client_party};
 ghost use Rattle.tuple_codec.specs.OperationView.{outcome_of};
 ghost use Rattle.wire_format.specs.Views.{body_data};
-ghost use Rattle.signing.specs.Heard.{heard};
+ghost use Rattle.signing.specs.AuthenticBody.{authentic};
 ghost use Rattle.protocol.specs.System.Configuration.{members};
 ghost use Rattle.points.specs.Places.{position_in};
 ghost use Rattle.points.specs.PointView.{placing_of};
@@ -18,7 +18,7 @@ use crate::seats::{Seat, Seats, note, seat_of};
 use crate::sorting::Reads;
 use authenticator::Ring;
 use events::{Config, Entry, EntryKind};
-use signing::{HearFault, HeardFrame, PublicKeys, hear};
+use signing::{AuthenticFrame, AuthenticationFault, PublicKeys, authenticate};
 use std::alloc::Global;
 use std::collections::BTreeMap;
 use terms::{ClientId, Mode, NoMemory, Number, Party, Timestamp};
@@ -175,7 +175,7 @@ fn read_number(
     if !has_read_kind(bytes) {
         return Ok(None);
     }
-    match hear_body(alloc, ring, publics, client, bytes)? {
+    match authenticate_body(alloc, ring, publics, client, bytes)? {
         None => Ok(None),
         Some(body) => Ok(number_in(body, client, timestamp)),
     }
@@ -191,8 +191,8 @@ fn has_read_kind(bytes: &[u8]) -> bool
     }
 }
 
-// The body that the client hears from the bytes, if any.
-fn hear_body(
+// The body that the client receives from the bytes, if any.
+fn authenticate_body(
     alloc: Global,
     ring: &mut Ring,
     publics: &PublicKeys,
@@ -200,17 +200,17 @@ fn hear_body(
     bytes: &[u8],
 ) -> Result<Option<Body>, NoMemory>
     requires keys { publics.now ≡ ring.old.seed }
-    ensures heard { IfOk result (λ body. heard ring.old (client_party client.number) bytes.now
+    ensures authentic { IfOk result (λ body. authentic ring.old (client_party client.number) bytes.now
         ≡ option_map body_data body) }
     ensures same { ring.new ≡ ring.old }
 {
-    match hear(alloc, ring, publics, bytes, Party::Client(client)) {
-        Ok(heard) => {
-            let HeardFrame { bytes: _, body } = heard;
+    match authenticate(alloc, ring, publics, bytes, Party::Client(client)) {
+        Ok(authentic) => {
+            let AuthenticFrame { bytes: _, body } = authentic;
             Ok(Some(body))
         }
         Err(fault) => match fault {
-            HearFault::NoMemory => Err(NoMemory),
+            AuthenticationFault::NoMemory => Err(NoMemory),
             _ => Ok(None),
         },
     }

@@ -16,8 +16,8 @@ use Rattle.wire_format.specs.Spelling.{authenticator_is_signed}
 use Rattle.wire_format.specs.Words.{receivers_of, frame_of}
 use Rattle.reply_cache.specs.Replies.{Kept}
 use Rattle.protocol.specs.System.Configuration.{Configuration, IsConfiguration, replicas, is_replica, is_client, is_correct_replica, is_correct_client}
-use Rattle.protocol.specs.System.Frames.{IsPosted, IsSealed}
-use Rattle.protocol.specs.System.Trace.{Entry, party_of, history_of, Once, Has, Hears, Unforged}
+use Rattle.protocol.specs.System.Frames.{IsOutgoing, IsSealed}
+use Rattle.protocol.specs.System.Trace.{Entry, party_of, history_of, Once, Has, Receives, Unforged}
 use Rattle.protocol.specs.System.Trace.Entry.{Invoke, Got, Tick, Executed, Installed, Sent, Accepted}
 use Rattle.protocol.specs.System.Texts.{NoCollision}
 use Rattle.protocol.specs.System.Run.{IsRun, OnlyTheseStopped}
@@ -32,12 +32,12 @@ use Rattle.protocol.proofs.Words.Linking.{Speaks, heard_was_said}
 use Rattle.protocol.proofs.Words.Reacting.{proceeds_leaves}
 use Rattle.protocol.proofs.Agreement.Voting.{correct_replica}
 use Rattle.protocol.proofs.Agreement.States.{history_append}
-use Rattle.protocol.proofs.Points.Reading.{correct_client, own_entries, latest_heard, replying}
+use Rattle.protocol.proofs.Points.Reading.{correct_client, own_entries, latest_received, replying}
 use Rattle.protocol.proofs.Points.Running.{Run}
 use Rattle.protocol.proofs.Words.Lists.{none_pass}
 use Rattle.progress.specs.Delivery.{HasEntry, AllDelivered}
 use Rattle.progress.specs.Answered.{KeepsReply, ExecutedCallsAreAccepted}
-use Rattle.progress.proofs.Hearing.{Heard, sealed_is_heard}
+use Rattle.progress.proofs.Receiving.{Heard, sealed_is_authentic}
 use Rattle.progress.proofs.Events.{Reacted, reacted, Owed, owed, Given, given, MightSend, sent_may}
 use Rattle.progress.proofs.Clients.{Accepting, open_or_accepted, latest_since, open_calls_lack_quorums}
 use Rattle.progress.proofs.Replies.{run_of, spoken_agree}
@@ -115,7 +115,7 @@ pub record Voted (c : Configuration) (trace mine : List Entry) (me t : ℕ) (mod
 pub record Asked (c : Configuration) (me : ℕ) (mode : Mode) (call : OpenCall) (later : List Entry) : Type 0 where
   pub bytes : List ℕ
   pub is_sent : HasEntry (Sent me bytes) later
-  pub posted : IsPosted c me (Request call.timestamp mode call.op) (range_with_len 0 (replicas c)) bytes
+  pub posted : IsOutgoing c me (Request call.timestamp mode call.op) (range_with_len 0 (replicas c)) bytes
 
 -- ---- the law
 
@@ -190,7 +190,7 @@ module _ (c : Configuration) (setting : IsConfiguration c) (later start : List E
     module _ (mode : Mode) (request : Asked c me mode call later) (r : ℕ) (correct : is_correct_replica c r ≡ true) where
       pub hears_request : Heard c me r (Request call.timestamp mode call.op) request.bytes
       hears_request =
-          sealed_is_heard c me r (Request call.timestamp mode call.op) request.bytes request.posted.says
+          sealed_is_authentic c me r (Request call.timestamp mode call.op) request.bytes request.posted.says
           (λ frame is plain.
           let s = request.posted.is_sealed frame is in
           let small : r < 0 + replicas c = (let l = below r correct in omega arith) in
@@ -228,7 +228,7 @@ module _ (c : Configuration) (setting : IsConfiguration c) (later start : List E
 
         hears_reply : Heard c r me (Reply me call.timestamp mode n answer) reply.bytes
         hears_reply =
-            sealed_is_heard c r me (Reply me call.timestamp mode n answer) reply.bytes reply.says well refl (and_parts (is_replica c r) _ correct).0 (λ same. apart_from r correct (sym same))
+            sealed_is_authentic c r me (Reply me call.timestamp mode n answer) reply.bytes reply.says well refl (and_parts (is_replica c r) _ correct).0 (λ same. apart_from r correct (sym same))
           where
             may : MaySend c r might.1.past might.1.point (Sent reply.party reply.bytes) reply.bytes
             may = might.1.may
@@ -247,13 +247,13 @@ module _ (c : Configuration) (setting : IsConfiguration c) (later start : List E
 
         pub voted : Voted c trace mine me call.timestamp mode r
         voted =
-            let v = latest_since c k call (history_of me start) opened mode r n answer reply.bytes hears_reply.hears (history_of me later) safe not_yet (in_history me (Got me reply.bytes) later refl gets_reply) in
-            let heard_it = latest_heard c me call.timestamp mode r v.0 mine (own_entries c me mine safe) v.1 in
+            let v = latest_since c k call (history_of me start) opened mode r n answer reply.bytes hears_reply.receives (history_of me later) safe not_yet (in_history me (Got me reply.bytes) later refl gets_reply) in
+            let heard_it = latest_received c me call.timestamp mode r v.0 mine (own_entries c me mine safe) v.1 in
             record {
               vote = v.0;
               is_latest = v.1;
               says = heard_was_said c trace me (replying r me call.timestamp mode v.0.number v.0.answer) unforged (correct_client c me client) (correct_replica c r correct)
-                  (subst (λ (xs : List Entry). Once (Hears c me (replying r me call.timestamp mode v.0.number v.0.answer)) xs) (sym is_mine) heard_it);
+                  (subst (λ (xs : List Entry). Once (Receives c me (replying r me call.timestamp mode v.0.number v.0.answer)) xs) (sym is_mine) heard_it);
             }
 
     -- ---- 2f + 1 replies that agree are a quorum
@@ -294,7 +294,7 @@ module _ (c : Configuration) (setting : IsConfiguration c) (later start : List E
       votes =
           voted modes.Ordered request r correct still.0.number still.0.outcome
           (subst (λ (t : ℕ). SendsMessage r (Reply me t modes.Ordered still.0.number still.0.outcome) its_event.outs) still.2
-          (its_event.owes.again k call.timestamp call.op still.0 (hears_request modes.Ordered request r correct).hears still.1 still.2))
+          (its_event.owes.again k call.timestamp call.op still.0 (hears_request modes.Ordered request r correct).receives still.1 still.2))
 
     contradiction : (keeps : ℕ → Bool) → 2 * c.faults + 1 ≤ count_below keeps (replicas c) → ((r : ℕ) → keeps r ≡ true → (is_correct_replica c r ≡ true) × KeepsReply c r (history_of r start) k call.timestamp)
         → HasEntry (Tick me) later → ⊥

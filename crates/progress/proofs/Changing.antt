@@ -4,15 +4,15 @@ use Rattle.std.specs.Prelude.{◌==◌, nat_le, option_and_then}
 use Rattle.std.proofs.lemmas.List.{append-nil}
 use Rattle.std.proofs.lemmas.Bool.{and_parts, and_from, ltb-true, leb-true, leb-false, le-leb, eqb-false}
 use Rattle.wire_format.specs.Messages.{BodyData as Body, MessageData as Message, ViewChangeData, NewViewData, view_change as ViewChange, new_view as NewView}
-use Rattle.signing.specs.Heard.{signed_body}
+use Rattle.signing.specs.AuthenticBody.{signed_body}
 use Rattle.protocol.specs.System.Configuration.{Configuration, IsConfiguration, replicas, primary, is_replica, is_correct_replica, members}
 use Rattle.protocol.specs.System.Trace.{Entry, party_of, history_of, Once, SendsBody, Always, Unforged}
 use Rattle.protocol.specs.System.Trace.Entry.{Got, Sent}
 use Rattle.protocol.specs.System.Run.{IsRun, OnlyTheseStopped}
 use Rattle.protocol.specs.Replica.Selection.{is_within, change_in, changes_of, change_by, passes_by, count_in, may_select}
 use Rattle.protocol.specs.Replica.Certificates.{view, target, is_active_in, taken, new_view_in, new_view_from, brought, latest_change}
-use Rattle.protocol.specs.Replica.RightReplica.{MaySay, MaySend, SafeReplica, SentBefore}
-use Rattle.protocol.specs.Replica.Owed.{AreKeysSpent, BringsChange, HasLatestChange, IsSaying}
+use Rattle.protocol.specs.Replica.RightReplica.{MaySendMessage, MaySend, SafeReplica, SentBefore}
+use Rattle.protocol.specs.Replica.Owed.{AreKeysSpent, BringsChange, HasLatestChange, IsSending}
 use Rattle.protocol.specs.Laws.Histories.{AreReplicasSafe, TakesOrSendsNewView}
 use Rattle.protocol.proofs.Words.Linking.{Speaks}
 use Rattle.protocol.proofs.Words.Lists.{every_change, passes_change}
@@ -105,8 +105,8 @@ module _ (c : Configuration) (setting : IsConfiguration c) (trace : List Entry) 
           (once_right c (primary c v) (Speaks (record { sender = primary c v; message = NewView new })) (history_of (primary c v) trace) (safe (primary c v) n.from) primary_says))
         where
           by : (past : List Entry) (e : Entry) → RightAt c (primary c v) past e → Speaks (record { sender = primary c v; message = NewView new }) past e → v ≤ view c (e ∷ past)
-          by past (Sent p bytes) r says = either (subst (λ (b : Body). MaySay c (primary c v) past r.point (Sent p bytes) bytes b.message)
-              (some_injective r.may.body (record { sender = primary c v; message = NewView new }) (sym r.may.says ∙ says)) r.may.say).1
+          by past (Sent p bytes) r says = either (subst (λ (b : Body). MaySendMessage c (primary c v) past r.point (Sent p bytes) bytes b.message)
+              (some_injective r.may.body (record { sender = primary c v; message = NewView new }) (sym r.may.says ∙ says)) r.may.allowed).1
             where
               either : (taken c past (Sent p bytes) ≡ Some new) ⊎ ((is_active_in c past new.view ≡ true) × SentBefore bytes past) → v ≤ view c (Sent p bytes ∷ past)
               either (inl t) = let u = (takes c 0 past (Sent p bytes) new t).view_is in let s = is in omega arith
@@ -200,8 +200,8 @@ module _ (c : Configuration) (setting : IsConfiguration c) (trace : List Entry) 
               of_it its.vc its.says its.is_view
               (inr (
                 same,
-                subst (λ (x : ℕ). Once (λ earlier e. IsSaying x (ViewChange its.vc) e) (history_of x trace)) same
-                    (once_weaker (Speaks (changing q its.vc)) (λ earlier e. IsSaying q (ViewChange its.vc) e) (speaks_saying q (ViewChange its.vc)) (history_of q trace) its.says),
+                subst (λ (x : ℕ). Once (λ earlier e. IsSending x (ViewChange its.vc) e) (history_of x trace)) same
+                    (once_weaker (Speaks (changing q its.vc)) (λ earlier e. IsSending q (ViewChange its.vc) e) (speaks_saying q (ViewChange its.vc)) (history_of q trace) its.says),
                 subst (λ (x : ℕ). target (history_of x trace) ≡ its.vc.view) same (has_left q correct ∙ sym its.is_view),
               ))
           go false e = of_it first.0 first_said first_view (inl (differ, first.1, latest ∙ sym first_view))

@@ -17,8 +17,8 @@ use Rattle.protocol.specs.System.Trace.Entry.{Got, Sent}
 use Rattle.protocol.specs.System.Run.{IsRun}
 use Rattle.protocol.specs.Replica.Selection.{is_within, null_batch, changes_of, may_select}
 use Rattle.protocol.specs.Replica.Certificates.{view, target, is_active_in, is_later, taken, new_view_in, new_view_from, low, is_in_marks, batch_from, batch_begun, begun_proposal, entry_proposal, proposal, first_given, logged, prepare_of, Prepared}
-use Rattle.protocol.specs.Replica.RightReplica.{Point, MaySay, SentBefore, SafeReplica}
-use Rattle.protocol.specs.Replica.Owed.{IsSaying, AreKeysSpent, BringsChange, HasLatestChange, HasBatch}
+use Rattle.protocol.specs.Replica.RightReplica.{Point, MaySendMessage, SentBefore, SafeReplica}
+use Rattle.protocol.specs.Replica.Owed.{IsSending, AreKeysSpent, BringsChange, HasLatestChange, HasBatch}
 use Rattle.protocol.specs.Laws.Bounds.{IsBounded}
 use Rattle.protocol.specs.Laws.Histories.{AreReplicasSafe}
 use Rattle.evidence.specs.Refused.{SoManyHave, SaysNothingAgainst, SaysForIt, SaysNothing}
@@ -64,7 +64,7 @@ entry_target c me w i b past (Sent p bytes) r h =
     let t = (entry_batch c me w i b past (Sent p bytes) h).1 in
     let is : ◌≡◌ {A = Body} r.may.body (record { sender = primary c w; message = PrePrepare w i b }) =
     some_injective r.may.body (record { sender = primary c w; message = PrePrepare w i b }) (sym r.may.says ∙ t.1 ∙ ap Some (pre_prepare_is c me w i b t.0.sender t.0.message t.2).0) in
-    (active_parts c past w (subst (λ (x : Body). MaySay c me past r.point (Sent p bytes) bytes x.message) is r.may.say).active).1
+    (active_parts c past w (subst (λ (x : Body). MaySendMessage c me past r.point (Sent p bytes) bytes x.message) is r.may.allowed).active).1
 entry_target c me w i b past _ r h = absurd cc
 
 proposal_target : (c : Configuration) (me w i : ℕ) (b : List ℕ) (past : List Entry) (e : Entry) → RightAt c me past e → proposal c me past e w i ≡ Some b → target past ≤ w
@@ -126,12 +126,12 @@ logged_before c s w i b vc (x ∷ newer) past e right says less h =
 
 -- and so it is with a primary's offers
 offer_target : (c : Configuration) (s w i : ℕ) (b : List ℕ) (past : List Entry) (point : Point) (p : ℕ) (bytes : List ℕ) (sender : ℕ) (message : Message) → offer_from w i (record { sender = sender; message = message }) ≡ Some b
-    → MaySay c s past point (Sent p bytes) bytes message → target past ≤ w
-offer_target c s w i b past point p bytes sender (PrePrepare u j d) h say =
+    → MaySendMessage c s past point (Sent p bytes) bytes message → target past ≤ w
+offer_target c s w i b past point p bytes sender (PrePrepare u j d) h allowed =
     let is : u ≡ w = eqb-true u w (and_parts (u == w) (j == i) (then_some_gives ((u == w) && (j == i)) d b h).0).0 in
-    let l = (active_parts c past u say.active).1 in
+    let l = (active_parts c past u allowed.active).1 in
     omega arith
-offer_target c s w i b past point p bytes sender (NewView new) h say = go say.1
+offer_target c s w i b past point p bytes sender (NewView new) h allowed = go allowed.1
   where
     is : new.view ≡ w
     is = (proposes c w i new b h).view_is
@@ -139,7 +139,7 @@ offer_target c s w i b past point p bytes sender (NewView new) h say = go say.1
     go : (taken c past (Sent p bytes) ≡ Some new) ⊎ ((is_active_in c past new.view ≡ true) × SentBefore bytes past) → target past ≤ w
     go (inl t) = let l = taken_target c past (Sent p bytes) new t in let v = is in omega arith
     go (inr a) = let l = (active_parts c past new.view a.0).1 in let v = is in omega arith
-offer_target c s w i b past point p bytes sender _ h say = absurd cc
+offer_target c s w i b past point p bytes sender _ h allowed = absurd cc
 
 offered_before : (c : Configuration) (s w i : ℕ) (b : List ℕ) (vc : ViewChangeData) (newer past : List Entry) (e : Entry) → Always (RightAt c s) (newer ++ e ∷ past) → Speaks (changing s vc) past e → w < vc.view
     → Once (λ earlier x. offer_in w i x ≡ Some b) (newer ++ e ∷ past) → Once (λ earlier x. offer_in w i x ≡ Some b) past
@@ -160,7 +160,7 @@ offered_before c s w i b vc (x ∷ newer) past e right says less (inl h) =
     at (Sent p bytes) r h =
         let t = and_then_some (offer_from w i) (said bytes) b h in
         let is : r.may.body ≡ t.0 = some_injective r.may.body t.0 (sym r.may.says ∙ t.1) in
-        offer_target c s w i b (newer ++ e ∷ past) r.point p bytes t.0.sender t.0.message t.2 (subst (λ (x : Body). MaySay c s (newer ++ e ∷ past) r.point (Sent p bytes) bytes x.message) is r.may.say)
+        offer_target c s w i b (newer ++ e ∷ past) r.point p bytes t.0.sender t.0.message t.2 (subst (λ (x : Body). MaySendMessage c s (newer ++ e ∷ past) r.point (Sent p bytes) bytes x.message) is r.may.allowed)
     at (Got x y) r h = absurd cc
     at _ r h = absurd cc
 
@@ -395,7 +395,7 @@ module _ (c : Configuration) (setting : IsConfiguration c) (trace : List Entry) 
         go : HasLatestChange c p (history_of p trace) x → Once (Speaks (changing x.0 x.1)) (history_of x.0 trace)
         go (inl k) = came_said c trace p x.0 x.1 unforged correct h.is_correct (once_weaker (BringsChange c (x.0, x.1)) (SignedHere c x.0 x.1) (brings_signed c x.0 x.1) (history_of p trace) k.1)
         go (inr k) = subst (λ (s : ℕ). Once (Speaks (changing s x.1)) (history_of s trace)) (sym k.0)
-            (once_weaker (λ earlier e. IsSaying p (ViewChange x.1) e) (Speaks (changing p x.1)) (saying_speaks p (ViewChange x.1)) (history_of p trace) k.1)
+            (once_weaker (λ earlier e. IsSending p (ViewChange x.1) e) (Speaks (changing p x.1)) (saying_speaks p (ViewChange x.1)) (history_of p trace) k.1)
 
     it : At (NewChangeAt c x.0 x.1) (history_of x.0 trace)
     it = once_at (NewChangeAt c x.0 x.1) (history_of x.0 trace) (change_is_new c x.0 x.1 (history_of x.0 trace) (right_always c x.0 (history_of x.0 trace) (safe x.0 h.is_correct).0 (safe x.0 h.is_correct).1) spoken)

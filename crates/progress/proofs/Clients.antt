@@ -10,17 +10,17 @@ use Rattle.tuple_codec.specs.Operations.{Operation, Outcome}
 use Rattle.tuple_codec.specs.Spelling.{outcome_spelling}
 use Rattle.terms.specs.declared.order.Mode.{Mode}
 use Rattle.wire_format.specs.Messages.{BodyData as Body, MessageData as Message, reply as Reply}
-use Rattle.signing.specs.Heard.{heard}
+use Rattle.signing.specs.AuthenticBody.{authentic}
 use Rattle.protocol.specs.System.Configuration.{Configuration, replicas, members}
 use Rattle.protocol.specs.System.Frames.{same_mode}
 use Rattle.protocol.specs.System.Trace.{Entry, party_of, either}
 use Rattle.protocol.specs.System.Trace.Entry.{Invoke, Got, Tick, Executed, Installed, Sent, Accepted}
-use Rattle.protocol.specs.Client.RightClient.{OpenCall, open_call, Vote, vote_of, later_vote, latest, is_alike, count_alike, is_complete, newest_vote, Reaction, on_got, on_reply, fallback, reaction, IsReaction, Reacts, MayAccept, MayClient, SafeClient}
+use Rattle.protocol.specs.Client.RightClient.{OpenCall, open_call, Vote, reply_vote, later_vote, latest, is_alike, count_alike, is_complete, newest_vote, Reaction, on_got, on_reply, fallback, reaction, IsReaction, Reacts, MayAccept, MayClient, SafeClient}
 use Rattle.protocol.specs.Client.RightClient.Reaction.{nothing, accepts}
 use Rattle.protocol.proofs.Words.Modes.{same_mode-true}
 use Rattle.protocol.proofs.Words.Options.{some_injective}
 use Rattle.protocol.proofs.Words.Lists.{none_pass}
-use Rattle.evidence.proofs.Counted.{heard_is_latest}
+use Rattle.evidence.proofs.Counted.{received_is_latest}
 use Rattle.progress.specs.Delivery.{HasEntry}
 use Rattle.progress.specs.Answered.{OpenCallsLackQuorums}
 
@@ -77,21 +77,21 @@ module _ (c : Configuration) (k : ℕ) (call : OpenCall) (start : List Entry) (o
   unfolding latest Latest
   latest_by mode r (Invoke x y z) part right (inl a) not_yet v = absurd (not_yet a)
   latest_by mode r (Invoke x y z) part right (inr o) not_yet v = let bad : None ≡ Some call = sym right.1 ∙ o in absurd cc
-  latest_by mode r (Got x y) part right either not_yet v = some_later mode (option_and_then (vote_of me call.timestamp r) (heard (members c) me y)) (latest c me (part ++ start) call.timestamp mode r) v.0 v.1
+  latest_by mode r (Got x y) part right either not_yet v = some_later mode (option_and_then (reply_vote me call.timestamp r) (authentic (members c) me y)) (latest c me (part ++ start) call.timestamp mode r) v.0 v.1
   latest_by mode r _ part right either not_yet v = v
 
-  pub latest_since : (mode : Mode) (r n : ℕ) (answer : Outcome) (bytes : List ℕ) → heard (members c) me bytes ≡ Some (record { sender = r; message = Reply me call.timestamp mode n answer })
+  pub latest_since : (mode : Mode) (r n : ℕ) (answer : Outcome) (bytes : List ℕ) → authentic (members c) me bytes ≡ Some (record { sender = r; message = Reply me call.timestamp mode n answer })
       → (part : List Entry) → SafeClient c me (part ++ start) → (Accepting k call.timestamp part → ⊥) → HasEntry (Got me bytes) part → (v : Vote) × (latest c me (part ++ start) call.timestamp mode r ≡ Some v)
   unfolding Latest
-  latest_since mode r n answer bytes hears [] right not_yet h = absurd h
-  latest_since mode r n answer bytes hears (e ∷ part) right not_yet (inl is) = (
+  latest_since mode r n answer bytes receives [] right not_yet h = absurd h
+  latest_since mode r n answer bytes receives (e ∷ part) right not_yet (inl is) = (
     record { mode = mode; number = n; answer = answer },
     subst (λ (x : Entry). latest c me (x ∷ part ++ start) call.timestamp mode r ≡ Some (record { mode = mode; number = n; answer = answer })) (sym is)
-        (heard_is_latest c me r call.timestamp n mode answer bytes (part ++ start) hears),
+        (received_is_latest c me r call.timestamp n mode answer bytes (part ++ start) receives),
   )
-  latest_since mode r n answer bytes hears (e ∷ part) right not_yet (inr h) =
+  latest_since mode r n answer bytes receives (e ∷ part) right not_yet (inr h) =
       let none : Accepting k call.timestamp part → ⊥ = λ a. not_yet (a.0, inr a.1) in
-      latest_by mode r e part right.0.1 (open_or_accepted part right.1) none (latest_since mode r n answer bytes hears part right.1 none h)
+      latest_by mode r e part right.0.1 (open_or_accepted part right.1) none (latest_since mode r n answer bytes receives part right.1 none h)
 
 -- ---- no quorum agrees while it is open
 
@@ -143,7 +143,7 @@ module _ (c : Configuration) (me : ℕ) (call : OpenCall) (vote : Vote) where
 
   -- a reply that the client receives
   module _ (p : ℕ) (bytes : List ℕ) (past outputs : List Entry) (sender client u : ℕ) (mode : Mode) (number : ℕ) (answer : Outcome)
-      (hears : heard (members c) me bytes ≡ Some (record { sender = sender; message = Reply client u mode number answer })) (few : Few past) where
+      (receives : authentic (members c) me bytes ≡ Some (record { sender = sender; message = Reply client u mode number answer })) (few : Few past) where
     abbrev v : Vote
     v = record { mode = mode; number = number; answer = answer }
 
@@ -159,7 +159,7 @@ module _ (c : Configuration) (me : ℕ) (call : OpenCall) (vote : Vote) where
 
     latest_is : (s : ℕ) → latest c me new t vote.mode s ≡ later_vote vote.mode (then_some (here s) v) (latest c me past t vote.mode s)
     unfolding latest
-    latest_is s = ap (λ (o : Option Body). later_vote vote.mode (option_and_then (vote_of me t s) o) (latest c me past t vote.mode s)) hears
+    latest_is s = ap (λ (o : Option Body). later_vote vote.mode (option_and_then (reply_vote me t s) o) (latest c me past t vote.mode s)) receives
 
     no_more : all_three ≡ false → (s : ℕ) → alike_in new s ≡ true → alike_in past s ≡ true
     no_more e s h = pick (here s) refl (sym (ap (is_alike vote) (latest_is s)) ∙ h)
@@ -190,7 +190,7 @@ module _ (c : Configuration) (me : ℕ) (call : OpenCall) (vote : Vote) where
         mine = and_parts (client == me) (u == t) parts.1
 
         newest : newest_vote c me new t ≡ Some v
-        newest = rw hears (rw (eq-eqb sender sender refl, mine.0, mine.1) refl)
+        newest = rw receives (rw (eq-eqb sender sender refl, mine.0, mine.1) refl)
 
         is_mode : mode ≡ vote.mode
         is_mode = same_mode-true mode vote.mode alike.0
@@ -210,17 +210,17 @@ module _ (c : Configuration) (me : ℕ) (call : OpenCall) (vote : Vote) where
         go true e = no_quorum opened none reacts e
         go false e = few_still past new (no_more e) few
 
-  by_message : (p : ℕ) (bytes : List ℕ) (past outputs : List Entry) (sender : ℕ) (message : Message) → heard (members c) me bytes ≡ Some (record { sender = sender; message = message })
+  by_message : (p : ℕ) (bytes : List ℕ) (past outputs : List Entry) (sender : ℕ) (message : Message) → authentic (members c) me bytes ≡ Some (record { sender = sender; message = message })
       → open_call past ≡ Some call → NoneAccepts outputs → IsReaction c me (reaction c me (Got p bytes ∷ past)) outputs → Few past → Few (Got p bytes ∷ past)
   unfolding latest
-  by_message p bytes past outputs sender (Reply client u mode number answer) hears opened none reacts few = by_reply p bytes past outputs sender client u mode number answer hears few opened none reacts
-  by_message p bytes past outputs sender _ hears opened none reacts few = few_still past (Got p bytes ∷ past) (λ s h. rw hears at h) few
+  by_message p bytes past outputs sender (Reply client u mode number answer) receives opened none reacts few = by_reply p bytes past outputs sender client u mode number answer receives few opened none reacts
+  by_message p bytes past outputs sender _ receives opened none reacts few = few_still past (Got p bytes ∷ past) (λ s h. rw receives at h) few
 
   by_got : (p : ℕ) (bytes : List ℕ) (past outputs : List Entry) → open_call past ≡ Some call → NoneAccepts outputs → IsReaction c me (reaction c me (Got p bytes ∷ past)) outputs → Few past
-      → (o : Option Body) → heard (members c) me bytes ≡ o → Few (Got p bytes ∷ past)
+      → (o : Option Body) → authentic (members c) me bytes ≡ o → Few (Got p bytes ∷ past)
   unfolding latest
-  by_got p bytes past outputs opened none reacts few None hears = few_still past (Got p bytes ∷ past) (λ s h. rw hears at h) few
-  by_got p bytes past outputs opened none reacts few (Some body) hears = by_message p bytes past outputs body.sender body.message hears opened none reacts few
+  by_got p bytes past outputs opened none reacts few None receives = few_still past (Got p bytes ∷ past) (λ s h. rw receives at h) few
+  by_got p bytes past outputs opened none reacts few (Some body) receives = by_message p bytes past outputs body.sender body.message receives opened none reacts few
 
   no_accept : (e : Entry) (outputs : List Entry) → NoneAccepts outputs → ((k t : ℕ) (answer : Outcome) → e ≡ Accepted k t answer → ⊥) → NoneAccepts (e ∷ outputs)
   no_accept e outputs none other k t answer (inl is) = other k t answer is
@@ -229,7 +229,7 @@ module _ (c : Configuration) (me : ℕ) (call : OpenCall) (vote : Vote) where
   few_while_open : (xs outputs : List Entry) → Reacts c me (reaction c me) outputs xs → open_call xs ≡ Some call → NoneAccepts outputs → Few xs
   unfolding latest
   few_while_open (Invoke x y z ∷ past) outputs r opened none = call_begins x y z past
-  few_while_open (Got p bytes ∷ past) outputs r opened none = by_got p bytes past outputs opened none r.1.1 (few_while_open past [] r.1.2 opened (λ k t a h. h)) (heard (members c) me bytes) refl
+  few_while_open (Got p bytes ∷ past) outputs r opened none = by_got p bytes past outputs opened none r.1.1 (few_while_open past [] r.1.2 opened (λ k t a h. h)) (authentic (members c) me bytes) refl
   few_while_open (Tick p ∷ past) outputs r opened none = few_while_open past [] r.1.2 opened (λ k t a h. h)
   few_while_open (Sent p bytes ∷ past) outputs r opened none = few_while_open past (Sent p bytes ∷ outputs) r.1 opened (no_accept (Sent p bytes) outputs none (λ k t a e. cc))
   few_while_open (Executed x y z ∷ past) outputs r opened none = few_while_open past (Executed x y z ∷ outputs) r.1 opened (no_accept (Executed x y z) outputs none (λ k t a e. cc))

@@ -17,7 +17,7 @@ use Rattle.protocol.specs.System.Trace.{Entry, party_of, history_of, Once, Unfor
 use Rattle.protocol.specs.System.Trace.Entry.{Got, Sent}
 use Rattle.protocol.specs.System.Run.{OnlyTheseStopped}
 use Rattle.protocol.specs.Replica.Certificates.{is_active_in, low, is_in_marks, are_genuine, brought, counts_at, batch_from, begun_proposal, entry_proposal, proposal, logged, first_given, prepare_from, commit_from, vote_in, prepare_of, commit_of, Prepared, Committed}
-use Rattle.protocol.specs.Replica.RightReplica.{Point, HistoryReaches, MaySend, MaySay, IsFor, others}
+use Rattle.protocol.specs.Replica.RightReplica.{Point, HistoryReaches, MaySend, MaySendMessage, IsFor, others}
 use Rattle.protocol.specs.Replica.Owed.{HistoryIsPrompt, SendsMessage}
 use Rattle.protocol.specs.Laws.Histories.{AreReplicasSafe}
 use Rattle.protocol.proofs.Words.Options.{some_injective}
@@ -164,7 +164,7 @@ of_others c v i q past receivers _ (is_batch b) h = h
 of_others c v i q past receivers _ _ h = h
 
 -- a replica that may send one of these has logged a batch for the number
-pub of_logged : (c : Configuration) (v i q : ℕ) (past : List Entry) (at : Point) (bytes : List ℕ) (message : Message) → IsOf v i message → MaySay c q past at (Sent q bytes) bytes message
+pub of_logged : (c : Configuration) (v i q : ℕ) (past : List Entry) (at : Point) (bytes : List ℕ) (message : Message) → IsOf v i message → MaySendMessage c q past at (Sent q bytes) bytes message
     → (b : List ℕ) × (logged c q (Sent q bytes ∷ past) v i ≡ Some b)
 of_logged c v i q past at bytes _ (is_batch b) may = (b, may.one)
 of_logged c v i q past at bytes _ (is_prepare d) may = (may.batch, logged_stays c q v i may.batch (Sent q bytes) past may.is_logged)

@@ -8,8 +8,8 @@ use Rattle.std.proofs.lemmas.Bool.{and_parts, and_from, ltb-true, ltb-false, le-
 use Rattle.wire_format.specs.Messages.{BodyData as Body, FrameData as Frame, AuthenticatorData as Authenticator, macs, signature, NewViewData, new_view as NewView}
 use Rattle.wire_format.specs.Spelling.{is_signed, authenticator_is_signed}
 use Rattle.wire_format.specs.Words.{said}
-use Rattle.signing.specs.Heard.{heard, signed_body}
-use Rattle.signing.proofs.Heard.{signed_is_heard, heard_was_opened}
+use Rattle.signing.specs.AuthenticBody.{authentic, signed_body}
+use Rattle.signing.proofs.AuthenticBody.{signed_is_authentic, authentic_was_opened}
 use Rattle.protocol.specs.System.Configuration.{Configuration, replicas, primary, is_replica, is_correct_replica, members}
 use Rattle.protocol.specs.System.Trace.{Entry, history_of, Has, party_of}
 use Rattle.protocol.specs.System.Trace.Entry.{Invoke, Got, Sent}
@@ -28,7 +28,7 @@ use Rattle.progress.specs.Delivery.{HasEntry, meant, AllDelivered}
 use Rattle.progress.specs.Leaving.{NewViewsAreEntered}
 use Rattle.progress.proofs.Answering.{in_range, in_history, in_trace}
 use Rattle.progress.proofs.Committing.{Stands, stands}
-use Rattle.progress.proofs.Hearing.{Spelled, spelled_as}
+use Rattle.progress.proofs.Receiving.{Spelled, spelled_as}
 use Rattle.progress.proofs.Steady.{SentAt, sent_at, view_later, target_later, leaves_behind}
 use Rattle.progress.proofs.Leaving.{signed_by}
 
@@ -112,8 +112,8 @@ primary_sent c v part start point leaves b = go b.entry refl b.brings
 
     go : (e : Entry) → b.entry ≡ e → new_view_in c e ≡ Some b.new → NewViewSent c (primary c v) v part
     go (Got q bytes) is h =
-        let r = and_then_some (new_view_from c) (heard (members c) q bytes) b.new h in
-        absurd ((heard_was_opened (members c) q bytes r.0 r.1).other (same r.0 (begins c r.0 b.new r.2) ∙ sym (ap party_of (sym is) ∙ own)))
+        let r = and_then_some (new_view_from c) (authentic (members c) q bytes) b.new h in
+        absurd ((authentic_was_opened (members c) q bytes r.0 r.1).other (same r.0 (begins c r.0 b.new r.2) ∙ sym (ap party_of (sym is) ∙ own)))
     go (Sent q bytes) is h =
         let r = and_then_some (new_view_from c) (said bytes) b.new h in
         let t = begins c r.0 b.new r.2 in
@@ -196,15 +196,15 @@ module _ (c : Configuration) (later start : List Entry) (run : IsRun c (later ++
       go false e =
           let whole : history_of r (later ++ start) ≡ at.newer ++ Got r its_new_view.bytes ∷ (at.middle ++ history_of r start) = parts r ∙ at.whole in
           let there = in_view c v its_new_view.new at.newer (at.middle ++ history_of r start) (Got r its_new_view.bytes)
-          (ap (option_and_then (new_view_from c)) hears ∙ selected_brings c v its_new_view.new (record { sender = p0; message = NewView its_new_view.new }) refl its_new_view.selected its_new_view.is_view)
+          (ap (option_and_then (new_view_from c)) receives ∙ selected_brings c v its_new_view.new (record { sender = p0; message = NewView its_new_view.new }) refl its_new_view.selected its_new_view.is_view)
           its_new_view.is_view (subst (λ (xs : List Entry). target xs ≤ v) whole most) in
           subst (λ (xs : List Entry). v ≤ view c xs) (sym whole) there
         where
           differ : r ≢ p0
           differ = eqb-false r p0 e
 
-          hears : heard (members c) r its_new_view.bytes ≡ Some (record { sender = p0; message = NewView its_new_view.new })
-          hears = signed_is_heard (members c) r its_new_view.bytes (record { sender = p0; message = NewView its_new_view.new }) signed (λ same. differ (sym same))
+          receives : authentic (members c) r its_new_view.bytes ≡ Some (record { sender = p0; message = NewView its_new_view.new })
+          receives = signed_is_authentic (members c) r its_new_view.bytes (record { sender = p0; message = NewView its_new_view.new }) signed (λ same. differ (sym same))
 
           gets : HasEntry (Got r its_new_view.bytes) later
           gets = all p0 r its_new_view.bytes (in_trace p0 (Sent p0 its_new_view.bytes) later its_new_view.is_sent)

@@ -7,7 +7,7 @@ use Rattle.protocol.specs.System.Trace.{Entry, is_output}
 use Rattle.protocol.specs.System.Trace.Entry.{Sent}
 use Rattle.protocol.specs.Client.RightClient.{reaction, IsReaction, MayInput, Reacts}
 use Rattle.protocol.specs.Replica.RightReplica.{Point, HistoryReaches, IsStep, MaySend}
-use Rattle.protocol.specs.Replica.Owed.{Owes, HistoryIsPrompt, IsSaying, SendsMessage}
+use Rattle.protocol.specs.Replica.Owed.{Owes, HistoryIsPrompt, IsSending, SendsMessage}
 use Rattle.protocol.proofs.Words.Elements.{has_some}
 use Rattle.protocol.proofs.Words.Reacting.{one_of, proceeds_leaves}
 use Rattle.evidence.proofs.RefusingRuns.{when_false}
@@ -121,10 +121,10 @@ pub record Given (me : ℕ) (message : Message) (outs : List Entry) : Type 0 whe
 
 pub given : (me : ℕ) (message : Message) (outs : List Entry) → SendsMessage me message outs → Given me message outs
 given me message outs h =
-    let x = has_some (IsSaying me message) outs h in
+    let x = has_some (IsSending me message) outs h in
     go x.0 x.1 x.2
   where
-    go : (e : Entry) → HasEntry e outs → IsSaying me message e → Given me message outs
+    go : (e : Entry) → HasEntry e outs → IsSending me message e → Given me message outs
     go (Sent p bytes) there says = record { party = p; bytes = bytes; is_there = there; says = says }
     go _ there says = absurd says
 

@@ -8,7 +8,7 @@ use Rattle.quorum.specs.Votes.{or_else}
 use Rattle.tuple_codec.specs.Operations.{Outcome}
 use Rattle.reply_cache.specs.Replies.{Kept}
 use Rattle.wire_format.specs.Messages.{BodyData as Body, pre_prepare as PrePrepare}
-use Rattle.signing.proofs.Heard.{heard_was_opened}
+use Rattle.signing.proofs.AuthenticBody.{authentic_was_opened}
 use Rattle.protocol.specs.System.Configuration.{Configuration, IsConfiguration, primary, is_number, is_correct_replica, is_correct_client, members}
 use Rattle.protocol.specs.System.Trace.{Entry, party_of, history_of, Once, SendsBody, Unforged}
 use Rattle.protocol.specs.System.Trace.Entry.{Got, Tick, Installed, Sent, Accepted}
@@ -16,7 +16,7 @@ use Rattle.protocol.specs.System.Texts.{NoCollision}
 use Rattle.protocol.specs.System.Run.{IsRun, OnlyTheseStopped}
 use Rattle.protocol.specs.Replica.Certificates.{view, taken, low, is_in_marks, batch_begun, begun_proposal, entry_proposal, proposal, brought, first_given, logged, Committed}
 use Rattle.protocol.specs.Replica.State.{State, opening, last_time}
-use Rattle.protocol.specs.Replica.RightReplica.{Point, HistoryReaches, IsStep, IsFree, MaySay, MayPrePrepare}
+use Rattle.protocol.specs.Replica.RightReplica.{Point, HistoryReaches, IsStep, IsFree, MaySendMessage, MayPrePrepare}
 use Rattle.protocol.specs.Replica.Owed.{BeginsViewWith, IsOfView, IsNumbered}
 use Rattle.protocol.specs.Client.RightClient.{OpenCall, open_call}
 use Rattle.protocol.specs.Space.Linear.{reached}
@@ -84,8 +84,8 @@ gave c i batch e past point leaves h = go e leaves.2 brings
     go : (e : Entry) → IsStep c (primary c 0) past leaves.0 e point → brought c e ≡ Some (giving c i batch) → Gave c i batch e past leaves.0
     go (Sent p bytes) step is =
         let same : ◌≡◌ {A = Body} step.may.body (giving c i batch) = some_injective step.may.body (giving c i batch) (sym step.may.says ∙ is) in
-        record { sends = (step.own, is); may = subst (λ (b : Body). MaySay c (primary c 0) past leaves.0 (Sent p bytes) bytes b.message) same step.may.say }
-    go (Got p bytes) step is = absurd ((heard_was_opened (members c) p bytes (giving c i batch) is).other (sym step.own))
+        record { sends = (step.own, is); may = subst (λ (b : Body). MaySendMessage c (primary c 0) past leaves.0 (Sent p bytes) bytes b.message) same step.may.allowed }
+    go (Got p bytes) step is = absurd ((authentic_was_opened (members c) p bytes (giving c i batch) is).other (sym step.own))
     go _ step is = absurd cc
 
 -- the primary assigned the number that is logged there

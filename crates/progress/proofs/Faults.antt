@@ -4,8 +4,8 @@ use Rattle.std.proofs.lemmas.Bool.{and_parts, and_from}
 use Rattle.wire_format.specs.Messages.{BodyData as Body, ViewChangeData, NewViewData, BatchEntryData as BatchEntry}
 use Rattle.wire_format.specs.Words.{carried}
 use Rattle.authenticator.specs.Membership.{has_sender}
-use Rattle.signing.specs.Heard.{heard, signed_body}
-use Rattle.signing.proofs.Heard.{signed_was_signed}
+use Rattle.signing.specs.AuthenticBody.{authentic, signed_body}
+use Rattle.signing.proofs.AuthenticBody.{signed_was_signed}
 use Rattle.protocol.specs.System.Configuration.{Configuration, IsConfiguration, primary, is_replica, is_faulty_replica, is_correct_replica, members}
 use Rattle.protocol.specs.System.Trace.{Entry, history_of, Once, Always, Has, Unforged, frames_in}
 use Rattle.protocol.specs.System.Trace.Entry.{Invoke, Got, Sent}
@@ -63,8 +63,8 @@ module _ (c : Configuration) (trace : List Entry) (silent : AreFaultySilent c tr
           by : (e : Entry) → HasEntry e (history_of q trace) → (body : Body) → brought c e ≡ Some body → body.sender ≡ primary c 0 → RightAt c q a.past e → ⊥
           by (Got p bytes) has body is from r =
               let mine : HasEntry (Got q bytes) (history_of q trace) = subst (λ (x : ℕ). HasEntry (Got x bytes) (history_of q trace)) r.own has in
-              let hears : heard (members c) q bytes ≡ Some body = subst (λ (x : ℕ). heard (members c) x bytes ≡ Some body) r.own is in
-              let none = (silent q bytes correct (in_trace q (Got q bytes) trace mine)).0.hears body hears in
+              let receives : authentic (members c) q bytes ≡ Some body = subst (λ (x : ℕ). authentic (members c) x bytes ≡ Some body) r.own is in
+              let none = (silent q bytes correct (in_trace q (Got q bytes) trace mine)).0.receives body receives in
               let bad : false ≡ true = sym none ∙ ap (is_faulty_replica c) from ∙ faulty in
               cc
           by (Sent p bytes) has body is from r =

@@ -4,14 +4,14 @@ use Rattle.std.specs.Prelude.{◌==◌, nat_lt, nat_le}
 use Rattle.std.specs.Option.{option_map_or}
 use Rattle.std.proofs.lemmas.Bool.{and_parts, and_from, ltb-true, ltb-false, leb-true, leb-false, lt-ltb, le-leb}
 use Rattle.wire_format.specs.Messages.{BodyData as Body, MessageData as Message, CheckpointEntryData as CheckpointEntry, NewViewData, checkpoint as Checkpoint}
-use Rattle.signing.proofs.Heard.{heard_was_opened}
+use Rattle.signing.proofs.AuthenticBody.{authentic_was_opened}
 use Rattle.protocol.specs.System.Configuration.{Configuration, IsConfiguration, primary, span, is_number, is_correct_replica, members}
 use Rattle.protocol.specs.System.Trace.{Entry, party_of, history_of, Once, Unforged}
 use Rattle.protocol.specs.System.Trace.Entry.{Invoke, Got, Tick, Executed, Installed, Sent, Accepted}
 use Rattle.protocol.specs.System.Run.{IsRun, OnlyTheseStopped}
-use Rattle.protocol.specs.Replica.Certificates.{view, target, taken, is_active_in, checkpoint_from, checkpoint_in, with_checkpoint, insert_checkpoint, checkpoints_of, says_checkpoint, count_checkpoints, is_stable, stable_at, installed_at, started_at, low, is_in_marks, brought, logged, Committed}
+use Rattle.protocol.specs.Replica.Certificates.{view, target, taken, is_active_in, checkpoint_from, checkpoint_in, with_checkpoint, insert_checkpoint, checkpoints_of, lists_checkpoint, count_checkpoints, is_stable, stable_at, installed_at, started_at, low, is_in_marks, brought, logged, Committed}
 use Rattle.protocol.specs.Replica.Selection.{is_quorum}
-use Rattle.protocol.specs.Replica.RightReplica.{Point, HistoryReaches, May, MovesPoint, MaySend, MaySay, MayCheckpoint, Executes, waiting_after}
+use Rattle.protocol.specs.Replica.RightReplica.{Point, HistoryReaches, May, MovesPoint, MaySend, MaySendMessage, MayCheckpoint, Executes, waiting_after}
 use Rattle.protocol.specs.Space.Linear.{reached}
 use Rattle.protocol.proofs.Words.Options.{some_injective, and_then_some, then_some_gives}
 use Rattle.protocol.proofs.Words.Elements.{has_filter}
@@ -59,18 +59,18 @@ own_checkpoint : (c : Configuration) (me : ℕ) (m : CheckpointEntry) (e : Entry
 own_checkpoint c me m (Got p bytes) past point leaves h =
     let r = and_then_some {B = ℕ × CheckpointEntry} checkpoint_from (brought c (Got p bytes)) (me, m) h in
     let body = checkpoint_body me m r.0.sender r.0.message r.2 in
-    let o = heard_was_opened (members c) p bytes (record { sender = me; message = Checkpoint m.number m.digest }) (r.1 ∙ ap Some body) in
+    let o = authentic_was_opened (members c) p bytes (record { sender = me; message = Checkpoint m.number m.digest }) (r.1 ∙ ap Some body) in
     absurd (o.other (sym leaves.2.own))
 own_checkpoint c me m (Sent p bytes) past point leaves h =
     let r = and_then_some {B = ℕ × CheckpointEntry} checkpoint_from (brought c (Sent p bytes)) (me, m) h in
     let body = checkpoint_body me m r.0.sender r.0.message r.2 in
     let may : MaySend c me past leaves.0 (Sent p bytes) bytes = leaves.2.may in
     let same : ◌≡◌ {A = Body} may.body (record { sender = me; message = Checkpoint m.number m.digest }) = some_injective may.body (record { sender = me; message = Checkpoint m.number m.digest }) (sym may.says ∙ r.1 ∙ ap Some body) in
-    let say : MayCheckpoint c past leaves.0 m.number m.digest = subst (λ (b : Body). MaySay c me past leaves.0 (Sent p bytes) bytes b.message) same may.say in
-    executes_reached c me m.number past leaves.0 leaves.1 say.executed
+    let allowed : MayCheckpoint c past leaves.0 m.number m.digest = subst (λ (b : Body). MaySendMessage c me past leaves.0 (Sent p bytes) bytes b.message) same may.allowed in
+    executes_reached c me m.number past leaves.0 leaves.1 allowed.executed
 own_checkpoint c me m _ past point leaves h = absurd cc
 
-own_reached : (c : Configuration) (me : ℕ) (checkpoint : CheckpointEntry) (xs : List Entry) (point : Point) → HistoryReaches c me xs point → says_checkpoint checkpoint (checkpoints_of c xs me) ≡ true
+own_reached : (c : Configuration) (me : ℕ) (checkpoint : CheckpointEntry) (xs : List Entry) (point : Point) → HistoryReaches c me xs point → lists_checkpoint checkpoint (checkpoints_of c xs me) ≡ true
     → checkpoint.number ≤ reached xs me
 unfolding checkpoints_of
 own_reached c me checkpoint [] point leaves h = absurd cc
@@ -79,15 +79,15 @@ own_reached c me checkpoint (e ∷ past) point leaves h = go (checkpoint_in c e)
     grows : reached past me ≤ reached (e ∷ past) me
     grows = reached_grows e past me
 
-    go : (o : Option (ℕ × CheckpointEntry)) → checkpoint_in c e ≡ o → says_checkpoint checkpoint (with_checkpoint me o (checkpoints_of c past me)) ≡ true
-        → (says_checkpoint checkpoint (checkpoints_of c past me) ≡ true → checkpoint.number ≤ reached past me) → checkpoint.number ≤ reached (e ∷ past) me
+    go : (o : Option (ℕ × CheckpointEntry)) → checkpoint_in c e ≡ o → lists_checkpoint checkpoint (with_checkpoint me o (checkpoints_of c past me)) ≡ true
+        → (lists_checkpoint checkpoint (checkpoints_of c past me) ≡ true → checkpoint.number ≤ reached past me) → checkpoint.number ≤ reached (e ∷ past) me
     go None is k below = let l = below k in let g = grows in omega arith
     go (Some x) is k below = from (x.0 == me) refl k
       where
         here : x.0 ≡ me → checkpoint_in c e ≡ Some (me, x.1)
         here own = is ∙ ap (λ (t : ℕ). Some (let p : ℕ × CheckpointEntry = (t, x.1) in p)) own
 
-        pick : x.0 ≡ me → (is_checkpoint checkpoint x.1 ≡ true) ⊎ (says_checkpoint checkpoint (checkpoints_of c past me) ≡ true) → checkpoint.number ≤ reached (e ∷ past) me
+        pick : x.0 ≡ me → (is_checkpoint checkpoint x.1 ≡ true) ⊎ (lists_checkpoint checkpoint (checkpoints_of c past me) ≡ true) → checkpoint.number ≤ reached (e ∷ past) me
         pick own (inl y) =
             let l = own_checkpoint c me x.1 e past point leaves (here own) in
             let n : x.1.number ≡ checkpoint.number = eqb-true x.1.number checkpoint.number (and_parts (x.1.number == checkpoint.number) (bytes_eq x.1.digest checkpoint.digest) y).0 in
@@ -95,7 +95,7 @@ own_reached c me checkpoint (e ∷ past) point leaves h = go (checkpoint_in c e)
             omega arith
         pick own (inr y) = let l = below y in let g = grows in omega arith
 
-        from : (b : Bool) → (x.0 == me) ≡ b → says_checkpoint checkpoint (cond b (take 3 (insert_checkpoint x.1 (checkpoints_of c past me))) (checkpoints_of c past me)) ≡ true → checkpoint.number ≤ reached (e ∷ past) me
+        from : (b : Bool) → (x.0 == me) ≡ b → lists_checkpoint checkpoint (cond b (take 3 (insert_checkpoint x.1 (checkpoints_of c past me))) (checkpoints_of c past me)) ≡ true → checkpoint.number ≤ reached (e ∷ past) me
         from true own k = pick (eqb-true x.0 me own) (has_insert checkpoint x.1 (checkpoints_of c past me) (has_take checkpoint 3 (insert_checkpoint x.1 (checkpoints_of c past me)) k))
         from false own k = let l = below k in let g = grows in omega arith
 
@@ -106,7 +106,7 @@ module _ (c : Configuration) (me : ℕ) where
   stable_reached e past point leaves = go (checkpoint_in c e)
     where
       test : (x : ℕ × CheckpointEntry) (b : Bool) → is_stable c me (e ∷ past) x.1 ≡ b → cond b x.1.number 0 ≤ reached (e ∷ past) me
-      test x true is = own_reached c me x.1 (e ∷ past) point leaves (and_parts (is_quorum c (count_checkpoints c (e ∷ past) x.1)) (says_checkpoint x.1 (checkpoints_of c (e ∷ past) me)) is).1
+      test x true is = own_reached c me x.1 (e ∷ past) point leaves (and_parts (is_quorum c (count_checkpoints c (e ∷ past) x.1)) (lists_checkpoint x.1 (checkpoints_of c (e ∷ past) me)) is).1
       test x false is = omega arith
 
       go : (o : Option (ℕ × CheckpointEntry)) → option_map_or (λ (x : ℕ × CheckpointEntry). cond (is_stable c me (e ∷ past) x.1) x.1.number 0) o 0 ≤ reached (e ∷ past) me

@@ -7,14 +7,14 @@ use Rattle.wire_format.specs.Messages.{BodyData as Body, MessageData as Message,
 use Rattle.wire_format.specs.Spelling.{is_signed, authenticator_is_signed}
 use Rattle.wire_format.specs.Words.{said}
 use Rattle.authenticator.specs.Membership.{has_sender}
-use Rattle.signing.specs.Heard.{has_signature, is_signed_frame, signed_body}
+use Rattle.signing.specs.AuthenticBody.{has_signature, is_signed_frame, signed_body}
 use Rattle.protocol.specs.System.Configuration.{Configuration, replicas, primary, is_replica, members}
 use Rattle.protocol.specs.System.Trace.{Entry, is_output, history_of, Once}
 use Rattle.protocol.specs.System.Trace.Entry.{Got, Tick, Sent}
 use Rattle.protocol.specs.Replica.Selection.{is_within, change_in, signed_change, changes_of}
 use Rattle.protocol.specs.Replica.Certificates.{view, target}
 use Rattle.protocol.specs.Replica.RightReplica.{Point, HistoryReaches, MaySend, sought_view, IsNewViewChange, SafeReplica}
-use Rattle.protocol.specs.Replica.Owed.{Owes, HistoryIsPrompt, HasToMove, IsSaying, AreKeysSpent, BringsChange, HasLatestChange, HasBatch, CanBeginView}
+use Rattle.protocol.specs.Replica.Owed.{Owes, HistoryIsPrompt, HasToMove, IsSending, AreKeysSpent, BringsChange, HasLatestChange, HasBatch, CanBeginView}
 use Rattle.evidence.specs.RefusedMarks.{SpellsChange}
 use Rattle.protocol.proofs.Words.Options.{some_injective, and_then_some}
 use Rattle.protocol.proofs.Words.Reacting.{one_of, proceeds_leaves, is_replica_right}
@@ -23,7 +23,7 @@ use Rattle.protocol.proofs.Agreement.Signed.{changing}
 use Rattle.protocol.proofs.Agreement.States.{history_append}
 use Rattle.progress.specs.Leaving.{WaitingReplicasLeave, PrimariesBeginViews, UnpreparedViewsAreBegun}
 use Rattle.progress.proofs.Flipping.{next_output}
-use Rattle.progress.proofs.Hearing.{Spelled, spelled_as}
+use Rattle.progress.proofs.Receiving.{Spelled, spelled_as}
 use Rattle.progress.proofs.Listing.{view_changes_exist}
 use Rattle.progress.proofs.Within.{view_changes_are_within}
 use Rattle.protocol.proofs.Words.Standing.{points_are_one}
@@ -202,7 +202,7 @@ came_bytes c s vc (e ∷ past) (inr h) = came_bytes c s vc past h
 came_bytes c s vc (Got p bytes ∷ past) (inl h) = record { bytes = bytes; signed = change_bytes c s vc bytes h.0 }
 came_bytes c s vc (_ ∷ past) (inl h) = absurd h
 
-pub own_bytes : (c : Configuration) (me : ℕ) (vc : ViewChangeData) (xs : List Entry) (point : Point) → is_replica c me ≡ true → HistoryReaches c me xs point → Once (λ earlier e. IsSaying me (ViewChange vc) e) xs → Bytes c me vc
+pub own_bytes : (c : Configuration) (me : ℕ) (vc : ViewChangeData) (xs : List Entry) (point : Point) → is_replica c me ≡ true → HistoryReaches c me xs point → Once (λ earlier e. IsSending me (ViewChange vc) e) xs → Bytes c me vc
 own_bytes c me vc [] point known leaves h = absurd h
 own_bytes c me vc (e ∷ past) point known leaves (inr h) = own_bytes c me vc past leaves.0 known leaves.1 h
 own_bytes c me vc (Sent p bytes ∷ past) point known leaves (inl h) =

@@ -1,4 +1,4 @@
-pub mod Hearing
+pub mod Receiving
 pub mod Events
 pub mod Clients
 pub mod Replies

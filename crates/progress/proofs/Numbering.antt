@@ -67,7 +67,7 @@ module _ (c : Configuration) (setting : IsConfiguration c) (later start : List E
 
   waits : Has (λ x. x ≡ (let y : Call = record { client = k; timestamp = call.timestamp; op = call.op } in y)) point.waiting ⊎ (call.timestamp ≤ last_time point.state k)
   waits =
-      waits_since c trace run k client call still p0 correct request.bytes (hears_request c setting later start is_run goes unforged apart k call client opened all none modes.Ordered request p0 correct).hears
+      waits_since c trace run k client call still p0 correct request.bytes (hears_request c setting later start is_run goes unforged apart k call client opened all none modes.Ordered request p0 correct).receives
       [] at.newer (at.middle ++ history_of p0 start) point splits (subst (λ (xs : List Entry). HistoryReaches c p0 xs point) splits leaves)
 
   stands_at : StandsAtPrimary c v k call.timestamp trace

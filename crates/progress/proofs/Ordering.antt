@@ -3,13 +3,13 @@ use Rattle.std.proofs.Common.{◌≡◌, ℕ, suc, ◌≤◌, ◌<◌, ◌⊎◌
 use Rattle.std.specs.Prelude.{◌==◌, nat_le, option_and_then}
 use Rattle.std.proofs.lemmas.Bool.{and_parts, ltb-true, leb-true, leb-false, eqb-false}
 use Rattle.wire_format.specs.Messages.{BodyData as Body, MessageData as Message, pre_prepare as PrePrepare}
-use Rattle.signing.proofs.Heard.{heard_was_opened}
+use Rattle.signing.proofs.AuthenticBody.{authentic_was_opened}
 use Rattle.protocol.specs.System.Configuration.{Configuration, IsConfiguration, replicas, primary, is_replica, is_correct_replica, members}
 use Rattle.protocol.specs.System.Trace.{Entry, party_of, history_of, Unforged}
 use Rattle.protocol.specs.System.Trace.Entry.{Invoke, Got, Sent}
 use Rattle.protocol.specs.System.Run.{IsRun, OnlyTheseStopped}
 use Rattle.protocol.specs.Replica.Certificates.{view, taken, is_active_in, low, is_in_marks, are_genuine, brought, batch_begun, begun_proposal, entry_proposal, proposal, logged, first_given, Committed}
-use Rattle.protocol.specs.Replica.RightReplica.{Point, HistoryReaches, MaySend, MaySay}
+use Rattle.protocol.specs.Replica.RightReplica.{Point, HistoryReaches, MaySend, MaySendMessage}
 use Rattle.protocol.specs.Replica.Owed.{HistoryIsPrompt}
 use Rattle.protocol.specs.Space.Linear.{reached}
 use Rattle.protocol.specs.Laws.Histories.{AreReplicasSafe}
@@ -23,7 +23,7 @@ use Rattle.protocol.proofs.Agreement.States.{history_append}
 use Rattle.protocol.proofs.Points.Levels.{reached_history, number_reached}
 use Rattle.progress.specs.Delivery.{HasEntry, AllDelivered}
 use Rattle.progress.specs.Normal.{IsSteady, NextBatchesAreExecuted}
-use Rattle.progress.proofs.Hearing.{Heard}
+use Rattle.progress.proofs.Receiving.{Heard}
 use Rattle.progress.proofs.Answering.{in_history, in_trace}
 use Rattle.progress.proofs.Flipping.{none_is_left}
 use Rattle.progress.proofs.Steady.{active_once, active_between, marks_between, Since, given_since, SentAt, sent_at, sent_in_part, other_hears}
@@ -92,14 +92,14 @@ module _ (c : Configuration) (setting : IsConfiguration c) (later start : List E
       → Comes c s v i (record { sender = q; message = message }) (whole s)
   comes q s one other message of shared = go (q == s) refl
     where
-      say : (past : List Entry) (at : Point) → MaySend c q past at (Sent q shared.bytes) shared.bytes → MaySay c q past at (Sent q shared.bytes) shared.bytes message
-      say past at may =
+      allowed : (past : List Entry) (at : Point) → MaySend c q past at (Sent q shared.bytes) shared.bytes → MaySendMessage c q past at (Sent q shared.bytes) shared.bytes message
+      allowed past at may =
           let same : ◌≡◌ {A = Body} may.body (record { sender = q; message = message }) = some_injective may.body (record { sender = q; message = message }) (sym may.says ∙ shared.says) in
-          subst (λ (b : Body). MaySay c q past at (Sent q shared.bytes) shared.bytes b.message) same may.say
+          subst (λ (b : Body). MaySendMessage c q past at (Sent q shared.bytes) shared.bytes b.message) same may.allowed
 
       in_part : HasEntry (Sent q shared.bytes) (part q)
       in_part = sent_in_part c q q v i shared.bytes (part q) (first q) (point q one) (leaves_parts q one) (steady q one).0.unlogged
-          (λ past at may. of_logged c v i q past at shared.bytes message of (say past at may)) (subst (λ (xs : List Entry). HasEntry (Sent q shared.bytes) xs) (parts q) shared.is_sent)
+          (λ past at may. of_logged c v i q past at shared.bytes message of (allowed past at may)) (subst (λ (xs : List Entry). HasEntry (Sent q shared.bytes) xs) (parts q) shared.is_sent)
 
       got : (q == s) ≡ false → Comes c s v i (record { sender = q; message = message }) (whole s)
       got e = record {
@@ -107,18 +107,18 @@ module _ (c : Configuration) (setting : IsConfiguration c) (later start : List E
         past = at.middle ++ first s;
         entry = Got s shared.bytes;
         splits = its_whole;
-        brings = hears.hears;
-        counts = counts_here c s v i (at.middle ++ first s) (record { sender = q; message = message }) (Got s shared.bytes) hears.hears
+        brings = receives.receives;
+        counts = counts_here c s v i (at.middle ++ first s) (record { sender = q; message = message }) (Got s shared.bytes) receives.receives
             (active_at s other (at.newer ++ Got s shared.bytes ∷ []) at.middle beside) (marks_at s other (at.newer ++ Got s shared.bytes ∷ []) at.middle beside);
       }
         where
-          hears : Heard c q s message shared.bytes
-          hears = other_hears c q s message shared.bytes shared.past shared.point shared.may shared.says (of_unsigned v i message of) (of_sent c v i q message of (known q one))
+          receives : Heard c q s message shared.bytes
+          receives = other_hears c q s message shared.bytes shared.past shared.point shared.may shared.says (of_unsigned v i message of) (of_sent c v i q message of (known q one))
               (λ receivers h. of_others c v i q shared.past receivers message of h) (below s other) (λ same. eqb-false q s e (sym same))
 
           at : Stands (Got s shared.bytes) (part s) (first s)
           at = stands (Got s shared.bytes) (part s) (first s)
-              (in_history s (Got s shared.bytes) later refl (all q s shared.bytes (in_trace q (Sent q shared.bytes) later in_part) hears.meant_is (correct_replica c s other)))
+              (in_history s (Got s shared.bytes) later refl (all q s shared.bytes (in_trace q (Sent q shared.bytes) later in_part) receives.meant_is (correct_replica c s other)))
 
           its_whole : whole s ≡ at.newer ++ Got s shared.bytes ∷ (at.middle ++ first s)
           its_whole = parts s ∙ at.whole
@@ -192,7 +192,7 @@ module _ (c : Configuration) (setting : IsConfiguration c) (later start : List E
 
       go : (e : Entry) → since.entry ≡ e → brought c e ≡ Some (record { sender = p0; message = PrePrepare v i batch }) → Shared c p0 (PrePrepare v i batch) (whole p0)
       go (Got p bytes) is h =
-          let o = heard_was_opened (members c) p bytes (record { sender = p0; message = PrePrepare v i batch }) h in
+          let o = authentic_was_opened (members c) p bytes (record { sender = p0; message = PrePrepare v i batch }) h in
           absurd (o.other (sym (own (Got p bytes) is)))
       go (Sent p bytes) is h = record {
         bytes = bytes;

@@ -5,7 +5,7 @@ use Rattle.tuple_codec.specs.Operations.{Operation, Outcome}
 use Rattle.space.specs.Applying.{is_read_only, outcome}
 use Rattle.terms.specs.declared.order.Mode.TheVariants as modes
 use Rattle.protocol.specs.System.Configuration.{Configuration, IsConfiguration, replicas, is_correct_replica, is_correct_client}
-use Rattle.protocol.specs.System.Trace.{Entry, history_of, Once, Unforged, Hears}
+use Rattle.protocol.specs.System.Trace.{Entry, history_of, Once, Unforged, Receives}
 use Rattle.protocol.specs.System.Trace.Entry.{Invoke, Sent, Accepted}
 use Rattle.protocol.specs.System.Texts.{NoCollision}
 use Rattle.protocol.specs.System.Run.{IsRun, OnlyTheseStopped}
@@ -121,8 +121,8 @@ module _ (c : Configuration) (setting : IsConfiguration c) (k t n : ℕ) (op : O
     abbrev may : MayReplyRead c r it.past it.point me t number answer
     may = it.may
 
-    -- it heard the request after the invocation
-    not_heard : Once (Hears c r (asking me t modes.ReadOnly may.op)) (history_of r begun) → ⊥
+    -- it received the request after the invocation
+    not_heard : Once (Receives c r (asking me t modes.ReadOnly may.op)) (history_of r begun) → ⊥
     not_heard h =
         let part = run_part c later begun run in
         let said' = heard_was_said c begun r (asking me t modes.ReadOnly may.op) part.runs.unforged (correct_replica c r correct) (correct_client c me client) h in
@@ -151,8 +151,8 @@ module _ (c : Configuration) (setting : IsConfiguration c) (k t n : ℕ) (op : O
             let y = stays.1 in
             omega arith
         go (before middle is) =
-            absurd (not_heard (subst (λ (xs : List Entry). Once (Hears c r (asking me t modes.ReadOnly may.op)) xs) (sym is)
-            (once_append (Hears c r (asking me t modes.ReadOnly may.op)) middle (it.entry ∷ it.past) (inr may.heard))))
+            absurd (not_heard (subst (λ (xs : List Entry). Once (Receives c r (asking me t modes.ReadOnly may.op)) xs) (sym is)
+            (once_append (Receives c r (asking me t modes.ReadOnly may.op)) middle (it.entry ∷ it.past) (inr may.authentic))))
 
     invokes : Once (Invokes me t op) (history_of me trace)
     invokes = subst (λ (xs : List Entry). Once (Invokes me t op) xs) (sym is_mine) (once_append (Invokes me t op) (history_of me later) (Invoke k t op ∷ history_of me start) (inl (refl, refl, refl)))
@@ -173,7 +173,7 @@ module _ (c : Configuration) (setting : IsConfiguration c) (k t n : ℕ) (op : O
           let correct = (each r h).0 in
           let e = event c setting later begun is_run goes unforged apart k call client opened all none modes.ReadOnly asked r correct in
           voted c setting later begun is_run goes unforged apart k call client opened all none modes.ReadOnly asked r correct e.old.state.number (outcome (tuples e.old.state) (me - 256) op)
-          (e.owes.reads me t op (hears_request c setting later begun is_run goes unforged apart k call client opened all none modes.ReadOnly asked r correct).hears is_read)
+          (e.owes.reads me t op (hears_request c setting later begun is_run goes unforged apart k call client opened all none modes.ReadOnly asked r correct).receives is_read)
 
       same : (r : ℕ) (h : answers r ≡ true) → ((by r h).vote.number ≡ n) × ((by r h).vote.answer ≡ outcome (tuples (state_by c trace opening 1 n)) (me - 256) op)
       same r h =

@@ -9,7 +9,7 @@ use Rattle.protocol.specs.System.Trace.{Entry, history_of, Once, SendsBody, Unfo
 use Rattle.protocol.specs.System.Trace.Entry.{Got, Sent}
 use Rattle.protocol.specs.System.Run.{IsRun, OnlyTheseStopped}
 use Rattle.protocol.specs.Replica.Certificates.{is_active_in, low, is_in_marks, are_genuine, logged, Committed}
-use Rattle.protocol.specs.Replica.RightReplica.{Point, HistoryReaches, MaySay}
+use Rattle.protocol.specs.Replica.RightReplica.{Point, HistoryReaches, MaySendMessage}
 use Rattle.protocol.specs.Replica.Owed.{HistoryIsPrompt}
 use Rattle.protocol.specs.Space.Linear.{reached}
 use Rattle.protocol.specs.Laws.Histories.{AreReplicasSafe}
@@ -20,7 +20,7 @@ use Rattle.protocol.proofs.Agreement.States.{history_append}
 use Rattle.protocol.proofs.Points.Levels.{reached_history, number_reached}
 use Rattle.progress.specs.Delivery.{HasEntry}
 use Rattle.progress.specs.Redelivered.{AllRedelivered, StaysActive, StaysInMarks, IsGiven, GivenNumbersAreExecuted}
-use Rattle.progress.proofs.Hearing.{Heard}
+use Rattle.progress.proofs.Receiving.{Heard}
 use Rattle.progress.proofs.Answering.{in_history, in_trace}
 use Rattle.progress.proofs.Flipping.{none_is_left}
 use Rattle.progress.proofs.Steady.{active_once, active_between, marks_between, logged_later, SentAt, sent_at, other_hears}
@@ -91,19 +91,19 @@ module _ (c : Configuration) (setting : IsConfiguration c) (later start : List E
           past = at.middle ++ first s;
           entry = Got s shared.bytes;
           splits = its_whole;
-          brings = hears.hears;
-          counts = counts_here c s v i (at.middle ++ first s) (record { sender = q; message = message }) (Got s shared.bytes) hears.hears
+          brings = receives.receives;
+          counts = counts_here c s v i (at.middle ++ first s) (record { sender = q; message = message }) (Got s shared.bytes) receives.receives
               (active_between c v (at.newer ++ Got s shared.bytes ∷ []) at.middle (first s) (stays s other).first (subst (λ (xs : List Entry). is_active_in c xs v ≡ true) beside (stays s other).last))
               (marks_between c s i (at.newer ++ Got s shared.bytes ∷ []) at.middle (first s) marks.first (subst (λ (xs : List Entry). is_in_marks c (low c s xs) i ≡ true) beside marks.last));
         }
           where
-            hears : Heard c q s message shared.bytes
-            hears = other_hears c q s message shared.bytes shared.past shared.point shared.may shared.says (of_unsigned v i message of) (of_sent c v i q message of (known q one))
+            receives : Heard c q s message shared.bytes
+            receives = other_hears c q s message shared.bytes shared.past shared.point shared.may shared.says (of_unsigned v i message of) (of_sent c v i q message of (known q one))
                 (λ receivers h. of_others c v i q shared.past receivers message of h) (below s other) (λ same. eqb-false q s e (sym same))
 
             at : Stands (Got s shared.bytes) (part s) (first s)
             at = stands (Got s shared.bytes) (part s) (first s)
-                (in_history s (Got s shared.bytes) later refl (all q s shared.bytes (in_trace q (Sent q shared.bytes) trace shared.is_sent) hears.meant_is (correct_replica c s other)))
+                (in_history s (Got s shared.bytes) later refl (all q s shared.bytes (in_trace q (Sent q shared.bytes) trace shared.is_sent) receives.meant_is (correct_replica c s other)))
 
             its_whole : whole s ≡ at.newer ++ Got s shared.bytes ∷ (at.middle ++ first s)
             its_whole = (history_append s later start) ∙ at.whole
@@ -140,13 +140,13 @@ module _ (c : Configuration) (setting : IsConfiguration c) (later start : List E
 
     -- the primary logged it with its sending
     pub begins : logged c p0 (whole p0) v i ≡ Some batch
-    begins = subst (λ (xs : List Entry). logged c p0 xs v i ≡ Some batch) (sym at.splits) (logged_later c p0 v i batch at.newer (Sent p0 frame.bytes ∷ at.past) say.one)
+    begins = subst (λ (xs : List Entry). logged c p0 xs v i ≡ Some batch) (sym at.splits) (logged_later c p0 v i batch at.newer (Sent p0 frame.bytes ∷ at.past) allowed.one)
       where
         same : ◌≡◌ {A = Body} at.may.body (record { sender = primary c v; message = PrePrepare v i batch })
         same = some_injective at.may.body (record { sender = primary c v; message = PrePrepare v i batch }) (sym at.may.says ∙ frame.says)
 
-        say : MaySay c p0 at.past at.point (Sent p0 frame.bytes) frame.bytes (PrePrepare v i batch)
-        say = subst (λ (b : Body). MaySay c p0 at.past at.point (Sent p0 frame.bytes) frame.bytes b.message) same at.may.say
+        allowed : MaySendMessage c p0 at.past at.point (Sent p0 frame.bytes) frame.bytes (PrePrepare v i batch)
+        allowed = subst (λ (b : Body). MaySendMessage c p0 at.past at.point (Sent p0 frame.bytes) frame.bytes b.message) same at.may.allowed
 
     pub committed_where : ((s : ℕ) → is_correct_replica c s ≡ true → Committed c s (whole s) v i batch ⊎ Reaches c v i trace s) → ((s : ℕ) → is_correct_replica c s ≡ true → are_genuine c s batch ≡ true)
         → (s : ℕ) → is_correct_replica c s ≡ true → Committed c s (whole s) v i batch

@@ -10,7 +10,7 @@ use Rattle.tuple_codec.specs.Operations.{Outcome}
 use Rattle.terms.specs.declared.order.Mode.TheVariants as modes
 use Rattle.reply_cache.specs.Replies.{Kept}
 use Rattle.wire_format.specs.Messages.{BodyData as Body, ViewChangeData, NewViewData, CheckpointEntryData as CheckpointEntry, pre_prepare as PrePrepare}
-use Rattle.signing.proofs.Heard.{heard_was_opened}
+use Rattle.signing.proofs.AuthenticBody.{authentic_was_opened}
 use Rattle.protocol.specs.System.Configuration.{Configuration, IsConfiguration, primary, span, is_number, is_correct_replica, is_correct_client, members}
 use Rattle.protocol.specs.System.Trace.{Entry, party_of, history_of, Once, SendsBody, Has, Unforged}
 use Rattle.protocol.specs.System.Trace.Entry.{Invoke, Got, Tick, Executed, Installed, Sent, Accepted}
@@ -19,7 +19,7 @@ use Rattle.protocol.specs.System.Run.{IsRun, OnlyTheseStopped}
 use Rattle.protocol.specs.Replica.Selection.{changes_of, passes_by, change_by, count_in, is_quorum, is_weak_quorum}
 use Rattle.protocol.specs.Replica.Certificates.{view, target, taken, is_active_in, low, is_in_marks, batch_begun, begun_proposal, entry_proposal, proposal, brought, first_given, logged, Committed}
 use Rattle.protocol.specs.Replica.State.{State, Call, opening, last_time}
-use Rattle.protocol.specs.Replica.RightReplica.{Point, HistoryReaches, IsStep, IsFree, May, MovesPoint, MaySay, MayPrePrepare, SendsBytes, SentBefore, checkpoint_of, kept_states}
+use Rattle.protocol.specs.Replica.RightReplica.{Point, HistoryReaches, IsStep, IsFree, May, MovesPoint, MaySendMessage, MayPrePrepare, SendsBytes, SentBefore, checkpoint_of, kept_states}
 use Rattle.protocol.specs.Replica.Owed.{BeginsViewWith, IsOfView, IsNumbered, AreKeysSpent}
 use Rattle.protocol.specs.Client.RightClient.{OpenCall, open_call, SafeClient}
 use Rattle.protocol.specs.Space.Linear.{reached}
@@ -263,8 +263,8 @@ module _ (c : Configuration) (setting : IsConfiguration c) (later start : List E
       go : (e : Entry) → IsStep c (primary c 1) past leaves.0 e point → brought c e ≡ Some (giving c i batch) → Gave i batch e past leaves.0
       go (Sent p bytes) step is =
           let same : ◌≡◌ {A = Body} step.may.body (giving c i batch) = some_injective step.may.body (giving c i batch) (sym step.may.says ∙ is) in
-          record { sends = (step.own, is); may = subst (λ (b : Body). MaySay c (primary c 1) past leaves.0 (Sent p bytes) bytes b.message) same step.may.say }
-      go (Got p bytes) step is = absurd ((heard_was_opened (members c) p bytes (giving c i batch) is).other (sym step.own))
+          record { sends = (step.own, is); may = subst (λ (b : Body). MaySendMessage c (primary c 1) past leaves.0 (Sent p bytes) bytes b.message) same step.may.allowed }
+      go (Got p bytes) step is = absurd ((authentic_was_opened (members c) p bytes (giving c i batch) is).other (sym step.own))
       go _ step is = absurd cc
 
   pub record WasGiven (i : ℕ) (batch : List ℕ) (xs : List Entry) : Type 0 where
@@ -592,7 +592,7 @@ module _ (c : Configuration) (setting : IsConfiguration c) (asks start : List En
 
   waits : Has (λ x. x ≡ (let y : Call = record { client = k; timestamp = call.timestamp; op = call.op } in y)) point_then.waiting ⊎ (call.timestamp ≤ last_time point_then.state k)
   waits =
-      waits_since c (asks ++ start) run_then k client call still r correct request.bytes (hears_request c setting asks start is_run goes unforged apart k call client opened all none modes.Ordered request r correct).hears
+      waits_since c (asks ++ start) run_then k client call still r correct request.bytes (hears_request c setting asks start is_run goes unforged apart k call client opened all none modes.Ordered request r correct).receives
       [] at.newer (at.middle ++ history_of r start) point_then splits (subst (λ (xs : List Entry). HistoryReaches c r xs point_then) splits leaves_then)
 
   some_there : (xs : List Call) (y : Call) → Has (λ x. x ≡ y) xs → xs ≢ []

@@ -6,7 +6,7 @@ use Rattle.std.specs.Option.{option_map_or}
 use Rattle.std.proofs.Math.Nat.{zero-mod}
 use Rattle.std.proofs.lemmas.Bool.{and_parts, and_from, leb-true, leb-false, ltb-true, lt-ltb}
 use Rattle.wire_format.specs.Messages.{BodyData as Body, MessageData as Message, ViewChangeData, NewViewData, BatchEntryData as BatchEntry, CheckpointEntryData as CheckpointEntry, view_change as ViewChange, new_view as NewView}
-use Rattle.signing.specs.Heard.{heard}
+use Rattle.signing.specs.AuthenticBody.{authentic}
 use Rattle.protocol.specs.System.Configuration.{Configuration, IsConfiguration, primary, is_correct_replica, members}
 use Rattle.protocol.specs.System.Trace.{Entry, history_of, Once, Always, Has, Unforged}
 use Rattle.protocol.specs.System.Trace.Entry.{Invoke, Got, Tick, Executed, Installed, Sent, Accepted}
@@ -15,7 +15,7 @@ use Rattle.protocol.specs.System.Run.{IsRun, OnlyTheseStopped}
 use Rattle.protocol.specs.Replica.Selection.{is_within, signed_change, changes_of, change_by, passes_by, count_in, may_select}
 use Rattle.protocol.specs.Replica.Certificates.{view, view_after, target, change_sent, change_from, is_later, taken, new_view_in, new_view_from, brought, is_active_in, low, logged, change_taken, change_at, latest_change}
 use Rattle.protocol.specs.Replica.State.{State, opening, Call, call_in, last_time}
-use Rattle.protocol.specs.Replica.RightReplica.{Point, HistoryReaches, May, MovesPoint, MaySay, SafeReplica, checkpoint_of, kept_states, with_waiting, is_newer, SentBefore}
+use Rattle.protocol.specs.Replica.RightReplica.{Point, HistoryReaches, May, MovesPoint, MaySendMessage, SafeReplica, checkpoint_of, kept_states, with_waiting, is_newer, SentBefore}
 use Rattle.protocol.specs.Replica.Owed.{BringsChange}
 use Rattle.protocol.specs.Laws.Bounds.{IsCheckpointBounded}
 use Rattle.protocol.specs.Laws.Histories.{AreReplicasSafe, TakesOrSendsNewView, ExecutesBatch}
@@ -257,8 +257,8 @@ module _ (c : Configuration) (setting : IsConfiguration c) (trace : List Entry) 
             (once_right c (primary c 1) (Speaks (record { sender = primary c 1; message = NewView new })) (history_of (primary c 1) trace) right primary_says)
 
         enters : (past : List Entry) (e : Entry) → RightAt c (primary c 1) past e → Speaks (record { sender = primary c 1; message = NewView new }) past e → 1 ≤ view c (e ∷ past)
-        enters past (Sent p bytes) r says = either (subst (λ (b : Body). MaySay c (primary c 1) past r.point (Sent p bytes) bytes b.message)
-            (some_injective r.may.body (record { sender = primary c 1; message = NewView new }) (sym r.may.says ∙ says)) r.may.say).1
+        enters past (Sent p bytes) r says = either (subst (λ (b : Body). MaySendMessage c (primary c 1) past r.point (Sent p bytes) bytes b.message)
+            (some_injective r.may.body (record { sender = primary c 1; message = NewView new }) (sym r.may.says ∙ says)) r.may.allowed).1
           where
             either : (taken c past (Sent p bytes) ≡ Some new) ⊎ ((is_active_in c past new.view ≡ true) × SentBefore bytes past) → 1 ≤ view c (Sent p bytes ∷ past)
             either (inl t) = let v = (takes c 0 past (Sent p bytes) new t).view_is in let s = is_second in omega arith
@@ -401,7 +401,7 @@ module _ (c : Configuration) (setting : IsConfiguration c) (trace : List Entry) 
 
           go : (e : Entry) → May c q (middle ++ past) behind.0 e → MovesPoint c q (middle ++ past) behind.0 e new → behind.0.waiting ≢ [] → new.waiting ≢ []
           go (Got p bytes) may move below h =
-              waits_behind behind.0.state behind.0.waiting (option_and_then (call_in c) (heard (members c) q bytes)) below (sym (ap (λ (p : Point). p.waiting) move) ∙ h)
+              waits_behind behind.0.state behind.0.waiting (option_and_then (call_in c) (authentic (members c) q bytes)) below (sym (ap (λ (p : Point). p.waiting) move) ∙ h)
           go (Tick p) may move below h = below (sym (ap (λ (p : Point). p.waiting) move) ∙ h)
           go (Sent p bytes) may move below h = below (sym (ap (λ (p : Point). p.waiting) move) ∙ h)
           go (Invoke x y z) may move below h = may

@@ -6,7 +6,7 @@ use Rattle.std.proofs.lemmas.Bool.{and_parts, and_from, ltb-true, leb-true, leb-
 use Rattle.wire_format.specs.Messages.{BodyData as Body, MessageData as Message, ViewChangeData, view_change as ViewChange}
 use Rattle.wire_format.specs.Spelling.{IsDigest, IsMessage, body_spelling}
 use Rattle.wire_format.specs.Words.{said}
-use Rattle.signing.specs.Heard.{signed_body}
+use Rattle.signing.specs.AuthenticBody.{signed_body}
 use Rattle.signing.specs.Signatures.{signature_of}
 use Rattle.signing.proofs.Signed.{signature_of-verifies}
 use Rattle.authenticator.specs.Keys.{signing_seed}
@@ -20,10 +20,10 @@ use Rattle.protocol.specs.Replica.Selection.{change_in}
 use Rattle.protocol.specs.Replica.Certificates.{view, target, is_active_in, low, latest_change}
 use Rattle.protocol.specs.Replica.State.{State, opening, root_of}
 use Rattle.protocol.specs.Replica.RightReplica.{Point, HistoryReaches, SafeReplica, MaySend, SendsBytes, SentBefore, checkpoint_of, kept_states, IsPreparedList, IsPrePreparedList, sought_view}
-use Rattle.protocol.specs.Replica.Owed.{HistoryIsPrompt, HasToMove, AreKeysSpent, BringsChange, HasLatestChange, IsSaying}
+use Rattle.protocol.specs.Replica.Owed.{HistoryIsPrompt, HasToMove, AreKeysSpent, BringsChange, HasLatestChange, IsSending}
 use Rattle.evidence.specs.ExamplesOfChanges.{beginning_change}
 use Rattle.evidence.proofs.FirstFrames.{is_digest}
-use Rattle.evidence.proofs.RefusingStepsSigned.{signed_frames_are_heard}
+use Rattle.evidence.proofs.RefusingStepsSigned.{signed_frames_are_authentic}
 use Rattle.protocol.proofs.Words.Linking.{Speaks}
 use Rattle.protocol.proofs.Words.Reacting.{proceeds_leaves}
 use Rattle.protocol.proofs.Words.Temporal.{once_weaker, once_always}
@@ -77,7 +77,7 @@ said_with c setting q root known digest =
     let zero_leaf : 0 < 64 = omega arith in
     let made = signature_of-verifies (signing_seed c.seed q) (body_spelling (record { sender = q; message = ViewChange (with_root root) })) 0 zero_leaf in (
       signed_bytes c q 0 (body_spelling (record { sender = q; message = ViewChange (with_root root) })),
-      (signed_frames_are_heard c q 0 (ViewChange (with_root root)) setting known zero_leaf (is_message root digest) refl (is_short c q root digest.whole made.formed.whole)).says,
+      (signed_frames_are_authentic c q 0 (ViewChange (with_root root)) setting known zero_leaf (is_message root digest) refl (is_short c q root digest.whole made.formed.whole)).says,
     )
 
 first_said : (c : Configuration) → IsConfiguration c → (q : ℕ) → is_replica c q ≡ true → (bytes : List ℕ) × (said bytes ≡ Some (changing q beginning_change))
@@ -98,7 +98,7 @@ spoken_frame s body (e ∷ past) (inr h) = let f = spoken_frame s body past h in
 spoken_frame s body (Sent p bytes ∷ past) (inl h) = record { bytes = bytes; party = p; is_there = inl refl; says = h }
 spoken_frame s body (_ ∷ past) (inl h) = absurd h
 
-pub speaks_saying : (s : ℕ) (message : Message) (past : List Entry) (e : Entry) → Speaks (record { sender = s; message = message }) past e → IsSaying s message e
+pub speaks_saying : (s : ℕ) (message : Message) (past : List Entry) (e : Entry) → Speaks (record { sender = s; message = message }) past e → IsSending s message e
 speaks_saying s message past (Sent p bytes) h = h
 speaks_saying s message past _ h = absurd h
 
@@ -219,8 +219,8 @@ module _ (c : Configuration) (setting : IsConfiguration c) (trace : List Entry) 
                 let same = eqb-true q (primary c 1) e in
                 inr (
                   same,
-                  subst (λ (x : ℕ). Once (λ earlier e. IsSaying x (ViewChange beginning_change) e) (history_of x trace)) same
-                      (once_weaker (Speaks (changing q beginning_change)) (λ earlier e. IsSaying q (ViewChange beginning_change) e) (speaks_saying q (ViewChange beginning_change)) (history_of q trace) says),
+                  subst (λ (x : ℕ). Once (λ earlier e. IsSending x (ViewChange beginning_change) e) (history_of x trace)) same
+                      (once_weaker (Speaks (changing q beginning_change)) (λ earlier e. IsSending q (ViewChange beginning_change) e) (speaks_saying q (ViewChange beginning_change)) (history_of q trace) says),
                   subst (λ (x : ℕ). target (history_of x trace) ≡ 1) same left,
                 )
             go false e = inl (differ, came, (let l = least in let m = most in omega arith))

@@ -21,7 +21,7 @@ use Rattle.protocol.proofs.Agreement.Changes.{target_grows}
 use Rattle.protocol.proofs.Agreement.Voting.{logged_stays, right_always}
 use Rattle.protocol.proofs.Agreement.Offers.{logged_view}
 use Rattle.progress.specs.Delivery.{HasEntry}
-use Rattle.progress.proofs.Hearing.{Heard, sealed_is_heard}
+use Rattle.progress.proofs.Receiving.{Heard, sealed_is_authentic}
 use Rattle.progress.proofs.Answering.{in_range}
 
 -- ---- view, target and marks grow with the past
@@ -102,32 +102,32 @@ marks_between c me i newer middle past first last =
 
 -- ---- the first value since some past
 
-pub record Since (give : List Entry → Entry → Option (List ℕ)) (x : List ℕ) (part start : List Entry) : Type 0 where
+pub record Since (emit : List Entry → Entry → Option (List ℕ)) (x : List ℕ) (part start : List Entry) : Type 0 where
   pub newer : List Entry
   pub entry : Entry
   pub middle : List Entry
   pub splits : part ≡ newer ++ entry ∷ middle
-  pub gives : give (middle ++ start) entry ≡ Some x
+  pub gives : emit (middle ++ start) entry ≡ Some x
 
-pub given_since : (give : List Entry → Entry → Option (List ℕ)) (x : List ℕ) (part start : List Entry) → first_given give start ≡ None → first_given give (part ++ start) ≡ Some x → Since give x part start
-given_since give x [] start none h = absurd (let bad : None ≡ Some x = sym none ∙ h in cc)
-given_since give x (e ∷ part) start none h = go (first_given give (part ++ start)) refl h (given_since give x part start none)
+pub given_since : (emit : List Entry → Entry → Option (List ℕ)) (x : List ℕ) (part start : List Entry) → first_given emit start ≡ None → first_given emit (part ++ start) ≡ Some x → Since emit x part start
+given_since emit x [] start none h = absurd (let bad : None ≡ Some x = sym none ∙ h in cc)
+given_since emit x (e ∷ part) start none h = go (first_given emit (part ++ start)) refl h (given_since emit x part start none)
   where
-    go : (o : Option (List ℕ)) → first_given give (part ++ start) ≡ o → or_else o (give (part ++ start) e) ≡ Some x → (first_given give (part ++ start) ≡ Some x → Since give x part start) → Since give x (e ∷ part) start
+    go : (o : Option (List ℕ)) → first_given emit (part ++ start) ≡ o → or_else o (emit (part ++ start) e) ≡ Some x → (first_given emit (part ++ start) ≡ Some x → Since emit x part start) → Since emit x (e ∷ part) start
     go (Some y) is h below = let b = below (is ∙ h) in record { newer = e ∷ b.newer; entry = b.entry; middle = b.middle; splits = ap (λ (xs : List Entry). e ∷ xs) b.splits; gives = b.gives }
     go None is h below = record { newer = []; entry = e; middle = part; splits = refl; gives = h }
 
 -- if a value is given at some entry, one is given first
-pub some_given : (give : List Entry → Entry → Option (List ℕ)) (xs : List Entry) → Once (λ past e. (x : List ℕ) × (give past e ≡ Some x)) xs → (y : List ℕ) × (first_given give xs ≡ Some y)
-some_given give [] h = absurd h
-some_given give (e ∷ past) (inl h) = go (first_given give past)
+pub some_given : (emit : List Entry → Entry → Option (List ℕ)) (xs : List Entry) → Once (λ past e. (x : List ℕ) × (emit past e ≡ Some x)) xs → (y : List ℕ) × (first_given emit xs ≡ Some y)
+some_given emit [] h = absurd h
+some_given emit (e ∷ past) (inl h) = go (first_given emit past)
   where
-    go : (o : Option (List ℕ)) → (y : List ℕ) × (or_else o (give past e) ≡ Some y)
+    go : (o : Option (List ℕ)) → (y : List ℕ) × (or_else o (emit past e) ≡ Some y)
     go None = h
     go (Some y) = (y, refl)
-some_given give (e ∷ past) (inr h) = go (first_given give past) (some_given give past h)
+some_given emit (e ∷ past) (inr h) = go (first_given emit past) (some_given emit past h)
   where
-    go : (o : Option (List ℕ)) → (y : List ℕ) × (o ≡ Some y) → (y : List ℕ) × (or_else o (give past e) ≡ Some y)
+    go : (o : Option (List ℕ)) → (y : List ℕ) × (o ≡ Some y) → (y : List ℕ) × (or_else o (emit past e) ≡ Some y)
     go None k = absurd (let bad = k.1 in cc)
     go (Some y) k = (y, refl)
 
@@ -182,7 +182,7 @@ pub other_hears : (c : Configuration) (r s : ℕ) (message : Message) (bytes : L
     → said bytes ≡ Some (record { sender = r; message = message }) → is_signed message ≡ false → sends (members c) r message ≡ true
     → ((receivers : List ℕ) → IsFor c r past message receivers → receivers ≡ others c r) → s < replicas c → s ≢ r → Heard c r s message bytes
 other_hears c r s message bytes past point may says unsigned known for small differ =
-    sealed_is_heard c r s message bytes says well unsigned known (λ same. differ (sym same))
+    sealed_is_authentic c r s message bytes says well unsigned known (λ same. differ (sym same))
   where
     same_body : ◌≡◌ {A = Body} may.body (record { sender = r; message = message })
     same_body = some_injective may.body (record { sender = r; message = message }) (sym may.says ∙ says)

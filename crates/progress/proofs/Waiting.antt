@@ -7,9 +7,9 @@ use Rattle.std.proofs.lemmas.Bool.{and_parts, ltb-true, ltb-false, or_parts, not
 use Rattle.tuple_codec.specs.Operations.{Operation}
 use Rattle.terms.specs.declared.order.Mode.TheVariants as modes
 use Rattle.wire_format.specs.Messages.{BodyData as Body}
-use Rattle.signing.specs.Heard.{heard}
+use Rattle.signing.specs.AuthenticBody.{authentic}
 use Rattle.protocol.specs.System.Configuration.{Configuration, primary, is_client, is_correct_replica, is_correct_client, members}
-use Rattle.protocol.specs.System.Trace.{Entry, is_output, history_of, Once, Has, Hears}
+use Rattle.protocol.specs.System.Trace.{Entry, is_output, history_of, Once, Has, Receives}
 use Rattle.protocol.specs.System.Trace.Entry.{Invoke, Got, Tick, Executed, Installed, Sent, Accepted}
 use Rattle.protocol.specs.Replica.State.{State, Call, call_in, execute, last_time}
 use Rattle.protocol.specs.Replica.RightReplica.{Point, HistoryReaches, MovesPoint, IsFree, is_newer, with_waiting, still_waiting}
@@ -29,13 +29,13 @@ use Rattle.protocol.proofs.Points.Accepting.{open_last}
 use Rattle.progress.proofs.Flipping.{next_output}
 use Rattle.progress.proofs.Keeping.{times_grow}
 
--- ---- waiting requests were heard
+-- ---- waiting requests were received
 
-call_heard : (c : Configuration) (me : ℕ) (bytes : List ℕ) (body : Body) (call : Call) → heard (members c) me bytes ≡ Some body → call_in c body ≡ Some call
-    → heard (members c) me bytes ≡ Some (asking (256 + call.client) call.timestamp modes.Ordered call.op)
-call_heard c me bytes body call hears is =
-    let says = heard_said c me bytes body hears in
-    hears ∙ sym says ∙ call_body c bytes call (ap (option_and_then (call_in c)) says ∙ is)
+call_heard : (c : Configuration) (me : ℕ) (bytes : List ℕ) (body : Body) (call : Call) → authentic (members c) me bytes ≡ Some body → call_in c body ≡ Some call
+    → authentic (members c) me bytes ≡ Some (asking (256 + call.client) call.timestamp modes.Ordered call.op)
+call_heard c me bytes body call receives is =
+    let says = heard_said c me bytes body receives in
+    receives ∙ sym says ∙ call_body c bytes call (ap (option_and_then (call_in c)) says ∙ is)
 
 -- one more waits, or the same as before
 with_cases : (st : State) (waiting : List Call) (call other : Call) → Has (λ x. x ≡ other) (with_waiting st waiting call) → Has (λ x. x ≡ other) waiting ⊎ (call ≡ other)
@@ -51,29 +51,29 @@ with_cases st waiting call other h = go (nat_lt (last_time st call.client) call.
     go false k = inl k
 
 waits_heard : (c : Configuration) (me : ℕ) (xs : List Entry) (point : Point) → HistoryReaches c me xs point → (other : Call) → Has (λ x. x ≡ other) point.waiting
-    → Once (Hears c me (asking (256 + other.client) other.timestamp modes.Ordered other.op)) xs
+    → Once (Receives c me (asking (256 + other.client) other.timestamp modes.Ordered other.op)) xs
 waits_heard c me [] point leaves other h = absurd (subst (λ (p : Point). Has (λ x. x ≡ other) p.waiting) leaves h)
 waits_heard c me (e ∷ past) point leaves other h = go e leaves.2.moves (waits_heard c me past leaves.0 leaves.1 other)
   where
-    got : (p : ℕ) (bytes : List ℕ) (o : Option Body) → heard (members c) me bytes ≡ o
+    got : (p : ℕ) (bytes : List ℕ) (o : Option Body) → authentic (members c) me bytes ≡ o
         → Has (λ x. x ≡ other) (option_map_or (with_waiting leaves.0.state leaves.0.waiting) (option_and_then (call_in c) o) leaves.0.waiting)
-        → (Has (λ x. x ≡ other) leaves.0.waiting → Once (Hears c me (asking (256 + other.client) other.timestamp modes.Ordered other.op)) past)
-        → Once (Hears c me (asking (256 + other.client) other.timestamp modes.Ordered other.op)) (Got p bytes ∷ past)
-    got p bytes None hears k below = inr (below k)
-    got p bytes (Some body) hears k below = calls (call_in c body) refl k
+        → (Has (λ x. x ≡ other) leaves.0.waiting → Once (Receives c me (asking (256 + other.client) other.timestamp modes.Ordered other.op)) past)
+        → Once (Receives c me (asking (256 + other.client) other.timestamp modes.Ordered other.op)) (Got p bytes ∷ past)
+    got p bytes None receives k below = inr (below k)
+    got p bytes (Some body) receives k below = calls (call_in c body) refl k
       where
         calls : (u : Option Call) → call_in c body ≡ u → Has (λ x. x ≡ other) (option_map_or (with_waiting leaves.0.state leaves.0.waiting) u leaves.0.waiting)
-            → Once (Hears c me (asking (256 + other.client) other.timestamp modes.Ordered other.op)) (Got p bytes ∷ past)
+            → Once (Receives c me (asking (256 + other.client) other.timestamp modes.Ordered other.op)) (Got p bytes ∷ past)
         calls None is k = inr (below k)
         calls (Some call) is k = pick (with_cases leaves.0.state leaves.0.waiting call other k)
           where
-            pick : Has (λ x. x ≡ other) leaves.0.waiting ⊎ (call ≡ other) → Once (Hears c me (asking (256 + other.client) other.timestamp modes.Ordered other.op)) (Got p bytes ∷ past)
+            pick : Has (λ x. x ≡ other) leaves.0.waiting ⊎ (call ≡ other) → Once (Receives c me (asking (256 + other.client) other.timestamp modes.Ordered other.op)) (Got p bytes ∷ past)
             pick (inl k) = inr (below k)
-            pick (inr same) = inl (subst (λ (x : Call). heard (members c) me bytes ≡ Some (asking (256 + x.client) x.timestamp modes.Ordered x.op)) same (call_heard c me bytes body call hears is))
+            pick (inr same) = inl (subst (λ (x : Call). authentic (members c) me bytes ≡ Some (asking (256 + x.client) x.timestamp modes.Ordered x.op)) same (call_heard c me bytes body call receives is))
 
-    go : (e : Entry) → MovesPoint c me past leaves.0 e point → (Has (λ x. x ≡ other) leaves.0.waiting → Once (Hears c me (asking (256 + other.client) other.timestamp modes.Ordered other.op)) past)
-        → Once (Hears c me (asking (256 + other.client) other.timestamp modes.Ordered other.op)) (e ∷ past)
-    go (Got p bytes) move below = got p bytes (heard (members c) me bytes) refl (subst (λ (q : Point). Has (λ x. x ≡ other) q.waiting) move h) below
+    go : (e : Entry) → MovesPoint c me past leaves.0 e point → (Has (λ x. x ≡ other) leaves.0.waiting → Once (Receives c me (asking (256 + other.client) other.timestamp modes.Ordered other.op)) past)
+        → Once (Receives c me (asking (256 + other.client) other.timestamp modes.Ordered other.op)) (e ∷ past)
+    go (Got p bytes) move below = got p bytes (authentic (members c) me bytes) refl (subst (λ (q : Point). Has (λ x. x ≡ other) q.waiting) move h) below
     go (Tick p) move below = inr (below (subst (λ (q : Point). Has (λ x. x ≡ other) q.waiting) move h))
     go (Sent p bytes) move below = inr (below (subst (λ (q : Point). Has (λ x. x ≡ other) q.waiting) move h))
     go (Invoke x y z) move below = inr (below (subst (λ (q : Point). Has (λ x. x ≡ other) q.waiting) move h))
@@ -111,8 +111,8 @@ module _ (c : Configuration) (trace : List Entry) (run : Run c trace) (k : ℕ) 
   safe : SafeClient c me (history_of me trace)
   safe = run.runs.clients me client
 
-  -- of its client no later request is heard, and of its timestamp no other
-  heard_most : (t : ℕ) (op : Operation) → Once (Hears c r (asking me t modes.Ordered op)) (history_of r trace) → (t ≤ call.timestamp) × (t ≡ call.timestamp → op ≡ call.op)
+  -- of its client no later request is received, and of its timestamp no other
+  heard_most : (t : ℕ) (op : Operation) → Once (Receives c r (asking me t modes.Ordered op)) (history_of r trace) → (t ≤ call.timestamp) × (t ≡ call.timestamp → op ≡ call.op)
   heard_most t op h =
       let said' = heard_was_said c trace r (asking me t modes.Ordered op) run.runs.unforged (correct_replica c r correct) (correct_client c me client) h in
       let invoked = asked_op c me t modes.Ordered op (history_of me trace) safe said' in
@@ -130,9 +130,9 @@ module _ (c : Configuration) (trace : List Entry) (run : Run c trace) (k : ℕ) 
       → (other.timestamp ≤ call.timestamp) × (other.timestamp ≡ call.timestamp → other ≡ its)
   waiting_most later past point splits leaves other h own =
       let there = waits_heard c r past point leaves other h in
-      let mine : Once (Hears c r (asking me other.timestamp modes.Ordered other.op)) past = subst (λ (x : ℕ). Once (Hears c r (asking (256 + x) other.timestamp modes.Ordered other.op)) past) own there in
-      let whole : Once (Hears c r (asking me other.timestamp modes.Ordered other.op)) (history_of r trace) =
-      subst (λ (xs : List Entry). Once (Hears c r (asking me other.timestamp modes.Ordered other.op)) xs) (sym splits) (once_append (Hears c r (asking me other.timestamp modes.Ordered other.op)) later past mine) in
+      let mine : Once (Receives c r (asking me other.timestamp modes.Ordered other.op)) past = subst (λ (x : ℕ). Once (Receives c r (asking (256 + x) other.timestamp modes.Ordered other.op)) past) own there in
+      let whole : Once (Receives c r (asking me other.timestamp modes.Ordered other.op)) (history_of r trace) =
+      subst (λ (xs : List Entry). Once (Receives c r (asking me other.timestamp modes.Ordered other.op)) xs) (sym splits) (once_append (Receives c r (asking me other.timestamp modes.Ordered other.op)) later past mine) in
       let m = heard_most other.timestamp other.op whole in
       (m.0, λ same. (rw (own, same, (m.1 same)) refl))
 
@@ -200,23 +200,23 @@ module _ (c : Configuration) (trace : List Entry) (run : Run c trace) (k : ℕ) 
   one_more newer past e old point splits before behind move (inr l) =
       let grows = times_grow c trace run r newer (e ∷ []) past old point k correct splits before behind in
       inr (omega arith)
-  one_more newer past (Got p bytes) old point splits before behind move (inl h) = subst Waits (sym move) (inl (go (heard (members c) r bytes) refl))
+  one_more newer past (Got p bytes) old point splits before behind move (inl h) = subst Waits (sym move) (inl (go (authentic (members c) r bytes) refl))
     where
-      calls : (body : Body) → heard (members c) r bytes ≡ Some body → (u : Option Call) → call_in c body ≡ u → Has (λ x. x ≡ its) (option_map_or (with_waiting old.state old.waiting) u old.waiting)
-      calls body hears None is = h
-      calls body hears (Some other) is = keep_waiting old.state old.waiting other most h
+      calls : (body : Body) → authentic (members c) r bytes ≡ Some body → (u : Option Call) → call_in c body ≡ u → Has (λ x. x ≡ its) (option_map_or (with_waiting old.state old.waiting) u old.waiting)
+      calls body receives None is = h
+      calls body receives (Some other) is = keep_waiting old.state old.waiting other most h
         where
           most : other.client ≡ k → other.timestamp ≤ call.timestamp
           most own =
-              let there : Once (Hears c r (asking (256 + other.client) other.timestamp modes.Ordered other.op)) (Got p bytes ∷ past) = inl (call_heard c r bytes body other hears is) in
-              let whole : Once (Hears c r (asking (256 + other.client) other.timestamp modes.Ordered other.op)) (history_of r trace) =
-              subst (λ (xs : List Entry). Once (Hears c r (asking (256 + other.client) other.timestamp modes.Ordered other.op)) xs) (sym splits)
-              (once_append (Hears c r (asking (256 + other.client) other.timestamp modes.Ordered other.op)) newer (Got p bytes ∷ past) there) in
-              (heard_most other.timestamp other.op (subst (λ (x : ℕ). Once (Hears c r (asking (256 + x) other.timestamp modes.Ordered other.op)) (history_of r trace)) own whole)).0
+              let there : Once (Receives c r (asking (256 + other.client) other.timestamp modes.Ordered other.op)) (Got p bytes ∷ past) = inl (call_heard c r bytes body other receives is) in
+              let whole : Once (Receives c r (asking (256 + other.client) other.timestamp modes.Ordered other.op)) (history_of r trace) =
+              subst (λ (xs : List Entry). Once (Receives c r (asking (256 + other.client) other.timestamp modes.Ordered other.op)) xs) (sym splits)
+              (once_append (Receives c r (asking (256 + other.client) other.timestamp modes.Ordered other.op)) newer (Got p bytes ∷ past) there) in
+              (heard_most other.timestamp other.op (subst (λ (x : ℕ). Once (Receives c r (asking (256 + x) other.timestamp modes.Ordered other.op)) (history_of r trace)) own whole)).0
 
-      go : (o : Option Body) → heard (members c) r bytes ≡ o → Has (λ x. x ≡ its) (option_map_or (with_waiting old.state old.waiting) (option_and_then (call_in c) o) old.waiting)
-      go None hears = h
-      go (Some body) hears = calls body hears (call_in c body) refl
+      go : (o : Option Body) → authentic (members c) r bytes ≡ o → Has (λ x. x ≡ its) (option_map_or (with_waiting old.state old.waiting) (option_and_then (call_in c) o) old.waiting)
+      go None receives = h
+      go (Some body) receives = calls body receives (call_in c body) refl
   one_more newer past (Executed p n batch) old point splits before behind move (inl h) = subst Waits (sym move) (still_waits (execute c old.state batch) old.waiting h)
   one_more newer past (Installed p n root) old point splits before behind move (inl h) = go (still_waits point.state old.waiting h)
     where
@@ -233,15 +233,15 @@ module _ (c : Configuration) (trace : List Entry) (run : Run c trace) (k : ℕ) 
       ap (λ (b : Bool). cond {A = Option Call} b (Some (record { client = me - 256; timestamp = call.timestamp; op = call.op })) None) known
       ∙ ap (λ (x : ℕ). let y : Call = record { client = x; timestamp = call.timestamp; op = call.op } in Some y) (omega arith)
 
-  pub waits_since : (request : List ℕ) → heard (members c) r request ≡ Some (asking me call.timestamp modes.Ordered call.op)
+  pub waits_since : (request : List ℕ) → authentic (members c) r request ≡ Some (asking me call.timestamp modes.Ordered call.op)
       → (newer middle past : List Entry) (point : Point) → history_of r trace ≡ newer ++ (middle ++ Got r request ∷ past) → HistoryReaches c r (middle ++ Got r request ∷ past) point
       → Has (λ x. x ≡ its) point.waiting ⊎ (call.timestamp ≤ last_time point.state k)
-  waits_since request hears newer [] past point splits leaves =
+  waits_since request receives newer [] past point splits leaves =
       subst Waits (sym leaves.2.moves)
-      (subst (λ (o : Option Body). Has (λ x. x ≡ its) (option_map_or (with_waiting leaves.0.state leaves.0.waiting) (option_and_then (call_in c) o) leaves.0.waiting) ⊎ (call.timestamp ≤ last_time leaves.0.state k)) (sym hears)
+      (subst (λ (o : Option Body). Has (λ x. x ≡ its) (option_map_or (with_waiting leaves.0.state leaves.0.waiting) (option_and_then (call_in c) o) leaves.0.waiting) ⊎ (call.timestamp ≤ last_time leaves.0.state k)) (sym receives)
       (subst (λ (o : Option Call). Has (λ x. x ≡ its) (option_map_or (with_waiting leaves.0.state leaves.0.waiting) o leaves.0.waiting) ⊎ (call.timestamp ≤ last_time leaves.0.state k)) (sym is_the_call)
       (new_waits leaves.0.state leaves.0.waiting
       (λ other h own. waiting_most (newer ++ Got r request ∷ []) past leaves.0 (splits ∙ sym (append_assoc newer (Got r request ∷ []) past)) leaves.1 other h own))))
-  waits_since request hears newer (e ∷ middle) past point splits leaves =
+  waits_since request receives newer (e ∷ middle) past point splits leaves =
       one_more newer (middle ++ Got r request ∷ past) e leaves.0 point splits leaves.1 leaves leaves.2.moves
-      (waits_since request hears (newer ++ e ∷ []) middle past leaves.0 (splits ∙ sym (append_assoc newer (e ∷ []) (middle ++ Got r request ∷ past))) leaves.1)
+      (waits_since request receives (newer ++ e ∷ []) middle past leaves.0 (splits ∙ sym (append_assoc newer (e ∷ []) (middle ++ Got r request ∷ past))) leaves.1)

@@ -13,9 +13,9 @@ use Rattle.protocol.specs.System.Trace.{Entry, history_of, Once, Always, Has, Un
 use Rattle.protocol.specs.System.Trace.Entry.{Invoke, Got, Tick, Executed, Installed, Sent, Accepted}
 use Rattle.protocol.specs.System.Run.{IsRun}
 use Rattle.protocol.specs.Replica.Selection.{is_quorum, is_weak_quorum, is_within, changes_of, passes_by, count_in}
-use Rattle.protocol.specs.Replica.Certificates.{taken, brought, checkpoint_from, checkpoint_in, with_checkpoint, insert_checkpoint, checkpoints_of, says_checkpoint, count_checkpoints, is_stable, installed_at, low, logged}
+use Rattle.protocol.specs.Replica.Certificates.{taken, brought, checkpoint_from, checkpoint_in, with_checkpoint, insert_checkpoint, checkpoints_of, lists_checkpoint, count_checkpoints, is_stable, installed_at, low, logged}
 use Rattle.protocol.specs.Replica.State.{State, execute}
-use Rattle.protocol.specs.Replica.RightReplica.{Point, HistoryReaches, May, MovesPoint, MaySay, MayCheckpoint, IsRootWanted, HadQuorum, StartsAt, checkpoint_of, kept_states, IsNewViewChange}
+use Rattle.protocol.specs.Replica.RightReplica.{Point, HistoryReaches, May, MovesPoint, MaySendMessage, MayCheckpoint, IsRootWanted, HadQuorum, StartsAt, checkpoint_of, kept_states, IsNewViewChange}
 use Rattle.protocol.specs.Laws.Bounds.{IsBatchEntryBounded, IsCheckpointBounded}
 use Rattle.protocol.specs.Laws.Histories.{AreReplicasSafe}
 use Rattle.protocol.proofs.Words.Bounds.{bounded, within_of_bounded}
@@ -53,22 +53,22 @@ checkpoint_said s m sender _ h = absurd cc
 abbrev Shows : Configuration → ℕ → ℕ → List Entry → Entry → Type 0
 Shows c s k past e = (m : CheckpointEntry) × (checkpoint_in c e ≡ Some (s, m)) × (m.number ≡ k)
 
-shown : (c : Configuration) (s : ℕ) (checkpoint : CheckpointEntry) (xs : List Entry) → says_checkpoint checkpoint (checkpoints_of c xs s) ≡ true → Once (Shows c s checkpoint.number) xs
+shown : (c : Configuration) (s : ℕ) (checkpoint : CheckpointEntry) (xs : List Entry) → lists_checkpoint checkpoint (checkpoints_of c xs s) ≡ true → Once (Shows c s checkpoint.number) xs
 unfolding checkpoints_of
 shown c s checkpoint [] h = absurd cc
 shown c s checkpoint (e ∷ past) h = go (checkpoint_in c e) refl h (shown c s checkpoint past)
   where
-    go : (o : Option (ℕ × CheckpointEntry)) → checkpoint_in c e ≡ o → says_checkpoint checkpoint (with_checkpoint s o (checkpoints_of c past s)) ≡ true
-        → (says_checkpoint checkpoint (checkpoints_of c past s) ≡ true → Once (Shows c s checkpoint.number) past) → Once (Shows c s checkpoint.number) (e ∷ past)
+    go : (o : Option (ℕ × CheckpointEntry)) → checkpoint_in c e ≡ o → lists_checkpoint checkpoint (with_checkpoint s o (checkpoints_of c past s)) ≡ true
+        → (lists_checkpoint checkpoint (checkpoints_of c past s) ≡ true → Once (Shows c s checkpoint.number) past) → Once (Shows c s checkpoint.number) (e ∷ past)
     go None is k below = inr (below k)
     go (Some x) is k below = from (x.0 == s) refl k
       where
-        pick : x.0 ≡ s → (is_checkpoint checkpoint x.1 ≡ true) ⊎ (says_checkpoint checkpoint (checkpoints_of c past s) ≡ true) → Once (Shows c s checkpoint.number) (e ∷ past)
+        pick : x.0 ≡ s → (is_checkpoint checkpoint x.1 ≡ true) ⊎ (lists_checkpoint checkpoint (checkpoints_of c past s) ≡ true) → Once (Shows c s checkpoint.number) (e ∷ past)
         pick own (inl y) =
             inl (x.1, is ∙ ap (λ (t : ℕ). Some (let p : ℕ × CheckpointEntry = (t, x.1) in p)) own, eqb-true x.1.number checkpoint.number (and_parts (x.1.number == checkpoint.number) (bytes_eq x.1.digest checkpoint.digest) y).0)
         pick own (inr y) = inr (below y)
 
-        from : (b : Bool) → (x.0 == s) ≡ b → says_checkpoint checkpoint (cond b (take 3 (insert_checkpoint x.1 (checkpoints_of c past s))) (checkpoints_of c past s)) ≡ true → Once (Shows c s checkpoint.number) (e ∷ past)
+        from : (b : Bool) → (x.0 == s) ≡ b → lists_checkpoint checkpoint (cond b (take 3 (insert_checkpoint x.1 (checkpoints_of c past s))) (checkpoints_of c past s)) ≡ true → Once (Shows c s checkpoint.number) (e ∷ past)
         from true own k = pick (eqb-true x.0 s own) (has_insert checkpoint x.1 (checkpoints_of c past s) (has_take checkpoint 3 (insert_checkpoint x.1 (checkpoints_of c past s)) k))
         from false own k = inr (below k)
 
@@ -99,9 +99,9 @@ module _ (c : Configuration) (setting : IsConfiguration c) (trace : List Entry) 
     where
       by : (past : List Entry) (e : Entry) → RightAt c s past e → Speaks (record { sender = s; message = Checkpoint k root }) past e → k % c.period ≡ 0
       by past (Sent p bytes) t h =
-          let say : MayCheckpoint c past t.point k root = subst (λ (b : Body). MaySay c s past t.point (Sent p bytes) bytes b.message)
-          (some_injective t.may.body (record { sender = s; message = Checkpoint k root }) (sym t.may.says ∙ h)) t.may.say in
-          say.multiple
+          let allowed : MayCheckpoint c past t.point k root = subst (λ (b : Body). MaySendMessage c s past t.point (Sent p bytes) bytes b.message)
+          (some_injective t.may.body (record { sender = s; message = Checkpoint k root }) (sym t.may.says ∙ h)) t.may.allowed in
+          allowed.multiple
       by past (Got x y) t h = absurd h
       by past _ t h = absurd h
 
@@ -113,15 +113,15 @@ module _ (c : Configuration) (setting : IsConfiguration c) (trace : List Entry) 
   quorum_kept k root newer past splits had = go (once_at (λ earlier e. is_quorum c (count_checkpoints c (e ∷ earlier) (record { number = k; digest = root })) ≡ true) past had)
     where
       go : At (λ earlier e. is_quorum c (count_checkpoints c (e ∷ earlier) (record { number = k; digest = root })) ≡ true) past → IsKept c k
-      go a = from (correct_of c setting (λ s. says_checkpoint (record { number = k; digest = root }) (checkpoints_of c (a.entry ∷ a.past) s)) more)
+      go a = from (correct_of c setting (λ s. lists_checkpoint (record { number = k; digest = root }) (checkpoints_of c (a.entry ∷ a.past) s)) more)
         where
-          more : c.faults < count_below (λ s. says_checkpoint (record { number = k; digest = root }) (checkpoints_of c (a.entry ∷ a.past) s)) (3 * c.faults + 1)
+          more : c.faults < count_below (λ s. lists_checkpoint (record { number = k; digest = root }) (checkpoints_of c (a.entry ∷ a.past) s)) (3 * c.faults + 1)
           more = let enough = leb-true (2 * c.faults + 1) (count_checkpoints c (a.entry ∷ a.past) (record { number = k; digest = root })) a.holds in omega arith
 
           whole : history_of r trace ≡ (newer ++ a.newer) ++ (a.entry ∷ a.past)
           whole = splits ∙ ap (λ (xs : List Entry). newer ++ xs) a.splits ∙ sym (append_assoc newer a.newer (a.entry ∷ a.past))
 
-          from : (s : ℕ) × (is_correct_replica c s ≡ true) × (says_checkpoint (record { number = k; digest = root }) (checkpoints_of c (a.entry ∷ a.past) s) ≡ true) → IsKept c k
+          from : (s : ℕ) × (is_correct_replica c s ≡ true) × (lists_checkpoint (record { number = k; digest = root }) (checkpoints_of c (a.entry ∷ a.past) s) ≡ true) → IsKept c k
           from s = by (once_at (Shows c s.0 k) (a.entry ∷ a.past) (shown c s.0 (record { number = k; digest = root }) (a.entry ∷ a.past) s.2))
             where
               by : At (Shows c s.0 k) (a.entry ∷ a.past) → IsKept c k

@@ -3,7 +3,7 @@
 use Rattle.std.specs.Prelude.{◌≡◌, ◌≢◌, ℕ, ◌≤◌, ◌⊎◌, true, false, List, [], ◌++◌, Some, None}
 use Rattle.wire_format.specs.Lists.{Each}
 use Rattle.wire_format.specs.Messages.{BodyData as Body}
-use Rattle.signing.specs.Heard.{heard, signed_body}
+use Rattle.signing.specs.AuthenticBody.{authentic, signed_body}
 use Rattle.protocol.specs.System.Configuration.{Configuration, IsConfiguration, primary, is_faulty_replica, is_correct_replica, members}
 use Rattle.protocol.specs.System.Trace.{Entry, history_of, Unforged, frames_in}
 use Rattle.protocol.specs.System.Trace.Entry.{Got, Tick}
@@ -47,9 +47,9 @@ SilentViewsAreLeft =
 
 -- ---- silent faulty replicas
 
--- The frame is of no faulty replica: this replica hears none as its sender, and none has signed it.
+-- The frame is of no faulty replica: this replica receives none as its sender, and none has signed it.
 pub record IsOfNoFaulty (c : Configuration) (me : ℕ) (bytes : List ℕ) : Type 0 where
-  pub hears : (body : Body) → heard (members c) me bytes ≡ Some body → is_faulty_replica c body.sender ≡ false
+  pub receives : (body : Body) → authentic (members c) me bytes ≡ Some body → is_faulty_replica c body.sender ≡ false
   pub signed : (body : Body) → signed_body (members c) bytes ≡ Some body → is_faulty_replica c body.sender ≡ false
 
 -- The faulty replicas are silent: no frame that a correct replica receives, alone or carried, is of one of them.

@@ -9,8 +9,9 @@
 //! its invocation and its acceptance. With it stand the laws of agreement over all views (`prepared_agree`,
 //! `committed_stays`, `committed_agree`, `executed_agree`, `states_agree`, `roots_agree`), `accepted_at_levels`,
 //! `none_runs_twice`, and the same laws for parties of which only safety is known (`safe_histories_are_linear`,
-//! `safe_histories_accept_at_levels`). `posted_frames_may_be_sent` ties what a replica posts to what it may send. What
-//! bytes spell, and what is heard from them, the definitions take from the crates `wire` and `signing`.
+//! `safe_histories_accept_at_levels`). `outgoing_frames_may_be_sent` ties the frames that a replica sends to those that
+//! it may send. What bytes spell, and which frames are authentic, the definitions take from the crates `wire` and
+//! `signing`.
 //!
 //! [`taken`] says what a transfer took, entry by entry. The crate `evidence` shows what the definitions accept and
 //! refuse; none of these laws stands on it.
@@ -20,13 +21,13 @@
 
 pub mod taken;
 
-ghost use Rattle.protocol.specs.Laws.Histories.{PostedMaySend, LeavesSignOnce, PreparedAgree, CommittedStays, CommittedAgree, ExecutedAgree, PagesDetermine, PointsAreOne, BatchesLeaveStates, StatesAreExecuted, StatesAgree, StableAgree, InstalledAgree, StartsAgree, LinearOfSafe, NoneBegins, FirstViewStays};
+ghost use Rattle.protocol.specs.Laws.Histories.{OutgoingMaySend, LeavesSignOnce, PreparedAgree, CommittedStays, CommittedAgree, ExecutedAgree, PagesDetermine, PointsAreOne, BatchesLeaveStates, StatesAreExecuted, StatesAgree, StableAgree, InstalledAgree, StartsAgree, LinearOfSafe, NoneBegins, FirstViewStays};
 ghost use Rattle.protocol.specs.Laws.Runs.{PointsAreLinear, NoneRunsTwice, AcceptedAtLevels, LevelsOfSafe, RunsAreLinear};
 
-/// A replica may send a frame that it posts for the right receivers, over frames that it has seen, if it may say the
+/// A replica may send a frame to the right receivers, over frames that it has seen, if it may send the
 /// message.
-pub fn posted_frames_may_be_sent()
-    ensures may { PostedMaySend }
+pub fn outgoing_frames_may_be_sent()
+    ensures may { OutgoingMaySend }
 {}
 
 /// No leaf of a right replica signs two frames, so none of its one-time keys signs two bodies.

@@ -14,8 +14,8 @@ pub fn answers_are_taken()
     ensures ticks { TicksTakeNothing }
 {}
 
-/// What was taken is forgotten where a state is installed, and where the number that was asked for is executed, and not
-/// before.
+/// Taken digests and pages are forgotten where a state is installed, and where the number that was asked for is
+/// executed, and not before.
 pub fn transfers_end()
     ensures installed { InstallationsEnd }
     ensures executed { ExecutionsEnd }

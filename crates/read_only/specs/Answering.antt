@@ -15,7 +15,7 @@ use Rattle.wire_format.specs.Views.{message_data}
 use Rattle.wire_format.specs.declared.messages.Message.TheVariants as messages
 use Rattle.wire_format.specs.declared.messages.Reply.{Reply}
 use Rattle.read_only.specs.declared.answering.Shelf.{Shelf}
-use Rattle.read_only.specs.declared.hearing.ReadRequest.{ReadRequest}
+use Rattle.read_only.specs.declared.receiving.ReadRequest.{ReadRequest}
 
 -- The text spells an operation that leaves each list of tuples as it is.
 abbrev pub SpellsRead : List ℕ → Type 0

@@ -6,8 +6,8 @@ ghost use Rattle.tuple_codec.specs.Spelling.{SpellsSomeOperation};
 ghost use Rattle.wire_format.specs.Spelling.{IsMessage};
 ghost use Rattle.read_only.specs.Answering.{RepliesToRead, AnswersText, SpellsNoRead, SpellsRead, begins_as_read, read_reply, reply_data};
 
-use crate::hearing::ReadRequest;
 use crate::read_fault::ReadFault;
+use crate::receiving::ReadRequest;
 use bumpalo::Bump;
 use space::Space;
 use std::alloc::Global;

@@ -12,13 +12,13 @@ use Rattle.wire_format.specs.declared.messages.Fetch.{Fetch}
 use Rattle.wire_format.specs.declared.messages.Message.{Message as WireMessage}
 use Rattle.wire_format.specs.declared.messages.Message.TheVariants as messages
 use Rattle.authenticator.specs.Membership.{Membership}
-use Rattle.signing.specs.Heard.{heard}
-use Rattle.signing.proofs.Heard.{heard_was_opened}
-use Rattle.posting.specs.Endpoint.{SealsForOne}
+use Rattle.signing.specs.AuthenticBody.{authentic}
+use Rattle.signing.proofs.AuthenticBody.{authentic_was_opened}
+use Rattle.frame_endpoint.specs.Endpoint.{SealsForOne}
 use Rattle.events.specs.declared.output.Output.{Output}
 use Rattle.events.specs.Outputs.{entry_of, IsSentAsMeant}
 use Rattle.protocol.specs.System.Configuration.{Configuration, members}
-use Rattle.protocol.specs.System.Frames.{IsPosted}
+use Rattle.protocol.specs.System.Frames.{IsOutgoing}
 use Rattle.protocol.specs.System.Trace.{Entry, Has}
 use Rattle.protocol.specs.System.Trace.Entry.{Got, Sent}
 use Rattle.replica_histories.specs.Questions.{AnswersInput}
@@ -28,36 +28,36 @@ use Rattle.replica_histories.specs.Events.{IsTaken}
 use Rattle.replica_histories.proofs.ChangesKept.{sent_keep}
 use Rattle.replica_histories.specs.TransfersAnswers.{answer_by}
 use Rattle.replica_histories.proofs.Answering.{parts_fit, kept_fetches_count, parts_suffice, other_numbers_owe_none}
-use Rattle.replica_histories.proofs.TransfersAnswering.{posted_to_one}
-use Rattle.replica.specs.declared.taking.Touched.TheVariants as touched
+use Rattle.replica_histories.proofs.TransfersAnswering.{outgoing_to_one}
+use Rattle.replica.specs.declared.taking.DueWork.TheVariants as due_work
 use Rattle.wire_format.specs.Spelling.{is_signed}
-use Rattle.replica.specs.State.{JoinedData, AreOne}
+use Rattle.replica.specs.State.{BothPartsData, AreOne}
 use Rattle.orderer.specs.Fitting.{given, FitsEvent}
 use Rattle.replica.specs.Entering.{event_of, TakesBytes}
-use Rattle.desk.specs.Fetching.{GivesPart, HasKept, KeepsNoState}
+use Rattle.desk.specs.Fetching.{SendsPart, HasKept, KeepsNoState}
 use Rattle.desk.specs.DeskOf.{desk_of}
-use Rattle.replica.specs.Joined.{JoinedMatchesHistory, me_of}
+use Rattle.replica.specs.BothParts.{BothPartsMatchHistory, me_of}
 use Rattle.replica.proofs.Beginning.{rests}
 use Rattle.replica.proofs.Beside.{begins, heard_so}
-use Rattle.orderer.proofs.Staying.{GivesOne, gives_one, GivesNoNumber, fits_on, sent_beside}
+use Rattle.orderer.proofs.Staying.{EmitsOne, emits_one, AssignsNoNumber, fits_on, sent_beside}
 use Rattle.orderer.proofs.Parties.{same_log}
 use Rattle.replica.proofs.Parties.{one_self}
 
 -- a received fetch is of a place
 within_level : (m : Membership) (me : ℕ) (bytes : List ℕ) (s k index : ℕ) (level : Level)
-    → heard m me bytes ≡ Some (record { sender = s; message = FetchMessage k level index }) → index ≤ last_index level
+    → authentic m me bytes ≡ Some (record { sender = s; message = FetchMessage k level index }) → index ≤ last_index level
 within_level m me bytes s k index level h =
-    let o = heard_was_opened m me bytes _ h in
+    let o = authentic_was_opened m me bytes _ h in
     (subst (λ (b : Body). IsMessage b.message) o.body_is o.opens.spelled.valid.message).1
 
 -- so is a fetch message of the program
-pub fetch_within : (m : Membership) (me : ℕ) (bytes : List ℕ) (s : ℕ) (message : WireMessage) (fetch : Fetch) → heard m me bytes ≡ Some (record { sender = s; message = message_data message })
+pub fetch_within : (m : Membership) (me : ℕ) (bytes : List ℕ) (s : ℕ) (message : WireMessage) (fetch : Fetch) → authentic m me bytes ≡ Some (record { sender = s; message = message_data message })
     → message ≡ messages.Fetch fetch → fetch.index ≤ last_index fetch.level
 fetch_within m me bytes s message fetch h is =
     within_level m me bytes s fetch.number.0 fetch.index fetch.level (h ∙ ap (λ (x : WireMessage). Some (record { sender = s; message = message_data x })) is)
 
 -- a served part is no proposal
-no_number : (pages : List (List ℕ)) (k index : ℕ) (level : Level) → GivesNoNumber (answer_by pages k level index)
+no_number : (pages : List (List ℕ)) (k index : ℕ) (level : Level) → AssignsNoNumber (answer_by pages k level index)
 no_number pages k index levels.Root = tt
 no_number pages k index _ = tt
 
@@ -81,17 +81,17 @@ of_number k pages [] has = absurd has
 of_number k pages (x ∷ xs) (inl e) = inl (ap (λ (s : Snapshot). s.number) e)
 of_number k pages (x ∷ xs) (inr h) = inr (of_number k pages xs h)
 
-module _ (r : JoinedData) (one : AreOne r.orderer r.desk) (sender : ReplicaId) (fetch : Fetch) (bytes : List ℕ) (outs : List Output)
-    (hears : heard r.desk.membership r.desk.me bytes ≡ Some (record { sender = sender.0; message = FetchMessage fetch.number.0 fetch.level fetch.index })) where
+module _ (r : BothPartsData) (one : AreOne r.orderer r.desk) (sender : ReplicaId) (fetch : Fetch) (bytes : List ℕ) (outs : List Output)
+    (receives : authentic r.desk.membership r.desk.me bytes ≡ Some (record { sender = sender.0; message = FetchMessage fetch.number.0 fetch.level fetch.index })) where
   abbrev k : ℕ
   k = fetch.number.0
 
   abbrev body : Body
   body = record { sender = sender.0; message = FetchMessage k fetch.level fetch.index }
 
-  module _ (c : Configuration) (past : List Entry) (runs : JoinedMatchesHistory c r past) (known : members c ≡ r.desk.membership) where
+  module _ (c : Configuration) (past : List Entry) (runs : BothPartsMatchHistory c r past) (known : members c ≡ r.desk.membership) where
     begun : FitsEvent c (me_of r) (event_of c r past runs bytes) r.orderer (desk_of c r.desk) r.desk.waiting [] []
-    begun = begins r one c past runs bytes body known hears (record { log = tt; call = refl; asks = λ st. refl; views = refl; changes = tt })
+    begun = begins r one c past runs bytes body known receives (record { log = tt; call = refl; asks = λ st. refl; views = refl; changes = tt })
 
     abbrev Left : List Output → Type 0
     Left os = FitsEvent c (me_of r) (event_of c r past runs bytes) r.orderer (desk_of c r.desk) r.desk.waiting [] os
@@ -101,7 +101,7 @@ module _ (r : JoinedData) (one : AreOne r.orderer r.desk) (sender : ReplicaId) (
     kept_none : KeepsNoState r.desk k → Left []
     kept_none none = (
       begun,
-      other_numbers_owe_none c (me_of r) (desk_of c r.desk) r.orderer.log past (Got (me_of r) bytes) [] sender.0 k fetch.index r.desk.executed.state.number fetch.level runs.holds (heard_so r one c past runs bytes body known hears)
+      other_numbers_owe_none c (me_of r) (desk_of c r.desk) r.orderer.log past (Got (me_of r) bytes) [] sender.0 k fetch.index r.desk.executed.state.number fetch.level runs.holds (heard_so r one c past runs bytes body known receives)
           (none_of k r.desk.snapshots none),
       inl refl,
     )
@@ -118,13 +118,13 @@ module _ (r : JoinedData) (one : AreOne r.orderer r.desk) (sender : ReplicaId) (
           (sent_keep c (me_of r) (Got (me_of r) bytes ∷ past) (part_of pages) seals.bytes posted.says (no_news c (me_of r) (Got (me_of r) bytes ∷ past) pages k fetch.index fetch.level) (never_signed pages k fetch.index fetch.level))
           (same_log r.orderer.log) refl refl refl refl begun
           (parts_fit c (me_of r) (event_of c r past runs bytes) (desk_of c r.desk) r.orderer.log [] [] (record { number = k; pages = pages }) sender.0 fetch.index fetch.level seals.bytes has
-          (inl (heard_so r one c past runs bytes body known hears)) (λ given. given) posted begun.fits),
+          (inl (heard_so r one c past runs bytes body known receives)) (λ given. given) posted begun.fits),
       subst (λ (es : List Entry). AnswersInput c (me_of r) past (Got (me_of r) bytes) es runs.holds.of_desk.point r.desk.executed.state.number) (sym one_given.is)
           (parts_suffice c (me_of r) (desk_of c r.desk) r.orderer.log past (Got (me_of r) bytes) (Sent (me_of r) seals.bytes ∷ []) (record { number = k; pages = pages }) sender.0 fetch.index r.desk.executed.state.number fetch.level
-          runs.holds has (heard_so r one c past runs bytes body known hears) (inl (posted_to_one c (me_of r) sender.0 (part_of pages) seals.bytes posted))),
+          runs.holds has (heard_so r one c past runs bytes body known receives) (inl (outgoing_to_one c (me_of r) sender.0 (part_of pages) seals.bytes posted))),
       inr (
         body,
-        heard_so r one c past runs bytes body known hears,
+        heard_so r one c past runs bytes body known receives,
         kept_fetches_count c (me_of r) (desk_of c r.desk) r.orderer.log past bytes sender.0 k fetch.index fetch.level runs.holds (of_number k pages r.desk.snapshots has),
       ),
     )
@@ -132,21 +132,21 @@ module _ (r : JoinedData) (one : AreOne r.orderer r.desk) (sender : ReplicaId) (
         sends : entry_of (me_of r) output ≡ Sent (me_of r) seals.bytes
         sends = subst (λ (m : ℕ). entry_of m output ≡ Sent m seals.bytes) one.0 seals.sends
 
-        one_given : GivesOne c (me_of r) [] (output ∷ []) (Sent (me_of r) seals.bytes)
-        one_given = gives_one c (me_of r) [] (output ∷ []) output (Sent (me_of r) seals.bytes) refl sends (subst (λ (m : ℕ). IsSentAsMeant c m output) one.0 (seals.meant c known))
+        one_given : EmitsOne c (me_of r) [] (output ∷ []) (Sent (me_of r) seals.bytes)
+        one_given = emits_one c (me_of r) [] (output ∷ []) output (Sent (me_of r) seals.bytes) refl sends (subst (λ (m : ℕ). IsSentAsMeant c m output) one.0 (seals.meant c known))
 
-        posted : IsPosted c (me_of r) (part_of pages) (sender.0 ∷ []) seals.bytes
-        posted = subst (λ (m : ℕ). IsPosted c m (part_of pages) (sender.0 ∷ []) seals.bytes) one.0 (seals.posted c known)
+        posted : IsOutgoing c (me_of r) (part_of pages) (sender.0 ∷ []) seals.bytes
+        posted = subst (λ (m : ℕ). IsOutgoing c m (part_of pages) (sender.0 ∷ []) seals.bytes) one.0 (seals.posted c known)
 
         has : Has (λ x. x ≡ record { number = k; pages = pages }) r.desk.snapshots
         has = kept
 
-    left : GivesPart r.desk sender fetch [] outs → Left outs
+    left : SendsPart r.desk sender fetch [] outs → Left outs
     left (inl (same, none)) = subst Left (sym same) (kept_none none)
     left (inr (pages, output, kept, seals, same)) = subst Left (sym same) (gives pages output kept seals)
 
   -- The desk sends a kept part to whoever asks, and nothing else is left to do.
-  pub answers : GivesPart r.desk sender fetch [] outs → TakesBytes bytes r touched.Nothing r outs
+  pub answers : SendsPart r.desk sender fetch [] outs → TakesBytes bytes r due_work.Nothing r outs
   answers part = record {
     party = one_self r;
     begins = λ c past runs known. let l = left c past runs known part in (

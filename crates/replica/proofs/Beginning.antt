@@ -25,8 +25,8 @@ use Rattle.wire.specs.Marks.{has_type_of_requests}
 use Rattle.wire_format.specs.Spelling.{message_type}
 use Rattle.wire_format.specs.Views.{message_data}
 use Rattle.wire_format.specs.Messages.{BodyData as Body, NewViewData, pre_prepare as PrePrepare, prepare as Prepare, commit as Commit}
-use Rattle.signing.specs.Heard.{heard}
-use Rattle.signing.proofs.Heard.{heard_was_opened}
+use Rattle.signing.specs.AuthenticBody.{authentic}
+use Rattle.signing.proofs.AuthenticBody.{authentic_was_opened}
 use Rattle.signing.proofs.Requests.{heard_is_marked}
 use Rattle.ordering.specs.Log as logs
 use Rattle.ordering.specs.Log.{LogData, is_in_marks, logged_batch, with_batch, with_prepare, with_commit, due_prepare, due_commit}
@@ -37,7 +37,7 @@ use Rattle.ordering.specs.declared.votes.Vote.{Vote}
 use Rattle.ordering.specs.Messages.{preprepare_fault_of}
 use Rattle.sha2.specs.Sha256.{sha256}
 use Rattle.authenticator.specs.Membership.{Membership, has_sender, is_client, is_replica}
-use Rattle.posting.specs.Endpoint.{are_heard}
+use Rattle.frame_endpoint.specs.Endpoint.{are_authentic}
 use Rattle.protocol.specs.System.Configuration.{Configuration, members}
 use Rattle.protocol.specs.System.Trace.{Entry}
 use Rattle.protocol.specs.System.Trace.Entry.{Got}
@@ -49,19 +49,19 @@ use Rattle.replica_histories.specs.Events as histories
 use Rattle.replica_histories.specs.Events.{IsTaken}
 use Rattle.replica_histories.specs.Changes.{CutsClaims, FitsChanges, LogPassesEntry, KeepsChanges, IsNoBatch, IsNoChange}
 use Rattle.replica_histories.proofs.ChangesPassing.{inputs_enter, changes_stay, claims_are_above, batches_are_claimed}
-use Rattle.replica_histories.proofs.ChangesKept.{got_keep, heard_keep, others_bring_none}
+use Rattle.replica_histories.proofs.ChangesKept.{got_keep, received_keep, others_bring_none}
 use Rattle.replica_histories.proofs.Questions.{others_owe_none}
 use Rattle.replica_histories.specs.Inputs.{replies_again, IsBesideLog}
 use Rattle.replica_histories.specs.Logs.{FitsLog, LogTakesBody}
 use Rattle.replica_histories.proofs.Entering.{inputs_fit}
 use Rattle.replica_histories.proofs.Resting.{held_are_settled}
 use Rattle.replica_histories.proofs.Counting.{batches_count, batches_drop, prepares_count, prepares_drop, commits_count, commits_drop, others_drop, mapped_none}
-use Rattle.replica.specs.declared.taking.Touched.TheVariants as touched
-use Rattle.replica.specs.State.{JoinedData, AreOne}
+use Rattle.replica.specs.declared.taking.DueWork.TheVariants as due_work
+use Rattle.replica.specs.State.{BothPartsData, AreOne}
 use Rattle.replica.specs.Desks.{PartsFitEvent}
 use Rattle.replica.specs.Going.{NothingIsLeft}
 use Rattle.orderer.specs.Taking.{TakesBatch, TakesPrepare, TakesCommit}
-use Rattle.replica.specs.Joined.{JoinedMatchesHistory, me_of}
+use Rattle.replica.specs.BothParts.{BothPartsMatchHistory, me_of}
 use Rattle.orderer.specs.State.{OrdererData}
 use Rattle.orderer.specs.Fitting.{FitsEvent, changes_held}
 use Rattle.orderer.specs.Going.{IsSameLog, IsVotedBut}
@@ -76,7 +76,7 @@ use Rattle.orderer.proofs.Voting.{due_elsewhere}
 -- ---- between events
 
 -- no message is left to send, and no batch to execute
-pub rests : (c : Configuration) (r : JoinedData) (past : List Entry) → JoinedMatchesHistory c r past → NothingIsLeft r
+pub rests : (c : Configuration) (r : BothPartsData) (past : List Entry) → BothPartsMatchHistory c r past → NothingIsLeft r
 rests c r past runs =
     let settled = held_are_settled c (me_of r) (desk_of c r.desk) r.orderer.log past runs.holds in (
       (λ i. (runs.holds.of_log.prepares i, runs.holds.of_log.commits i)),
@@ -98,25 +98,25 @@ pub none_taken : (c : Configuration) (past : List Entry) (e : Entry) → option_
 none_taken c past e h = ap (option_and_then (λ (new : NewViewData). then_some (is_later (view c past) (target past) new) new)) h
 
 -- With this log and these claims, the view-change data fit after the bytes.
-abbrev pub ChangesFit : (r : JoinedData) (c : Configuration) (past : List Entry) → List ℕ → LogData → ClaimsData → Type 0
+abbrev pub ChangesFit : (r : BothPartsData) (c : Configuration) (past : List Entry) → List ℕ → LogData → ClaimsData → Type 0
 ChangesFit r c past bytes after claims = LogPassesEntry c (me_of r) past (Got (me_of r) bytes) r.orderer.log after
     → FitsChanges c (me_of r) after (record (changes_held r.orderer) { claims = claims }) (Got (me_of r) bytes ∷ past)
 
 -- The log takes the bytes, which count.
-pub record TakesOne (r : JoinedData) (c : Configuration) (past : List Entry) (runs : JoinedMatchesHistory c r past) (bytes : List ℕ) (after : LogData) (claims : ClaimsData) : Type 0 where
-  pub takes : LogTakesBody c (me_of r) (heard (members c) (me_of r) bytes) r.orderer.log after
-  pub none : IsNoCall c (heard (members c) (me_of r) bytes)
+pub record TakesOne (r : BothPartsData) (c : Configuration) (past : List Entry) (runs : BothPartsMatchHistory c r past) (bytes : List ℕ) (after : LogData) (claims : ClaimsData) : Type 0 where
+  pub takes : LogTakesBody c (me_of r) (authentic (members c) (me_of r) bytes) r.orderer.log after
+  pub none : IsNoCall c (authentic (members c) (me_of r) bytes)
   pub counts : IsTaken c (me_of r) (event_of c r past runs bytes)
   pub changes : ChangesFit r c past bytes after claims
 
-module _ (r : JoinedData) (one : AreOne r.orderer r.desk) where
+module _ (r : BothPartsData) (one : AreOne r.orderer r.desk) where
   -- the desk receives what the orderer does
-  pub heard_by : (c : Configuration) (bytes : List ℕ) (body : Body) → members c ≡ r.desk.membership → heard r.desk.membership r.desk.me bytes ≡ Some body
-      → heard (members c) (me_of r) bytes ≡ Some body
-  heard_by c bytes body known h = ap (λ m. heard m (me_of r) bytes) known ∙ ap (λ (x : ℕ). heard r.desk.membership x bytes) (sym one.0) ∙ h
+  pub heard_by : (c : Configuration) (bytes : List ℕ) (body : Body) → members c ≡ r.desk.membership → authentic r.desk.membership r.desk.me bytes ≡ Some body
+      → authentic (members c) (me_of r) bytes ≡ Some body
+  heard_by c bytes body known h = ap (λ m. authentic m (me_of r) bytes) known ∙ ap (λ (x : ℕ). authentic r.desk.membership x bytes) (sym one.0) ∙ h
 
   -- So they do if the bytes change no view-change data, and the low mark stays.
-  pub changes_kept : (c : Configuration) (past : List Entry) (runs : JoinedMatchesHistory c r past) (bytes : List ℕ) (after : LogData) → IsSameLog r.orderer.log after → after.low ≡ r.orderer.log.low
+  pub changes_kept : (c : Configuration) (past : List Entry) (runs : BothPartsMatchHistory c r past) (bytes : List ℕ) (after : LogData) → IsSameLog r.orderer.log after → after.low ≡ r.orderer.log.low
       → (LogPassesEntry c (me_of r) past (Got (me_of r) bytes) r.orderer.log after → KeepsChanges c (me_of r) past (Got (me_of r) bytes)) → ChangesFit r c past bytes after r.orderer.claims
   changes_kept c past runs bytes after same low keeps passes =
       changes_stay c (me_of r) past (Got (me_of r) bytes) r.orderer.log after (changes_held r.orderer) r.orderer.claims passes (record { view = same.view; active = same.active }) (keeps passes)
@@ -124,8 +124,8 @@ module _ (r : JoinedData) (one : AreOne r.orderer r.desk) where
       (claims_are_above c (me_of r) r.orderer.log past r.orderer.claims runs.holds.of_log.fits runs.changes.claims)) runs.changes
 
   -- bytes that are no ordered request, of which the log may take something
-  pub begins_with : (c : Configuration) (past : List Entry) (runs : JoinedMatchesHistory c r past) (bytes : List ℕ) (after : LogData) (claims : ClaimsData)
-      → IsSameLog r.orderer.log after → LogTakesBody c (me_of r) (heard (members c) (me_of r) bytes) r.orderer.log after → IsNoCall c (heard (members c) (me_of r) bytes)
+  pub begins_with : (c : Configuration) (past : List Entry) (runs : BothPartsMatchHistory c r past) (bytes : List ℕ) (after : LogData) (claims : ClaimsData)
+      → IsSameLog r.orderer.log after → LogTakesBody c (me_of r) (authentic (members c) (me_of r) bytes) r.orderer.log after → IsNoCall c (authentic (members c) (me_of r) bytes)
       → ChangesFit r c past bytes after claims
       → PartsFitEvent c (event_of c r past runs bytes) (record r.orderer { log = after; claims = claims }) r.desk [] []
   begins_with c past runs bytes after claims same takes none changes = record {
@@ -160,9 +160,9 @@ module _ (r : JoinedData) (one : AreOne r.orderer r.desk) where
 
   -- Dropped bytes change nothing.
   pub drops : (bytes : List ℕ)
-      → ((c : Configuration) (past : List Entry) → JoinedMatchesHistory c r past → members c ≡ r.desk.membership
-      → LogTakesBody c (me_of r) (heard (members c) (me_of r) bytes) r.orderer.log r.orderer.log × IsNoCall c (heard (members c) (me_of r) bytes))
-      → TakesBytes bytes r touched.Nothing r []
+      → ((c : Configuration) (past : List Entry) → BothPartsMatchHistory c r past → members c ≡ r.desk.membership
+      → LogTakesBody c (me_of r) (authentic (members c) (me_of r) bytes) r.orderer.log r.orderer.log × IsNoCall c (authentic (members c) (me_of r) bytes))
+      → TakesBytes bytes r due_work.Nothing r []
   drops bytes none = record {
     party = one_self r;
     begins = λ c past runs known. let n = none c past runs known in (
@@ -177,7 +177,7 @@ module _ (r : JoinedData) (one : AreOne r.orderer r.desk) where
     );
   }
     where
-      kept : (c : Configuration) (past : List Entry) (runs : JoinedMatchesHistory c r past) → IsNoCall c (heard (members c) (me_of r) bytes) → ChangesFit r c past bytes r.orderer.log r.orderer.claims
+      kept : (c : Configuration) (past : List Entry) (runs : BothPartsMatchHistory c r past) → IsNoCall c (authentic (members c) (me_of r) bytes) → ChangesFit r c past bytes r.orderer.log r.orderer.claims
       kept c past runs silent = changes_kept c past runs bytes r.orderer.log (same_log r.orderer.log) refl
           (λ passes. got_keep c (me_of r) past bytes r.orderer.log r.orderer.log passes (record { view = refl; active = refl }) (none_taken c past (Got (me_of r) bytes) silent.views)
           (λ i within. refl) (λ s other. others_bring_none c (me_of r) s past bytes silent.changes other))
@@ -185,8 +185,8 @@ module _ (r : JoinedData) (one : AreOne r.orderer r.desk) where
   -- A message that the log takes touches one number.
   pub takes_row : (bytes : List ℕ) (number : Number) (after : LogData) (claims : ClaimsData)
       → IsSameLog r.orderer.log after → r.orderer.log.active ≡ true → ((i : ℕ) → i ≢ number.0 → (due_prepare after i ≡ due_prepare r.orderer.log i) × (due_commit after i ≡ due_commit r.orderer.log i))
-      → ((c : Configuration) (past : List Entry) (runs : JoinedMatchesHistory c r past) → members c ≡ r.desk.membership → TakesOne r c past runs bytes after claims)
-      → TakesBytes bytes r (touched.Row number) (record r { orderer = record r.orderer { log = after; claims = claims } }) []
+      → ((c : Configuration) (past : List Entry) (runs : BothPartsMatchHistory c r past) → members c ≡ r.desk.membership → TakesOne r c past runs bytes after claims)
+      → TakesBytes bytes r (due_work.Row number) (record r { orderer = record r.orderer { log = after; claims = claims } }) []
   takes_row bytes number after claims same active others takes = record {
     party = record { endpoint = refl; me = refl; membership = refl };
     begins = λ c past runs known. let t = takes c past runs known in (
@@ -196,7 +196,7 @@ module _ (r : JoinedData) (one : AreOne r.orderer r.desk) where
     );
   }
     where
-      voted : (c : Configuration) (past : List Entry) → JoinedMatchesHistory c r past → IsVotedBut number.0 after
+      voted : (c : Configuration) (past : List Entry) → BothPartsMatchHistory c r past → IsVotedBut number.0 after
       voted c past runs i ne = ((others i ne).0 ∙ (runs.holds.of_log.prepares i), (others i ne).1 ∙ (runs.holds.of_log.commits i))
 
 -- ---- messages without a fault
@@ -227,30 +227,30 @@ abbrev vote_by : ReplicaId → List ℕ → Vote
 vote_by sender digest = record { sender = sender; digest = digest }
 
 -- a vote is no call, and changes no view-change data
-none_of : (r : JoinedData) (bytes : List ℕ) (c : Configuration) (body : Body) → heard (members c) (me_of r) bytes ≡ Some body → IsNoCall c (Some body) → IsNoCall c (heard (members c) (me_of r) bytes)
-none_of r bytes c body hears none = subst (IsNoCall c) (sym hears) none
+none_of : (r : BothPartsData) (bytes : List ℕ) (c : Configuration) (body : Body) → authentic (members c) (me_of r) bytes ≡ Some body → IsNoCall c (Some body) → IsNoCall c (authentic (members c) (me_of r) bytes)
+none_of r bytes c body receives none = subst (IsNoCall c) (sym receives) none
 
-prepare_none : (r : JoinedData) (bytes : List ℕ) (c : Configuration) (s v i : ℕ) (digest : List ℕ) → heard (members c) (me_of r) bytes ≡ Some (record { sender = s; message = Prepare v i digest })
-    → IsNoCall c (heard (members c) (me_of r) bytes)
-prepare_none r bytes c s v i digest hears = none_of r bytes c _ hears (record { call = refl; asks = λ st. refl; parts = refl; views = refl; changes = tt })
+prepare_none : (r : BothPartsData) (bytes : List ℕ) (c : Configuration) (s v i : ℕ) (digest : List ℕ) → authentic (members c) (me_of r) bytes ≡ Some (record { sender = s; message = Prepare v i digest })
+    → IsNoCall c (authentic (members c) (me_of r) bytes)
+prepare_none r bytes c s v i digest receives = none_of r bytes c _ receives (record { call = refl; asks = λ st. refl; parts = refl; views = refl; changes = tt })
 
-commit_none : (r : JoinedData) (bytes : List ℕ) (c : Configuration) (s v i : ℕ) (digest : List ℕ) → heard (members c) (me_of r) bytes ≡ Some (record { sender = s; message = Commit v i digest })
-    → IsNoCall c (heard (members c) (me_of r) bytes)
-commit_none r bytes c s v i digest hears = none_of r bytes c _ hears (record { call = refl; asks = λ st. refl; parts = refl; views = refl; changes = tt })
+commit_none : (r : BothPartsData) (bytes : List ℕ) (c : Configuration) (s v i : ℕ) (digest : List ℕ) → authentic (members c) (me_of r) bytes ≡ Some (record { sender = s; message = Commit v i digest })
+    → IsNoCall c (authentic (members c) (me_of r) bytes)
+commit_none r bytes c s v i digest receives = none_of r bytes c _ receives (record { call = refl; asks = λ st. refl; parts = refl; views = refl; changes = tt })
 
-batch_none : (r : JoinedData) (bytes : List ℕ) (c : Configuration) (s v i : ℕ) (batch : List ℕ) → heard (members c) (me_of r) bytes ≡ Some (record { sender = s; message = PrePrepare v i batch })
-    → IsNoCall c (heard (members c) (me_of r) bytes)
-batch_none r bytes c s v i batch hears = none_of r bytes c _ hears (record { call = refl; asks = λ st. refl; parts = refl; views = refl; changes = tt })
+batch_none : (r : BothPartsData) (bytes : List ℕ) (c : Configuration) (s v i : ℕ) (batch : List ℕ) → authentic (members c) (me_of r) bytes ≡ Some (record { sender = s; message = PrePrepare v i batch })
+    → IsNoCall c (authentic (members c) (me_of r) bytes)
+batch_none r bytes c s v i batch receives = none_of r bytes c _ receives (record { call = refl; asks = λ st. refl; parts = refl; views = refl; changes = tt })
 
-votes_keep : (r : JoinedData) (bytes : List ℕ) (c : Configuration) (past : List Entry) → IsNoCall c (heard (members c) (me_of r) bytes) → IsNoBatch (heard (members c) (me_of r) bytes)
+votes_keep : (r : BothPartsData) (bytes : List ℕ) (c : Configuration) (past : List Entry) → IsNoCall c (authentic (members c) (me_of r) bytes) → IsNoBatch (authentic (members c) (me_of r) bytes)
     → KeepsChanges c (me_of r) past (Got (me_of r) bytes)
 votes_keep r bytes c past none no_batch =
-    heard_keep c (me_of r) past bytes (none_taken c past (Got (me_of r) bytes) none.views) no_batch (λ s other. others_bring_none c (me_of r) s past bytes none.changes other)
+    received_keep c (me_of r) past bytes (none_taken c past (Got (me_of r) bytes) none.views) no_batch (λ s other. others_bring_none c (me_of r) s past bytes none.changes other)
 
-pub prepare_taken : (r : JoinedData) (sender : ReplicaId) (p : WirePrepare) (new : OrdererData) → AreOne r.orderer r.desk → TakesPrepare r.orderer sender p new true
-    → TakesMessage sender (Prepare p.view.0 p.number.0 p.digest) r (touched.Row p.number) (record r { orderer = new }) []
+pub prepare_taken : (r : BothPartsData) (sender : ReplicaId) (p : WirePrepare) (new : OrdererData) → AreOne r.orderer r.desk → TakesPrepare r.orderer sender p new true
+    → TakesMessage sender (Prepare p.view.0 p.number.0 p.digest) r (due_work.Row p.number) (record r { orderer = new }) []
 prepare_taken r sender p new one t bytes h =
-    subst (λ (o : OrdererData). TakesBytes bytes r (touched.Row p.number) (record r { orderer = o }) []) (sym t.1)
+    subst (λ (o : OrdererData). TakesBytes bytes r (due_work.Row p.number) (record r { orderer = o }) []) (sym t.1)
     (takes_row r one bytes p.number (with_prepare r.orderer.log p.number.0 vote) r.orderer.claims (same_rows r.orderer.log (with_prepare r.orderer.log p.number.0 vote).rows) active
     (λ i ne. due_elsewhere r.orderer.log i p.number.0 _ inside ne) takes)
   where
@@ -263,22 +263,22 @@ prepare_taken r sender p new one t bytes h =
     active : r.orderer.log.active ≡ true
     active = (fitting r.orderer.log _ p.view.0 p.number.0 (no_fault _ (fault_beside (logs.prepare_of r.orderer.log p.number.0 sender.0) p.digest) t.0)).active
 
-    takes : (c : Configuration) (past : List Entry) (runs : JoinedMatchesHistory c r past) → members c ≡ r.desk.membership
+    takes : (c : Configuration) (past : List Entry) (runs : BothPartsMatchHistory c r past) → members c ≡ r.desk.membership
         → TakesOne r c past runs bytes (with_prepare r.orderer.log p.number.0 vote) r.orderer.claims
     takes c past runs known =
-        let hears = heard_by r one c bytes _ known h in
-        let counts = prepares_count c (me_of r) r.orderer.log past runs.holds.of_desk.point sender.0 p.view.0 p.number.0 p.digest bytes vote runs.holds.of_log.fits hears t.0 refl refl in record {
+        let receives = heard_by r one c bytes _ known h in
+        let counts = prepares_count c (me_of r) r.orderer.log past runs.holds.of_desk.point sender.0 p.view.0 p.number.0 p.digest bytes vote runs.holds.of_log.fits receives t.0 refl refl in record {
           takes = counts.1;
-          none = prepare_none r bytes c sender.0 p.view.0 p.number.0 p.digest hears;
-          counts = (record { sender = sender.0; message = Prepare p.view.0 p.number.0 p.digest }, hears, counts.0);
+          none = prepare_none r bytes c sender.0 p.view.0 p.number.0 p.digest receives;
+          counts = (record { sender = sender.0; message = Prepare p.view.0 p.number.0 p.digest }, receives, counts.0);
           changes = changes_kept r one c past runs bytes (with_prepare r.orderer.log p.number.0 vote) (same_rows r.orderer.log (with_prepare r.orderer.log p.number.0 vote).rows) refl
-              (λ passes. votes_keep r bytes c past (prepare_none r bytes c sender.0 p.view.0 p.number.0 p.digest hears) (rw hears tt));
+              (λ passes. votes_keep r bytes c past (prepare_none r bytes c sender.0 p.view.0 p.number.0 p.digest receives) (rw receives tt));
         }
 
-pub commit_taken : (r : JoinedData) (sender : ReplicaId) (p : WireCommit) (new : OrdererData) → AreOne r.orderer r.desk → TakesCommit r.orderer sender p new true
-    → TakesMessage sender (Commit p.view.0 p.number.0 p.digest) r (touched.Row p.number) (record r { orderer = new }) []
+pub commit_taken : (r : BothPartsData) (sender : ReplicaId) (p : WireCommit) (new : OrdererData) → AreOne r.orderer r.desk → TakesCommit r.orderer sender p new true
+    → TakesMessage sender (Commit p.view.0 p.number.0 p.digest) r (due_work.Row p.number) (record r { orderer = new }) []
 commit_taken r sender p new one t bytes h =
-    subst (λ (o : OrdererData). TakesBytes bytes r (touched.Row p.number) (record r { orderer = o }) []) (sym t.1)
+    subst (λ (o : OrdererData). TakesBytes bytes r (due_work.Row p.number) (record r { orderer = o }) []) (sym t.1)
     (takes_row r one bytes p.number (with_commit r.orderer.log p.number.0 vote) r.orderer.claims (same_rows r.orderer.log (with_commit r.orderer.log p.number.0 vote).rows) active
     (λ i ne. due_elsewhere r.orderer.log i p.number.0 _ inside ne) takes)
   where
@@ -291,16 +291,16 @@ commit_taken r sender p new one t bytes h =
     active : r.orderer.log.active ≡ true
     active = (fitting r.orderer.log _ p.view.0 p.number.0 (no_fault _ (fault_beside (logs.commit_of r.orderer.log p.number.0 sender.0) p.digest) t.0)).active
 
-    takes : (c : Configuration) (past : List Entry) (runs : JoinedMatchesHistory c r past) → members c ≡ r.desk.membership
+    takes : (c : Configuration) (past : List Entry) (runs : BothPartsMatchHistory c r past) → members c ≡ r.desk.membership
         → TakesOne r c past runs bytes (with_commit r.orderer.log p.number.0 vote) r.orderer.claims
     takes c past runs known =
-        let hears = heard_by r one c bytes _ known h in
-        let counts = commits_count c (me_of r) r.orderer.log past runs.holds.of_desk.point sender.0 p.view.0 p.number.0 p.digest bytes vote runs.holds.of_log.fits hears t.0 refl refl in record {
+        let receives = heard_by r one c bytes _ known h in
+        let counts = commits_count c (me_of r) r.orderer.log past runs.holds.of_desk.point sender.0 p.view.0 p.number.0 p.digest bytes vote runs.holds.of_log.fits receives t.0 refl refl in record {
           takes = counts.1;
-          none = commit_none r bytes c sender.0 p.view.0 p.number.0 p.digest hears;
-          counts = (record { sender = sender.0; message = Commit p.view.0 p.number.0 p.digest }, hears, counts.0);
+          none = commit_none r bytes c sender.0 p.view.0 p.number.0 p.digest receives;
+          counts = (record { sender = sender.0; message = Commit p.view.0 p.number.0 p.digest }, receives, counts.0);
           changes = changes_kept r one c past runs bytes (with_commit r.orderer.log p.number.0 vote) (same_rows r.orderer.log (with_commit r.orderer.log p.number.0 vote).rows) refl
-              (λ passes. votes_keep r bytes c past (commit_none r bytes c sender.0 p.view.0 p.number.0 p.digest hears) (rw hears tt));
+              (λ passes. votes_keep r bytes c past (commit_none r bytes c sender.0 p.view.0 p.number.0 p.digest receives) (rw receives tt));
         }
 
 -- ---- messages with a fault
@@ -309,51 +309,51 @@ pub some_fault : (o : Option Dropped) → is_none o ≡ false → (fault : Dropp
 some_fault None h = absurd cc
 some_fault (Some x) h = (x, refl)
 
-pub prepare_dropped : (r : JoinedData) (sender : ReplicaId) (p : WirePrepare) (new : OrdererData) → AreOne r.orderer r.desk → TakesPrepare r.orderer sender p new false
-    → TakesMessage sender (Prepare p.view.0 p.number.0 p.digest) r touched.Nothing (record r { orderer = new }) []
+pub prepare_dropped : (r : BothPartsData) (sender : ReplicaId) (p : WirePrepare) (new : OrdererData) → AreOne r.orderer r.desk → TakesPrepare r.orderer sender p new false
+    → TakesMessage sender (Prepare p.view.0 p.number.0 p.digest) r due_work.Nothing (record r { orderer = new }) []
 prepare_dropped r sender p new one t bytes h =
-    subst (λ (o : OrdererData). TakesBytes bytes r touched.Nothing (record r { orderer = o }) []) (sym t.1) (drops r one bytes none)
+    subst (λ (o : OrdererData). TakesBytes bytes r due_work.Nothing (record r { orderer = o }) []) (sym t.1) (drops r one bytes none)
   where
-    none : (c : Configuration) (past : List Entry) → JoinedMatchesHistory c r past → members c ≡ r.desk.membership
-        → LogTakesBody c (me_of r) (heard (members c) (me_of r) bytes) r.orderer.log r.orderer.log × IsNoCall c (heard (members c) (me_of r) bytes)
+    none : (c : Configuration) (past : List Entry) → BothPartsMatchHistory c r past → members c ≡ r.desk.membership
+        → LogTakesBody c (me_of r) (authentic (members c) (me_of r) bytes) r.orderer.log r.orderer.log × IsNoCall c (authentic (members c) (me_of r) bytes)
     none c past runs known =
-        let hears = heard_by r one c bytes _ known h in
+        let receives = heard_by r one c bytes _ known h in
         let fault = some_fault _ t.0 in (
-          prepares_drop c (me_of r) r.orderer.log past sender.0 p.view.0 p.number.0 p.digest bytes fault.0 runs.holds.of_log.fits hears fault.1,
-          prepare_none r bytes c sender.0 p.view.0 p.number.0 p.digest hears,
+          prepares_drop c (me_of r) r.orderer.log past sender.0 p.view.0 p.number.0 p.digest bytes fault.0 runs.holds.of_log.fits receives fault.1,
+          prepare_none r bytes c sender.0 p.view.0 p.number.0 p.digest receives,
         )
 
-pub commit_dropped : (r : JoinedData) (sender : ReplicaId) (p : WireCommit) (new : OrdererData) → AreOne r.orderer r.desk → TakesCommit r.orderer sender p new false
-    → TakesMessage sender (Commit p.view.0 p.number.0 p.digest) r touched.Nothing (record r { orderer = new }) []
+pub commit_dropped : (r : BothPartsData) (sender : ReplicaId) (p : WireCommit) (new : OrdererData) → AreOne r.orderer r.desk → TakesCommit r.orderer sender p new false
+    → TakesMessage sender (Commit p.view.0 p.number.0 p.digest) r due_work.Nothing (record r { orderer = new }) []
 commit_dropped r sender p new one t bytes h =
-    subst (λ (o : OrdererData). TakesBytes bytes r touched.Nothing (record r { orderer = o }) []) (sym t.1) (drops r one bytes none)
+    subst (λ (o : OrdererData). TakesBytes bytes r due_work.Nothing (record r { orderer = o }) []) (sym t.1) (drops r one bytes none)
   where
-    none : (c : Configuration) (past : List Entry) → JoinedMatchesHistory c r past → members c ≡ r.desk.membership
-        → LogTakesBody c (me_of r) (heard (members c) (me_of r) bytes) r.orderer.log r.orderer.log × IsNoCall c (heard (members c) (me_of r) bytes)
+    none : (c : Configuration) (past : List Entry) → BothPartsMatchHistory c r past → members c ≡ r.desk.membership
+        → LogTakesBody c (me_of r) (authentic (members c) (me_of r) bytes) r.orderer.log r.orderer.log × IsNoCall c (authentic (members c) (me_of r) bytes)
     none c past runs known =
-        let hears = heard_by r one c bytes _ known h in
+        let receives = heard_by r one c bytes _ known h in
         let fault = some_fault _ t.0 in (
-          commits_drop c (me_of r) r.orderer.log past sender.0 p.view.0 p.number.0 p.digest bytes fault.0 runs.holds.of_log.fits hears fault.1,
-          commit_none r bytes c sender.0 p.view.0 p.number.0 p.digest hears,
+          commits_drop c (me_of r) r.orderer.log past sender.0 p.view.0 p.number.0 p.digest bytes fault.0 runs.holds.of_log.fits receives fault.1,
+          commit_none r bytes c sender.0 p.view.0 p.number.0 p.digest receives,
         )
 
-pub batch_dropped : (r : JoinedData) (sender : ReplicaId) (p : WirePrePrepare) (new : OrdererData) → AreOne r.orderer r.desk → TakesBatch r.orderer sender p new false
-    → TakesMessage sender (PrePrepare p.view.0 p.number.0 p.batch.text.items) r touched.Nothing (record r { orderer = new }) []
+pub batch_dropped : (r : BothPartsData) (sender : ReplicaId) (p : WirePrePrepare) (new : OrdererData) → AreOne r.orderer r.desk → TakesBatch r.orderer sender p new false
+    → TakesMessage sender (PrePrepare p.view.0 p.number.0 p.batch.text.items) r due_work.Nothing (record r { orderer = new }) []
 batch_dropped r sender p new one t bytes h =
-    subst (λ (o : OrdererData). TakesBytes bytes r touched.Nothing (record r { orderer = o }) []) (sym t.1) (drops r one bytes none)
+    subst (λ (o : OrdererData). TakesBytes bytes r due_work.Nothing (record r { orderer = o }) []) (sym t.1) (drops r one bytes none)
   where
     why : (c : Configuration) → members c ≡ r.desk.membership
-        → (is_none (preprepare_fault_of r.orderer.log sender p) ≡ false) ⊎ (are_heard r.orderer.endpoint.membership r.orderer.endpoint.me (requests_of p.batch.text.items) ≡ false)
+        → (is_none (preprepare_fault_of r.orderer.log sender p) ≡ false) ⊎ (are_authentic r.orderer.endpoint.membership r.orderer.endpoint.me (requests_of p.batch.text.items) ≡ false)
         → ((fault : Dropped) × (preprepare_fault_of r.orderer.log sender p ≡ Some fault)) ⊎ (are_genuine c (me_of r) p.batch.text.items ≡ false)
     why c known (inl e) = inl (some_fault _ e)
-    why c known (inr e) = inr (ap (λ (m : Membership). are_heard m (me_of r) (requests_of p.batch.text.items)) (known ∙ one.1) ∙ e)
+    why c known (inr e) = inr (ap (λ (m : Membership). are_authentic m (me_of r) (requests_of p.batch.text.items)) (known ∙ one.1) ∙ e)
 
-    none : (c : Configuration) (past : List Entry) → JoinedMatchesHistory c r past → members c ≡ r.desk.membership
-        → LogTakesBody c (me_of r) (heard (members c) (me_of r) bytes) r.orderer.log r.orderer.log × IsNoCall c (heard (members c) (me_of r) bytes)
+    none : (c : Configuration) (past : List Entry) → BothPartsMatchHistory c r past → members c ≡ r.desk.membership
+        → LogTakesBody c (me_of r) (authentic (members c) (me_of r) bytes) r.orderer.log r.orderer.log × IsNoCall c (authentic (members c) (me_of r) bytes)
     none c past runs known =
-        let hears = heard_by r one c bytes _ known h in (
-          batches_drop c (me_of r) r.orderer.log past sender.0 p.view.0 p.number.0 p.batch.text.items bytes runs.holds.of_log.fits hears (why c known t.0),
-          batch_none r bytes c sender.0 p.view.0 p.number.0 p.batch.text.items hears,
+        let receives = heard_by r one c bytes _ known h in (
+          batches_drop c (me_of r) r.orderer.log past sender.0 p.view.0 p.number.0 p.batch.text.items bytes runs.holds.of_log.fits receives (why c known t.0),
+          batch_none r bytes c sender.0 p.view.0 p.number.0 p.batch.text.items receives,
         )
 
 -- ---- a batch
@@ -370,10 +370,10 @@ no_digest (Some x) digest h = absurd cc
 no_batch : (log : LogData) (i : ℕ) → is_in_marks log i ≡ true → logs.logged_digest log i ≡ None → logged_batch log i ≡ None
 no_batch log i within h = ap (λ (b : Bool). cond b (logs.row_of log i).batch None) within ∙ mapped_none sha256 (logs.row_of log i).batch (sym (ap (λ (b : Bool). cond b (logs.digest_of (logs.row_of log i)) None) within) ∙ h)
 
-pub batch_taken : (r : JoinedData) (sender : ReplicaId) (p : WirePrePrepare) (new : OrdererData) → AreOne r.orderer r.desk → TakesBatch r.orderer sender p new true
-    → TakesMessage sender (PrePrepare p.view.0 p.number.0 p.batch.text.items) r (touched.Row p.number) (record r { orderer = new }) []
+pub batch_taken : (r : BothPartsData) (sender : ReplicaId) (p : WirePrePrepare) (new : OrdererData) → AreOne r.orderer r.desk → TakesBatch r.orderer sender p new true
+    → TakesMessage sender (PrePrepare p.view.0 p.number.0 p.batch.text.items) r (due_work.Row p.number) (record r { orderer = new }) []
 batch_taken r sender p new one (free, were_heard, (claims, adds, is)) bytes h =
-    subst (λ (o : OrdererData). TakesBytes bytes r (touched.Row p.number) (record r { orderer = o }) []) (sym is)
+    subst (λ (o : OrdererData). TakesBytes bytes r (due_work.Row p.number) (record r { orderer = o }) []) (sym is)
     (takes_row r one bytes p.number (with_batch r.orderer.log p.number.0 p.batch.text.items) claims (same_rows r.orderer.log (with_batch r.orderer.log p.number.0 p.batch.text.items).rows) fits.active
     (λ i ne. due_elsewhere r.orderer.log i p.number.0 _ fits.within ne) takes)
   where
@@ -383,19 +383,19 @@ batch_taken r sender p new one (free, were_heard, (claims, adds, is)) bytes h =
     fits : Fitting r.orderer.log (sender.0 == logs.primary r.orderer.log p.view.0) p.view.0 p.number.0
     fits = fitting r.orderer.log _ p.view.0 p.number.0 (no_fault _ beside free)
 
-    takes : (c : Configuration) (past : List Entry) (runs : JoinedMatchesHistory c r past) → members c ≡ r.desk.membership
+    takes : (c : Configuration) (past : List Entry) (runs : BothPartsMatchHistory c r past) → members c ≡ r.desk.membership
         → TakesOne r c past runs bytes (with_batch r.orderer.log p.number.0 p.batch.text.items) claims
     takes c past runs known =
-        let hears = heard_by r one c bytes _ known h in
-        let genuine = ap (λ (m : Membership). are_heard m (me_of r) (requests_of p.batch.text.items)) (known ∙ one.1) ∙ were_heard in
-        let counts = batches_count c (me_of r) r.orderer.log past runs.holds.of_desk.point sender.0 p.view.0 p.number.0 p.batch.text.items bytes runs.holds.of_log.fits hears free genuine in
+        let receives = heard_by r one c bytes _ known h in
+        let genuine = ap (λ (m : Membership). are_authentic m (me_of r) (requests_of p.batch.text.items)) (known ∙ one.1) ∙ were_heard in
+        let counts = batches_count c (me_of r) r.orderer.log past runs.holds.of_desk.point sender.0 p.view.0 p.number.0 p.batch.text.items bytes runs.holds.of_log.fits receives free genuine in
         record {
           takes = counts.1;
-          none = batch_none r bytes c sender.0 p.view.0 p.number.0 p.batch.text.items hears;
-          counts = (record { sender = sender.0; message = PrePrepare p.view.0 p.number.0 p.batch.text.items }, hears, counts.0);
+          none = batch_none r bytes c sender.0 p.view.0 p.number.0 p.batch.text.items receives;
+          counts = (record { sender = sender.0; message = PrePrepare p.view.0 p.number.0 p.batch.text.items }, receives, counts.0);
           changes = λ passes. batches_are_claimed c (me_of r) past (Got (me_of r) bytes) r.orderer.log (changes_held r.orderer) claims sender.0 p.number.0 p.batch.text.items passes fits.within
               (no_batch r.orderer.log p.number.0 fits.within (no_digest (logs.logged_digest r.orderer.log p.number.0) (sha256 p.batch.text.items) (no_fault_later _ beside free)))
-              (hears ∙ ap (λ (v : ℕ). Some (record { sender = sender.0; message = PrePrepare v p.number.0 p.batch.text.items })) fits.view) adds runs.changes;
+              (receives ∙ ap (λ (v : ℕ). Some (record { sender = sender.0; message = PrePrepare v p.number.0 p.batch.text.items })) fits.view) adds runs.changes;
         }
 
 -- ---- messages that no rule takes here
@@ -433,32 +433,32 @@ other_no_call c m s (messages.Page x) below sends other = absurd (other.8 x refl
 other_no_call c m s _ below sends other = record { call = refl; asks = λ st. refl; parts = refl; views = refl; changes = tt }
 
 -- A received message that has no part in the three phases is dropped.
-drops_heard : (r : JoinedData) (bytes : List ℕ) (body : Body) → AreOne r.orderer r.desk → IsBesideLog (Some body) → ((c : Configuration) → IsNoCall c (Some body))
-    → heard r.desk.membership r.desk.me bytes ≡ Some body → TakesBytes bytes r touched.Nothing r []
-drops_heard r bytes body one beside none h = drops r one bytes (λ c past runs known. let hears = heard_by r one c bytes body known h in
-    (others_drop c (me_of r) r.orderer.log past bytes runs.holds.of_log.fits (rw hears beside), rw hears (none c)))
+drops_heard : (r : BothPartsData) (bytes : List ℕ) (body : Body) → AreOne r.orderer r.desk → IsBesideLog (Some body) → ((c : Configuration) → IsNoCall c (Some body))
+    → authentic r.desk.membership r.desk.me bytes ≡ Some body → TakesBytes bytes r due_work.Nothing r []
+drops_heard r bytes body one beside none h = drops r one bytes (λ c past runs known. let receives = heard_by r one c bytes body known h in
+    (others_drop c (me_of r) r.orderer.log past bytes runs.holds.of_log.fits (rw receives beside), rw receives (none c)))
 
-pub other_dropped : (r : JoinedData) (sender : ReplicaId) (m : WireMessage) → AreOne r.orderer r.desk → sender.0 < 256 → IsOther m → TakesMessage sender (message_data m) r touched.Nothing r []
+pub other_dropped : (r : BothPartsData) (sender : ReplicaId) (m : WireMessage) → AreOne r.orderer r.desk → sender.0 < 256 → IsOther m → TakesMessage sender (message_data m) r due_work.Nothing r []
 other_dropped r sender m one below other bytes h =
-    let o = heard_was_opened r.desk.membership r.desk.me bytes (record { sender = sender.0; message = message_data m }) h in
+    let o = authentic_was_opened r.desk.membership r.desk.me bytes (record { sender = sender.0; message = message_data m }) h in
     let sends = subst (λ (b : Body). has_sender r.desk.membership b ≡ true) o.body_is o.opens.sender in
     drops_heard r bytes _ one (other_beside sender.0 m other) (λ c. other_no_call c r.desk.membership sender.0 m below sends other) h
 
 -- ---- nothing, and client messages beside ordered requests
 
-pub silence_dropped : (r : JoinedData) (bytes : List ℕ) → AreOne r.orderer r.desk → heard r.desk.membership r.desk.me bytes ≡ None → TakesBytes bytes r touched.Nothing r []
+pub silence_dropped : (r : BothPartsData) (bytes : List ℕ) → AreOne r.orderer r.desk → authentic r.desk.membership r.desk.me bytes ≡ None → TakesBytes bytes r due_work.Nothing r []
 silence_dropped r bytes one h = drops r one bytes (λ c past runs known. let silent = heard_by_none c known in
     (others_drop c (me_of r) r.orderer.log past bytes runs.holds.of_log.fits (rw silent tt), subst (IsNoCall c) (sym silent) (record { call = refl; asks = λ st. refl; parts = refl; views = refl; changes = tt })))
   where
-    heard_by_none : (c : Configuration) → members c ≡ r.desk.membership → heard (members c) (me_of r) bytes ≡ None
-    heard_by_none c known = ap (λ m. heard m (me_of r) bytes) known ∙ ap (λ (x : ℕ). heard r.desk.membership x bytes) (sym one.0) ∙ h
+    heard_by_none : (c : Configuration) → members c ≡ r.desk.membership → authentic (members c) (me_of r) bytes ≡ None
+    heard_by_none c known = ap (λ m. authentic m (me_of r) bytes) known ∙ ap (λ (x : ℕ). authentic r.desk.membership x bytes) (sym one.0) ∙ h
 
 -- clients send only requests
-pub client_dropped : (r : JoinedData) (k : ℕ) (m : WireMessage) (bytes : List ℕ) → AreOne r.orderer r.desk → has_type_of_requests bytes ≡ false
-    → heard r.desk.membership r.desk.me bytes ≡ Some (record { sender = 256 + k; message = message_data m }) → TakesBytes bytes r touched.Nothing r []
+pub client_dropped : (r : BothPartsData) (k : ℕ) (m : WireMessage) (bytes : List ℕ) → AreOne r.orderer r.desk → has_type_of_requests bytes ≡ false
+    → authentic r.desk.membership r.desk.me bytes ≡ Some (record { sender = 256 + k; message = message_data m }) → TakesBytes bytes r due_work.Nothing r []
 client_dropped r k m bytes one unmarked h = drops r one bytes (λ c past runs known.
-    let hears = heard_by r one c bytes _ known h in
-    let sender = (heard_was_opened (members c) (me_of r) bytes _ hears) in
+    let receives = heard_by r one c bytes _ known h in
+    let sender = (authentic_was_opened (members c) (me_of r) bytes _ receives) in
     absurd (no_sender c past m other runs.holds.of_log.fits (subst (λ (b : Body). has_sender (members c) b ≡ true) sender.body_is sender.opens.sender)))
   where
     other : (x : WireRequest) → m ≡ messages.Request x → ⊥

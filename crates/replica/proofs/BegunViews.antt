@@ -20,7 +20,7 @@ use Rattle.replica_histories.specs.Views.{begun_log, start_due, with_batches}
 use Rattle.replica_histories.proofs.Batches.{stays, begun_active, begun_batch, begun_low}
 use Rattle.replica_histories.proofs.Cutting.{cut_same}
 use Rattle.desk.specs.declared.waiting.BegunCall.{BegunCall}
-use Rattle.replica.specs.State.{JoinedData}
+use Rattle.replica.specs.State.{BothPartsData}
 use Rattle.orderer.specs.State.{OrdererData}
 use Rattle.desk.specs.State.{DeskData, OpenData}
 use Rattle.desk.specs.Waiting.{with_view}
@@ -28,13 +28,13 @@ use Rattle.desk.specs.Desking.{desk_above}
 use Rattle.replica.specs.Desks.{PartsFitEvent}
 use Rattle.replica.specs.EnteringViews.{EntersView, FetchesStart}
 use Rattle.orderer.specs.Fitting.{given, FitsEvent}
-use Rattle.orderer.specs.EnteringViews.{SaysVotesOf, entering}
+use Rattle.orderer.specs.EnterView.{MulticastsVotesOf, entering}
 use Rattle.desk.specs.Begun.{AreBegun}
-use Rattle.replica.specs.Fetching.{SaysFetch}
-use Rattle.desk.specs.Fetching.{aimed_at, aiming, fetch_of}
+use Rattle.replica.specs.Fetching.{MulticastsFetch}
+use Rattle.desk.specs.Fetching.{target_number, with_target, fetch_of}
 use Rattle.desk.specs.DeskOf.{desk_of, IsDeskOf}
 use Rattle.replica.specs.Going.{IsOneParty}
-use Rattle.orderer.specs.Saying.{SaysToOthers}
+use Rattle.orderer.specs.Multicasting.{Multicasts}
 use Rattle.replica.proofs.EnteringViews.{begun_data, begun_desk, begun_is}
 use Rattle.replica.proofs.Following.{aim_of, aimed_same, aims_desk}
 use Rattle.orderer.specs.Going.{KeepsFitting, NoVoteIsDue, IsVotedAll}
@@ -82,19 +82,19 @@ abbrev pub start_of : NewViewData → CheckpointEntry
 start_of new = record { number = new.start; digest = new.root }
 
 -- The replica has begun the view by the new view, and sends the votes that follow.
-pub record Begins (new : NewViewData) (own : Option (List ℕ)) (r : JoinedData) (before : List Output) (n : JoinedData) (after : List Output) : Type 0 where
+pub record Begins (new : NewViewData) (own : Option (List ℕ)) (r : BothPartsData) (before : List Output) (n : BothPartsData) (after : List Output) : Type 0 where
   pub claims : ClaimsData
   pub kept : BeginsClaims r.orderer.log new r.orderer.claims claims
   pub calls : List BegunCall
   pub are : AreBegun r.desk.executed.clients new.batches calls
-  pub fetched : JoinedData
+  pub fetched : BothPartsData
   pub said : List Output
   pub fetches : FetchesStart (start_of new) (record r { orderer = begun_orderer r.orderer new own claims; desk = begun_data (begun_log r.orderer.log new).low calls r.desk }) before fetched said
   pub orderer : OrdererData
-  pub votes : SaysVotesOf new.start (new.start + length new.batches) fetched.orderer said orderer after
+  pub votes : MulticastsVotesOf new.start (new.start + length new.batches) fetched.orderer said orderer after
   pub new_is : n ≡ record fetched { orderer = orderer }
 
-module _ (new : NewViewData) (own : Option (List ℕ)) (r : JoinedData) (before : List Output) (n : JoinedData) (after : List Output) (is : IsLog r.orderer.log) (small : new.start < 2 ^ 48)
+module _ (new : NewViewData) (own : Option (List ℕ)) (r : BothPartsData) (before : List Output) (n : BothPartsData) (after : List Output) (is : IsLog r.orderer.log) (small : new.start < 2 ^ 48)
     (k : EntersView new.view (start_of new) new.batches own r before n after) where
   abbrev last : ℕ
   last = new.start + length new.batches
@@ -112,7 +112,7 @@ module _ (new : NewViewData) (own : Option (List ℕ)) (r : JoinedData) (before 
   cut_orderer = record entered { log = at; claims = claims }
 
   cut_is : k.cut.orderer ≡ cut_orderer
-  cut_is = ap (λ (x : JoinedData). x.orderer) k.cuts.2 ∙ k.cuts.1.2
+  cut_is = ap (λ (x : BothPartsData). x.orderer) k.cuts.2 ∙ k.cuts.1.2
 
   view_is : at.view ≡ new.view
   view_is = cut_same (λ m. m.view) (λ m h rows. refl) (logs.entered r.orderer.log new.view) new.start
@@ -128,13 +128,13 @@ module _ (new : NewViewData) (own : Option (List ℕ)) (r : JoinedData) (before 
   low_is : at.low ≡ (begun_log r.orderer.log new).low
   low_is = sym (stays r.orderer.log new is small).low
 
-  mid_is : ◌≡◌ {A = JoinedData} (record k.cut { orderer = k.logged })
+  mid_is : ◌≡◌ {A = BothPartsData} (record k.cut { orderer = k.logged })
       (record r { orderer = begun_orderer r.orderer new own k.logs.0; desk = begun_data (begun_log r.orderer.log new).low k.noted.calls r.desk })
   mid_is =
-      ap (λ (x : JoinedData). let y : JoinedData = record x { orderer = k.logged } in y) k.cuts.2
-      ∙ ap (λ (x : OrdererData). let y : JoinedData = record r { orderer = x; desk = desk_above at.low k.desk } in y) logged_is
-      ∙ ap (λ (d : DeskData). let y : JoinedData = record r { orderer = begun_orderer r.orderer new own k.logs.0; desk = desk_above at.low d } in y) k.noted.new_is
-      ∙ ap (λ (l : ℕ). let y : JoinedData = record r { orderer = begun_orderer r.orderer new own k.logs.0; desk = begun_data l k.noted.calls r.desk } in y) low_is
+      ap (λ (x : BothPartsData). let y : BothPartsData = record x { orderer = k.logged } in y) k.cuts.2
+      ∙ ap (λ (x : OrdererData). let y : BothPartsData = record r { orderer = x; desk = desk_above at.low k.desk } in y) logged_is
+      ∙ ap (λ (d : DeskData). let y : BothPartsData = record r { orderer = begun_orderer r.orderer new own k.logs.0; desk = desk_above at.low d } in y) k.noted.new_is
+      ∙ ap (λ (l : ℕ). let y : BothPartsData = record r { orderer = begun_orderer r.orderer new own k.logs.0; desk = begun_data l k.noted.calls r.desk } in y) low_is
 
   pub begins : Begins new own r before n after
   begins = record {
@@ -144,7 +144,7 @@ module _ (new : NewViewData) (own : Option (List ℕ)) (r : JoinedData) (before 
     are = k.noted.are;
     fetched = k.fetched;
     said = k.said;
-    fetches = subst (λ (x : JoinedData). FetchesStart (start_of new) x before k.fetched k.said) mid_is k.fetches;
+    fetches = subst (λ (x : BothPartsData). FetchesStart (start_of new) x before k.fetched k.said) mid_is k.fetches;
     orderer = k.orderer;
     votes = k.votes;
     new_is = k.new_is;
@@ -152,7 +152,7 @@ module _ (new : NewViewData) (own : Option (List ℕ)) (r : JoinedData) (before 
 
 -- ---- after the fetch
 
-fetched_from : (entry : CheckpointEntry) (m fetched : JoinedData) (before said : List Output) → FetchesStart entry m before fetched said → FetchedSo m fetched
+fetched_from : (entry : CheckpointEntry) (m fetched : BothPartsData) (before said : List Output) → FetchesStart entry m before fetched said → FetchedSo m fetched
 fetched_from entry m fetched before said (inl h) = subst (FetchedSo m) (sym h.2) (record {
   orderer = refl;
   me = ap (λ (d : DeskData). d.me) h.1.1;
@@ -160,7 +160,7 @@ fetched_from entry m fetched before said (inl h) = subst (FetchedSo m) (sym h.2)
 })
 fetched_from entry m fetched before said (inr h) = subst (FetchedSo m) (sym h.1) (record { orderer = refl; me = refl; membership = refl })
 
-module _ (new : NewViewData) (own : Option (List ℕ)) (r : JoinedData) (before : List Output) (n : JoinedData) (after : List Output) (k : Begins new own r before n after) where
+module _ (new : NewViewData) (own : Option (List ℕ)) (r : BothPartsData) (before : List Output) (n : BothPartsData) (after : List Output) (k : Begins new own r before n after) where
   abbrev me : ℕ
   me = r.orderer.endpoint.me
 
@@ -173,7 +173,7 @@ module _ (new : NewViewData) (own : Option (List ℕ)) (r : JoinedData) (before 
   abbrev the_desk : DeskData
   the_desk = begun_data the_low k.calls r.desk
 
-  abbrev mid : JoinedData
+  abbrev mid : BothPartsData
   mid = record r { orderer = the_orderer; desk = the_desk }
 
   from : FetchedSo mid k.fetched
@@ -187,21 +187,21 @@ module _ (new : NewViewData) (own : Option (List ℕ)) (r : JoinedData) (before 
   })
 
   pub one_target : n.orderer.target ≡ r.orderer.target
-  one_target = ap (λ (y : JoinedData). y.orderer.target) k.new_is ∙ k.votes.same.target ∙ ap (λ (o : OrdererData). o.target) from.orderer
+  one_target = ap (λ (y : BothPartsData). y.orderer.target) k.new_is ∙ k.votes.same.target ∙ ap (λ (o : OrdererData). o.target) from.orderer
 
   pub one_active : IsLog r.orderer.log → new.start < 2 ^ 48 → n.orderer.log.active ≡ true
-  one_active is small = ap (λ (y : JoinedData). y.orderer.log.active) k.new_is ∙ k.votes.same.log.active ∙ ap (λ (o : OrdererData). o.log.active) from.orderer ∙ begun_active r.orderer.log new is small
+  one_active is small = ap (λ (y : BothPartsData). y.orderer.log.active) k.new_is ∙ k.votes.same.log.active ∙ ap (λ (o : OrdererData). o.log.active) from.orderer ∙ begun_active r.orderer.log new is small
 
   pub all_voted : IsLog r.orderer.log → new.start < 2 ^ 48 → IsVotedAll n.orderer.log
   all_voted is small i =
-      subst (λ (x : JoinedData). NoVoteIsDue x.orderer.log i) (sym k.new_is)
+      subst (λ (x : BothPartsData). NoVoteIsDue x.orderer.log i) (sym k.new_is)
       (k.votes.voted i (subst (λ (x : OrdererData). ((new.start < i) × (i ≤ new.start + length new.batches)) ⊎ NoVoteIsDue x.log i) (sym from.orderer) (asks_there r.orderer.log new is small i)))
 
   -- What fits once the view has begun, stands in the end.
   module _ (c : Configuration) (s : Start) (known : members c ≡ r.orderer.endpoint.membership) (own_me : r.desk.me ≡ me) (is : IsDeskOf c r.desk)
       (once : Once (λ past e. taken c past e ≡ Some new) (after_outputs s (given me before)))
       (f : FitsEvent c me s the_orderer (desk_from the_low (desk_of c r.desk)) (with_view k.calls r.desk.waiting) (start_due (desk_of c r.desk) new) before) where
-    with_due : (b : Bool) → nat_lt (aimed_at r.desk) new.start ≡ b
+    with_due : (b : Bool) → nat_lt (target_number r.desk) new.start ≡ b
         → FitsEvent c me s the_orderer (desk_of c the_desk) the_desk.waiting (cond b (Fetch new.start levels.Root 0 ∷ []) []) before
     with_due b e =
         subst (λ (due : List Message). FitsEvent c me s the_orderer (desk_of c the_desk) the_desk.waiting due before)
@@ -209,34 +209,34 @@ module _ (new : NewViewData) (own : Option (List ℕ)) (r : JoinedData) (before 
         (subst (λ (desk : Desk). FitsEvent c me s the_orderer desk the_desk.waiting (start_due (desk_of c r.desk) new) before) (sym (begun_desk c the_low k.calls r.desk)) f)
 
     -- the fetch is sent
-    aimed : (said : List Output) → aimed_at r.desk < new.start → SaysToOthers the_orderer (fetch_of (aim_of (start_of new) the_desk).transfer) before said → PartsFitEvent c s the_orderer (aiming (start_of new) the_desk) [] said
+    aimed : (said : List Output) → target_number r.desk < new.start → Multicasts the_orderer (fetch_of (aim_of (start_of new) the_desk).transfer) before said → PartsFitEvent c s the_orderer (with_target (start_of new) the_desk) [] said
     aimed said ahead says = record {
       is = aims_desk c s the_orderer the_desk the_desk.waiting (start_of new) before said (begun_is c the_low k.calls r.desk is);
-      fits = subst (λ (m : ℕ). FitsEvent c m s the_orderer (desk_of c (aiming (start_of new) the_desk)) the_desk.waiting [] said) (sym own_me)
-          (start_aims c s the_orderer the_desk the_desk.waiting new before said [] known once ahead says (with_due true (lt-ltb (aimed_at r.desk) new.start ahead)));
+      fits = subst (λ (m : ℕ). FitsEvent c m s the_orderer (desk_of c (with_target (start_of new) the_desk)) the_desk.waiting [] said) (sym own_me)
+          (start_aims c s the_orderer the_desk the_desk.waiting new before said [] known once ahead says (with_due true (lt-ltb (target_number r.desk) new.start ahead)));
     }
 
     -- or there is none
-    unaimed : new.start ≤ aimed_at r.desk → PartsFitEvent c s the_orderer the_desk [] before
+    unaimed : new.start ≤ target_number r.desk → PartsFitEvent c s the_orderer the_desk [] before
     unaimed least = record {
       is = begun_is c the_low k.calls r.desk is;
-      fits = subst (λ (m : ℕ). FitsEvent c m s the_orderer (desk_of c the_desk) the_desk.waiting [] before) (sym own_me) (with_due false (le-ltb (aimed_at r.desk) new.start least));
+      fits = subst (λ (m : ℕ). FitsEvent c m s the_orderer (desk_of c the_desk) the_desk.waiting [] before) (sym own_me) (with_due false (le-ltb (target_number r.desk) new.start least));
     }
 
-    says_it : (said : List Output) → aimed_at r.desk < new.start → SaysFetch (record mid { desk = aiming (start_of new) the_desk }) before said → PartsFitEvent c s the_orderer (aiming (start_of new) the_desk) [] said
+    says_it : (said : List Output) → target_number r.desk < new.start → MulticastsFetch (record mid { desk = with_target (start_of new) the_desk }) before said → PartsFitEvent c s the_orderer (with_target (start_of new) the_desk) [] said
     says_it said ahead (inl h) = absurd (let bad : Some (aim_of (start_of new) the_desk) ≡ None = h.0 in cc)
     says_it said ahead (inr h) =
-        aimed said ahead (subst (λ (o : OpenData). SaysToOthers the_orderer (fetch_of o.transfer) before said) (sym (some_injective (aim_of (start_of new) the_desk) h.0 h.1)) h.2)
+        aimed said ahead (subst (λ (o : OpenData). Multicasts the_orderer (fetch_of o.transfer) before said) (sym (some_injective (aim_of (start_of new) the_desk) h.0 h.1)) h.2)
 
-    at_start : (fetched : JoinedData) (said : List Output) → FetchesStart (start_of new) mid before fetched said → PartsFitEvent c s the_orderer fetched.desk [] said
+    at_start : (fetched : BothPartsData) (said : List Output) → FetchesStart (start_of new) mid before fetched said → PartsFitEvent c s the_orderer fetched.desk [] said
     at_start fetched said (inl h) =
-        let same : fetched ≡ record mid { desk = aiming (start_of new) the_desk } = h.2 ∙ ap (λ (d : DeskData). let y : JoinedData = record mid { desk = d } in y) h.1.1 in
-        subst (λ (x : JoinedData). PartsFitEvent c s the_orderer x.desk [] said) (sym same) (says_it said h.1.0 (subst (λ (x : JoinedData). SaysFetch x before said) same h.3))
+        let same : fetched ≡ record mid { desk = with_target (start_of new) the_desk } = h.2 ∙ ap (λ (d : DeskData). let y : BothPartsData = record mid { desk = d } in y) h.1.1 in
+        subst (λ (x : BothPartsData). PartsFitEvent c s the_orderer x.desk [] said) (sym same) (says_it said h.1.0 (subst (λ (x : BothPartsData). MulticastsFetch x before said) same h.3))
     at_start fetched said (inr h) =
-        subst (λ (x : JoinedData). PartsFitEvent c s the_orderer x.desk [] said) (sym h.1) (subst (λ (outs : List Output). PartsFitEvent c s the_orderer the_desk [] outs) (sym h.2) (unaimed h.0))
+        subst (λ (x : BothPartsData). PartsFitEvent c s the_orderer x.desk [] said) (sym h.1) (subst (λ (outs : List Output). PartsFitEvent c s the_orderer the_desk [] outs) (sym h.2) (unaimed h.0))
 
     pub begun_stands : PartsFitEvent c s n.orderer n.desk [] after
-    begun_stands = subst (λ (x : JoinedData). PartsFitEvent c s x.orderer x.desk [] after) (sym k.new_is) (record {
+    begun_stands = subst (λ (x : BothPartsData). PartsFitEvent c s x.orderer x.desk [] after) (sym k.new_is) (record {
       is = st.is;
       fits = subst (λ (m : ℕ). FitsEvent c m s k.orderer (desk_of c k.fetched.desk) k.fetched.desk.waiting [] after) (sym named)
           (goes c s (desk_of c k.fetched.desk) k.fetched.desk.waiting [] known

@@ -2,7 +2,7 @@
 use Rattle.std.proofs.Common.{◌≡◌, ◌∷◌, ℕ, inl, List, [], Some, None, refl, sym, ap, ◌∙◌, subst}
 use Rattle.std.specs.Option.{option_and_then}
 use Rattle.wire_format.specs.Messages.{BodyData as Body, MessageData as Message}
-use Rattle.signing.specs.Heard.{heard}
+use Rattle.signing.specs.AuthenticBody.{authentic}
 use Rattle.protocol.specs.System.Configuration.{Configuration, members}
 use Rattle.protocol.specs.System.Trace.{Entry}
 use Rattle.protocol.specs.System.Trace.Entry.{Got}
@@ -17,11 +17,11 @@ use Rattle.replica_histories.proofs.ChangesKept.{got_keep, others_bring_none}
 use Rattle.replica_histories.specs.Inputs.{IsBesideLog, replies_again, asked_by}
 use Rattle.replica_histories.proofs.Counting.{others_drop}
 use Rattle.replica_histories.proofs.Entering.{inputs_fit}
-use Rattle.replica.specs.declared.taking.Touched.TheVariants as touched
-use Rattle.replica.specs.State.{JoinedData, AreOne}
+use Rattle.replica.specs.declared.taking.DueWork.TheVariants as due_work
+use Rattle.replica.specs.State.{BothPartsData, AreOne}
 use Rattle.orderer.specs.Fitting.{FitsEvent, changes_held}
 use Rattle.replica.specs.Entering.{event_of, TakesBytes}
-use Rattle.replica.specs.Joined.{JoinedMatchesHistory, me_of}
+use Rattle.replica.specs.BothParts.{BothPartsMatchHistory, me_of}
 use Rattle.replica.proofs.Beginning.{rests, changes_kept, none_taken}
 use Rattle.replica.proofs.Parties.{one_self}
 use Rattle.orderer.proofs.Staying.{numbers_beside, said_on}
@@ -36,11 +36,11 @@ pub record IsBeside (c : Configuration) (body : Body) : Type 0 where
   pub views : new_view_from c body ≡ None
   pub changes : IsNoChange (Some body)
 
-module _ (r : JoinedData) (one : AreOne r.orderer r.desk) (c : Configuration) (past : List Entry) (runs : JoinedMatchesHistory c r past) (bytes : List ℕ) (body : Body)
-    (known : members c ≡ r.desk.membership) (hears : heard r.desk.membership r.desk.me bytes ≡ Some body) where
+module _ (r : BothPartsData) (one : AreOne r.orderer r.desk) (c : Configuration) (past : List Entry) (runs : BothPartsMatchHistory c r past) (bytes : List ℕ) (body : Body)
+    (known : members c ≡ r.desk.membership) (receives : authentic r.desk.membership r.desk.me bytes ≡ Some body) where
   -- the desk receives what the orderer does
-  pub heard_so : heard (members c) (me_of r) bytes ≡ Some body
-  heard_so = ap (λ m. heard m (me_of r) bytes) known ∙ ap (λ (x : ℕ). heard r.desk.membership x bytes) (sym one.0) ∙ hears
+  pub heard_so : authentic (members c) (me_of r) bytes ≡ Some body
+  heard_so = ap (λ m. authentic m (me_of r) bytes) known ∙ ap (λ (x : ℕ). authentic r.desk.membership x bytes) (sym one.0) ∙ receives
 
   -- it takes no new view
   pub takes_none : new_view_from c body ≡ None → taken c past (Got (me_of r) bytes) ≡ None
@@ -78,17 +78,17 @@ module _ (r : JoinedData) (one : AreOne r.orderer r.desk) (c : Configuration) (p
       })
 
 -- Such a dropped message changes nothing, and the replica owes nothing for it.
-module _ (r : JoinedData) (one : AreOne r.orderer r.desk) (bytes : List ℕ) (body : Body) (hears : heard r.desk.membership r.desk.me bytes ≡ Some body) where
+module _ (r : BothPartsData) (one : AreOne r.orderer r.desk) (bytes : List ℕ) (body : Body) (receives : authentic r.desk.membership r.desk.me bytes ≡ Some body) where
   pub drops_beside : ((c : Configuration) → IsBeside c body)
-      → ((c : Configuration) (past : List Entry) (runs : JoinedMatchesHistory c r past) → members c ≡ r.desk.membership → AnswersInput c (me_of r) past (Got (me_of r) bytes) [] runs.holds.of_desk.point r.desk.executed.state.number)
-      → TakesBytes bytes r touched.Nothing r []
+      → ((c : Configuration) (past : List Entry) (runs : BothPartsMatchHistory c r past) → members c ≡ r.desk.membership → AnswersInput c (me_of r) past (Got (me_of r) bytes) [] runs.holds.of_desk.point r.desk.executed.state.number)
+      → TakesBytes bytes r due_work.Nothing r []
   drops_beside beside answers = record {
     party = one_self r;
     begins = λ c past runs known. (
       record {
         is = runs.is_desk;
         fits = subst (λ (m : ℕ). FitsEvent c m (event_of c r past runs bytes) r.orderer (desk_of c r.desk) r.desk.waiting [] []) (sym one.0)
-            (begins r one c past runs bytes body known hears (beside c));
+            (begins r one c past runs bytes body known receives (beside c));
       },
       (
         rests c r past runs,

@@ -5,11 +5,11 @@ use Rattle.std.specs.Option.{option_map_or}
 use Rattle.wire_format.specs.Messages.{BodyData as Body, FrameData as Frame, MessageData as Message, ViewChangeData, view_change as ViewChange}
 use Rattle.wire_format.specs.Views.{view_change_data}
 use Rattle.wire_format.proofs.Saying.{reads_frames}
-use Rattle.signing.specs.Heard.{heard}
-use Rattle.signing.proofs.Heard.{heard_was_opened}
+use Rattle.signing.specs.AuthenticBody.{authentic}
+use Rattle.signing.proofs.AuthenticBody.{authentic_was_opened}
 use Rattle.events.specs.declared.output.Output.{Output}
 use Rattle.authenticator.specs.Membership.{Membership}
-use Rattle.posting.specs.Endpoint.{EndpointState}
+use Rattle.frame_endpoint.specs.Endpoint.{EndpointState}
 use Rattle.protocol.specs.System.Configuration.{Configuration, members}
 use Rattle.protocol.specs.System.Trace.{Entry}
 use Rattle.protocol.specs.System.Trace.Entry.{Got}
@@ -35,7 +35,7 @@ use Rattle.replica_histories.specs.Events.{Start, IsTaken, after_outputs}
 use Rattle.replica_histories.specs.Inputs.{IsBesideLog, replies_again}
 use Rattle.replica_histories.specs.Received.{held_view}
 use Rattle.replica_histories.specs.Views.{entries_of}
-use Rattle.replica_histories.proofs.ChangesKept.{heard_are_signed, heard_keep}
+use Rattle.replica_histories.proofs.ChangesKept.{received_are_signed, received_keep}
 use Rattle.replica_histories.proofs.ChangesMade.{changes_are_taken}
 use Rattle.replica_histories.proofs.ChangesPassing.{changes_stay, claims_are_above, inputs_enter}
 use Rattle.replica_histories.proofs.Changing.{view_changes_count}
@@ -45,19 +45,19 @@ use Rattle.replica_histories.proofs.Received.{refused_bring_none}
 use Rattle.replica_histories.proofs.Leaves.{all_are_spent}
 use Rattle.replica_histories.proofs.Questions.{others_owe_no_part}
 use Rattle.replica_histories.proofs.Reasons.{ahead_are_held, joined_one}
-use Rattle.replica.specs.declared.taking.Touched.{Touched}
-use Rattle.replica.specs.declared.taking.Touched.TheVariants as touched
+use Rattle.replica.specs.declared.taking.DueWork.{DueWork}
+use Rattle.replica.specs.declared.taking.DueWork.TheVariants as due_work
 use Rattle.orderer.specs.State.{OrdererData}
-use Rattle.replica.specs.State.{JoinedData, AreOne}
+use Rattle.replica.specs.State.{BothPartsData, AreOne}
 use Rattle.desk.specs.State.{DeskData}
 use Rattle.desk.specs.DeskOf.{desk_of}
 use Rattle.replica.specs.Beginning.{BeginsView, MayBegin, HasNoView}
-use Rattle.orderer.specs.Changing.{IsJoinedBy, IsJoinedByNone, IsUnsayable, aimed_view, change_for}
+use Rattle.orderer.specs.ViewChangeOut.{IsJoinedBy, IsJoinedByNone, IsUnsendable, target_view, change_for}
 use Rattle.replica.specs.Changing.{ChangesView}
 use Rattle.orderer.specs.Fitting.{given, FitsEvent, changes_held}
 use Rattle.replica.specs.Desks.{PartsFitEvent}
 use Rattle.replica.specs.Entering.{event_of, event_with, TakesBytes, TakesInput}
-use Rattle.replica.specs.Joined.{JoinedMatchesHistory, me_of}
+use Rattle.replica.specs.BothParts.{BothPartsMatchHistory, me_of}
 use Rattle.replica.specs.Going.{IsOneParty, NothingIsLeft}
 use Rattle.replica.specs.Numbering.{IsAllNumbered}
 use Rattle.orderer.specs.Receiving.{JudgesAlike, ReceivesViewChange}
@@ -70,9 +70,9 @@ use Rattle.orderer.proofs.Staying.{numbers_alike, numbers_beside, said_on}
 
 -- a received view change is signed
 pub heard_is_signed : (o : OrdererData) (d : DeskData) (x : Change) (frame : List ℕ) → JudgesAlike o → AreOne o d
-    → heard d.membership d.me frame ≡ Some (record { sender = x.sender.0; message = ViewChange (view_change_data x.change) })
+    → authentic d.membership d.me frame ≡ Some (record { sender = x.sender.0; message = ViewChange (view_change_data x.change) })
     → signed_change (judging_configuration o.received) frame ≡ Some (change_pair x)
-heard_is_signed o d x frame rules one h = (rules c one.1 (sym one.2)).signed frame ∙ (heard_are_signed c d.me x.sender.0 (view_change_data x.change) frame h).0
+heard_is_signed o d x frame rules one h = (rules c one.1 (sym one.2)).signed frame ∙ (received_are_signed c d.me x.sender.0 (view_change_data x.change) frame h).0
   where
     c : Configuration
     c = record { faults = d.membership.faults; clients = d.membership.clients; seed = d.membership.seed; period = d.period; faulty_replicas = []; faulty_clients = [] }
@@ -83,14 +83,14 @@ heard_is_signed o d x frame rules one h = (rules c one.1 (sym one.2)).signed fra
 abbrev IsChangeAtMost : ℕ × ViewChangeData → Option Body → Type 0
 IsChangeAtMost x said = (said ≡ None) ⊎ (said ≡ Some (record { sender = x.0; message = ViewChange x.1 }))
 
-change_at_most : (c : Configuration) (me : ℕ) (bytes : List ℕ) (x : ℕ × ViewChangeData) → signed_change c bytes ≡ Some x → IsChangeAtMost x (heard (members c) me bytes)
-change_at_most c me bytes x signed = go (heard (members c) me bytes) refl
+change_at_most : (c : Configuration) (me : ℕ) (bytes : List ℕ) (x : ℕ × ViewChangeData) → signed_change c bytes ≡ Some x → IsChangeAtMost x (authentic (members c) me bytes)
+change_at_most c me bytes x signed = go (authentic (members c) me bytes) refl
   where
-    go : (o : Option Body) → heard (members c) me bytes ≡ o → IsChangeAtMost x o
+    go : (o : Option Body) → authentic (members c) me bytes ≡ o → IsChangeAtMost x o
     go None h = inl refl
     go (Some body) h =
         let is = signed_is c bytes x signed in
-        let opened = heard_was_opened (members c) me bytes body h in
+        let opened = authentic_was_opened (members c) me bytes body h in
         let same : is.frame ≡ opened.frame =
         some_injective is.frame opened.frame (sym ((reads_frames bytes is.frame).1 is.spelled) ∙ (reads_frames bytes opened.frame).1 opened.opens.spelled) in
         let body_is : body ≡ is.frame.body = sym opened.body_is ∙ ap (λ (f : Frame). f.body) (sym same) in
@@ -114,20 +114,20 @@ beside_all c x said (inr h) = subst (IsBesideAll c) (sym h) (record { call = ref
 
 -- ---- an event begins
 
-module _ (r : JoinedData) (one : AreOne r.orderer r.desk) (bytes : List ℕ) where
+module _ (r : BothPartsData) (one : AreOne r.orderer r.desk) (bytes : List ℕ) where
   -- with these stored view changes
   abbrev holding : List (Option HeldData) → OrdererData
   holding held = record r.orderer { received = record r.orderer.received { held = held } }
 
-  module _ (c : Configuration) (past : List Entry) (runs : JoinedMatchesHistory c r past) (x : ℕ × ViewChangeData) (signed : signed_change c bytes ≡ Some x) where
+  module _ (c : Configuration) (past : List Entry) (runs : BothPartsMatchHistory c r past) (x : ℕ × ViewChangeData) (signed : signed_change c bytes ≡ Some x) where
     abbrev me : ℕ
     me = me_of r
 
     abbrev e : Entry
     e = Got me bytes
 
-    beside : IsBesideAll c (heard (members c) me bytes)
-    beside = beside_all c x (heard (members c) me bytes) (change_at_most c me bytes x signed)
+    beside : IsBesideAll c (authentic (members c) me bytes)
+    beside = beside_all c x (authentic (members c) me bytes) (change_at_most c me bytes x signed)
 
     free : taken c past e ≡ None
     free = none_taken c past e beside.views
@@ -167,16 +167,16 @@ some_fault : (o : Option ChangeFault) → o ≢ None → (fault : ChangeFault) �
 some_fault None h = absurd (h refl)
 some_fault (Some x) h = (x, refl)
 
-module _ (r : JoinedData) (one : AreOne r.orderer r.desk) (rules : JudgesAlike r.orderer) (bytes : List ℕ) (x : ℕ × ViewChangeData)
+module _ (r : BothPartsData) (one : AreOne r.orderer r.desk) (rules : JudgesAlike r.orderer) (bytes : List ℕ) (x : ℕ × ViewChangeData)
     (signed : signed_change (judging_configuration r.orderer.received) bytes ≡ Some x) where
-  rule : (c : Configuration) (past : List Entry) → JoinedMatchesHistory c r past → members c ≡ r.desk.membership → HaveOneRule (judging_configuration r.orderer.received) c
+  rule : (c : Configuration) (past : List Entry) → BothPartsMatchHistory c r past → members c ≡ r.desk.membership → HaveOneRule (judging_configuration r.orderer.received) c
   rule c past runs known = rules c (known ∙ one.1) (runs.is_desk.period_is ∙ sym one.2)
 
-  signed_in : (c : Configuration) (past : List Entry) → JoinedMatchesHistory c r past → members c ≡ r.desk.membership → signed_change c bytes ≡ Some x
+  signed_in : (c : Configuration) (past : List Entry) → BothPartsMatchHistory c r past → members c ≡ r.desk.membership → signed_change c bytes ≡ Some x
   signed_in c past runs known = sym ((rule c past runs known).signed bytes) ∙ signed
 
   -- a refused view change gives no reason to move
-  refused_move : ChangesAreJudged → view_change_refusal (judging_configuration r.orderer.received) r.orderer.log.view r.orderer.received.held x ≢ None → (c : Configuration) (past : List Entry) (runs : JoinedMatchesHistory c r past) → members c ≡ r.desk.membership
+  refused_move : ChangesAreJudged → view_change_refusal (judging_configuration r.orderer.received) r.orderer.log.view r.orderer.received.held x ≢ None → (c : Configuration) (past : List Entry) (runs : BothPartsMatchHistory c r past) → members c ≡ r.desk.membership
       → (outputs : List Entry) → OwesViewChange c (me_of r) past (Got (me_of r) bytes) outputs runs.holds.of_desk.point
   refused_move judge faulty c past runs known outputs vc other (inl t) may within says = absurd (no_time c (me_of r) (me_of r) past bytes runs.holds.of_desk.point.waiting vc.view t)
   refused_move judge faulty c past runs known outputs vc other (inr (taken, joins)) may within says = absurd (faulty ((judge (judging_configuration r.orderer.received) r.orderer.log.view r.orderer.received.held x).1 (above, inside, newer)))
@@ -184,7 +184,7 @@ module _ (r : JoinedData) (one : AreOne r.orderer r.desk) (rules : JudgesAlike r
       its : ◌≡◌ {A = ℕ × ViewChangeData} (taken.0, taken.1) x
       its = go (change_at_most c (me_of r) bytes x (signed_in c past runs known))
         where
-          go : IsChangeAtMost x (heard (members c) (me_of r) bytes) → ◌≡◌ {A = ℕ × ViewChangeData} (taken.0, taken.1) x
+          go : IsChangeAtMost x (authentic (members c) (me_of r) bytes) → ◌≡◌ {A = ℕ × ViewChangeData} (taken.0, taken.1) x
           go (inl none) = let bad : false ≡ true = ap is_some (sym none ∙ taken.2) in absurd cc
           go (inr is) =
               let same : ◌≡◌ {A = Body} (record { sender = taken.0; message = ViewChange taken.1 }) (record { sender = x.0; message = ViewChange x.1 }) = some_injective _ _ (sym taken.2 ∙ is) in
@@ -202,7 +202,7 @@ module _ (r : JoinedData) (one : AreOne r.orderer r.desk) (rules : JudgesAlike r
       newer : (h : HeldData) → held_of r.orderer.received.held x.0 ≡ Some h → h.change.view < x.1.view
       newer h there =
           let sender : taken.0 ≡ x.0 = ap (λ (y : ℕ × ViewChangeData). y.0) its in
-          let other : taken.0 ≢ me_of r = (heard_are_signed c (me_of r) taken.0 taken.1 bytes taken.2).1 in
+          let other : taken.0 ≢ me_of r = (received_are_signed c (me_of r) taken.0 taken.1 bytes taken.2).1 in
           let latest : latest_change c past taken.0 ≡ h.change.view =
           runs.changes.received.latest taken.0 other
           ∙ ap (λ (o : Option HeldData). option_map_or (λ (y : HeldData). y.change.view) o 0) (ap (held_of r.orderer.received.held) sender ∙ there) in
@@ -211,7 +211,7 @@ module _ (r : JoinedData) (one : AreOne r.orderer r.desk) (rules : JudgesAlike r
           omega (arith, l, latest, same)
 
   -- A signed view change that is refused changes nothing.
-  refused : ChangesAreJudged → view_change_refusal (judging_configuration r.orderer.received) r.orderer.log.view r.orderer.received.held x ≢ None → TakesBytes bytes r touched.Nothing r []
+  refused : ChangesAreJudged → view_change_refusal (judging_configuration r.orderer.received) r.orderer.log.view r.orderer.received.held x ≢ None → TakesBytes bytes r due_work.Nothing r []
   refused judge faulty = record {
     party = one_self r;
     begins = λ c past runs known.
@@ -227,11 +227,11 @@ module _ (r : JoinedData) (one : AreOne r.orderer r.desk) (rules : JudgesAlike r
         );
   }
     where
-      stays : (c : Configuration) (past : List Entry) (runs : JoinedMatchesHistory c r past) → members c ≡ r.desk.membership
+      stays : (c : Configuration) (past : List Entry) (runs : BothPartsMatchHistory c r past) → members c ≡ r.desk.membership
           → FitsChanges c (me_of r) r.orderer.log (changes_held r.orderer) (Got (me_of r) bytes ∷ past)
       stays c past runs known =
           changes_stay c (me_of r) past (Got (me_of r) bytes) r.orderer.log r.orderer.log (changes_held r.orderer) r.orderer.claims (passes r one bytes c past runs x is) (record { view = refl; active = refl })
-          (heard_keep c (me_of r) past bytes (free r one bytes c past runs x is) (beside r one bytes c past runs x is).batch
+          (received_keep c (me_of r) past bytes (free r one bytes c past runs x is) (beside r one bytes c past runs x is).batch
           (λ s other. refused_bring_none c (me_of r) s bytes past r.orderer.received.held x fault.0 is at other runs.changes.received))
           (claims_are_above c (me_of r) r.orderer.log past r.orderer.claims runs.holds.of_log.fits runs.changes.claims) runs.changes
         where
@@ -246,7 +246,7 @@ module _ (r : JoinedData) (one : AreOne r.orderer r.desk) (rules : JudgesAlike r
               ∙ sym ((rule c past runs known).untaken r.orderer.log.view r.orderer.received.held x) ∙ fault.1
 
 -- One that is stored in these bytes is refused: it is as late as itself.
-pub change_held : (r : JoinedData) (bytes : List ℕ) (h : HeldData) → AreOne r.orderer r.desk → JudgesAlike r.orderer → ChangesAreJudged → IsHeldIn r.orderer.received bytes h → TakesBytes bytes r touched.Nothing r []
+pub change_held : (r : BothPartsData) (bytes : List ℕ) (h : HeldData) → AreOne r.orderer r.desk → JudgesAlike r.orderer → ChangesAreJudged → IsHeldIn r.orderer.received bytes h → TakesBytes bytes r due_work.Nothing r []
 change_held r bytes h one rules judged is = refused r one rules bytes (h.sender, h.change) is.signed judged late
   where
     late : view_change_refusal (judging_configuration r.orderer.received) r.orderer.log.view r.orderer.received.held (h.sender, h.change) ≢ None
@@ -261,22 +261,22 @@ abbrev IsTakenPartless : Configuration → ℕ → Start → Type 0
 IsTakenPartless c me s = IsTaken c me s × (brings_part c me s.input ≡ false)
 
 -- What fits the past fits the event with these outputs, and nothing is left to do.
-record Comes (input : Entry) (old new : JoinedData) (outs : List Output) : Type 0 where
+record Comes (input : Entry) (old new : BothPartsData) (outs : List Output) : Type 0 where
   party : IsOneParty old new
-  begins : (c : Configuration) (past : List Entry) (runs : JoinedMatchesHistory c old past) → members c ≡ old.desk.membership
+  begins : (c : Configuration) (past : List Entry) (runs : BothPartsMatchHistory c old past) → members c ≡ old.desk.membership
       → PartsFitEvent c (event_with c old past runs input) new.orderer new.desk [] outs × NothingIsLeft new × IsAllNumbered new × IsTakenPartless c (me_of new) (event_with c old past runs input)
 
 -- If the replica has to move and its target is this view, the event has what it owes.
-abbrev MovesAt : Entry → JoinedData → ℕ → Type 0
+abbrev MovesAt : Entry → BothPartsData → ℕ → Type 0
 MovesAt input old to =
-    (c : Configuration) (past : List Entry) (runs : JoinedMatchesHistory c old past) → members c ≡ old.desk.membership → (outputs : List Entry)
+    (c : Configuration) (past : List Entry) (runs : BothPartsMatchHistory c old past) → members c ≡ old.desk.membership → (outputs : List Entry)
     → target (after_outputs (event_with c old past runs input) outputs) ≡ to → OwesViewChange c (me_of old) past input outputs runs.holds.of_desk.point
 
-module _ (input : Entry) (old : JoinedData) (alone : AreOne old.orderer old.desk) where
+module _ (input : Entry) (old : BothPartsData) (alone : AreOne old.orderer old.desk) where
   -- the replica may move to a later view, to which others move it
-  moves : (v : ℕ) (a b : JoinedData) (x y : List Output) (flag : Bool) → IsJoinedBy a.orderer v → ChangesView v a x b y flag → Comes input old a x → Comes input old b y
+  moves : (v : ℕ) (a b : BothPartsData) (x y : List Output) (flag : Bool) → IsJoinedBy a.orderer v → ChangesView v a x b y flag → Comes input old a x → Comes input old b y
   moves v a b x y false joined (same, still, unsaid) came =
-      subst (λ (r : JoinedData). Comes input old r y) (sym same) (subst (λ (os : List Output). Comes input old a os) (sym still) came)
+      subst (λ (r : BothPartsData). Comes input old r y) (sym same) (subst (λ (os : List Output). Comes input old a os) (sym still) came)
   moves v a b x y true joined leaves came = record {
     party = ones_twice old a b came.party leaves.party;
     begins = λ c past runs known. let g = came.begins c past runs known in (
@@ -288,7 +288,7 @@ module _ (input : Entry) (old : JoinedData) (alone : AreOne old.orderer old.desk
   }
 
   -- then the event has all that the input asks for
-  answered : (a : JoinedData) (x : List Output) → Comes input old a x → MovesAt input old a.orderer.target → (c : Configuration) (past : List Entry) (runs : JoinedMatchesHistory c old past) → members c ≡ old.desk.membership → (outputs : List Entry) (executed : ℕ)
+  answered : (a : BothPartsData) (x : List Output) → Comes input old a x → MovesAt input old a.orderer.target → (c : Configuration) (past : List Entry) (runs : BothPartsMatchHistory c old past) → members c ≡ old.desk.membership → (outputs : List Entry) (executed : ℕ)
       → target (after_outputs (event_with c old past runs input) outputs) ≡ a.orderer.target → AnswersInput c (me_of old) past input outputs runs.holds.of_desk.point executed
   answered a x came moved c past runs known outputs executed at =
       let partless = subst (λ (e : EndpointState). brings_part c e.me input ≡ false) came.party.endpoint (came.begins c past runs known).3.1 in
@@ -296,7 +296,7 @@ module _ (input : Entry) (old : JoinedData) (alone : AreOne old.orderer old.desk
       (parts.0, parts.1, parts.2, parts.3, parts.4, moved c past runs known outputs at)
 
   -- and may begin it
-  begins_now : (a b : JoinedData) (x y : List Output) → BeginsView a x b y → Comes input old a x → MovesAt input old a.orderer.target → TakesInput input old touched.View b y
+  begins_now : (a b : BothPartsData) (x y : List Output) → BeginsView a x b y → Comes input old a x → MovesAt input old a.orderer.target → TakesInput input old due_work.View b y
   begins_now a b x y begun came moved = record {
     party = ones_twice old a b came.party begun.party;
     begins = λ c past runs known. let g = came.begins c past runs known in (
@@ -313,7 +313,7 @@ module _ (input : Entry) (old : JoinedData) (alone : AreOne old.orderer old.desk
     );
   }
 
-  rests_now : (a : JoinedData) (x : List Output) → HasNoView a → Comes input old a x → MovesAt input old a.orderer.target → TakesInput input old touched.Nothing a x
+  rests_now : (a : BothPartsData) (x : List Output) → HasNoView a → Comes input old a x → MovesAt input old a.orderer.target → TakesInput input old due_work.Nothing a x
   rests_now a x none came moved = record {
     party = came.party;
     begins = λ c past runs known. let g = came.begins c past runs known in (
@@ -330,26 +330,26 @@ module _ (input : Entry) (old : JoinedData) (alone : AreOne old.orderer old.desk
     );
   }
 
-  may_begin : (a b : JoinedData) (x y : List Output) (what : Touched) → MayBegin a x what b y → Comes input old a x → MovesAt input old a.orderer.target → TakesInput input old what b y
-  may_begin a b x y touched.View begun came moved = begins_now a b x y begun came moved
-  may_begin a b x y touched.Nothing (same, still, none) came moved =
-      subst (λ (r : JoinedData). TakesInput input old touched.Nothing r y) (sym same) (subst (λ (os : List Output). TakesInput input old touched.Nothing a os) (sym still) (rests_now a x none came moved))
+  may_begin : (a b : BothPartsData) (x y : List Output) (what : DueWork) → MayBegin a x what b y → Comes input old a x → MovesAt input old a.orderer.target → TakesInput input old what b y
+  may_begin a b x y due_work.View begun came moved = begins_now a b x y begun came moved
+  may_begin a b x y due_work.Nothing (same, still, none) came moved =
+      subst (λ (r : BothPartsData). TakesInput input old due_work.Nothing r y) (sym same) (subst (λ (os : List Output). TakesInput input old due_work.Nothing a os) (sym still) (rests_now a x none came moved))
   may_begin a b x y _ begun came moved = absurd begun
 
 -- others may move it to their view
-pub record Joins (a : JoinedData) (x : List Output) (b : JoinedData) (y : List Output) : Type 0 where
+pub record Joins (a : BothPartsData) (x : List Output) (b : BothPartsData) (y : List Output) : Type 0 where
   pub view : ℕ
   pub joined : IsJoinedBy a.orderer view
   pub flag : Bool
   pub changes : ChangesView view a x b y flag
 
-abbrev pub MayJoin : JoinedData → List Output → JoinedData → List Output → Type 0
+abbrev pub MayJoin : BothPartsData → List Output → BothPartsData → List Output → Type 0
 MayJoin a x b y = Joins a x b y ⊎ ((b ≡ a) × (y ≡ x) × IsJoinedByNone a.orderer)
 
 -- ---- the replica takes it
 
-module _ (r : JoinedData) (x : Change) (bytes : List ℕ) (one : AreOne r.orderer r.desk) (rules : JudgesAlike r.orderer) (judge : ChangesAreJudged)
-    (h : heard r.desk.membership r.desk.me bytes ≡ Some (record { sender = x.sender.0; message = ViewChange (view_change_data x.change) })) where
+module _ (r : BothPartsData) (x : Change) (bytes : List ℕ) (one : AreOne r.orderer r.desk) (rules : JudgesAlike r.orderer) (judge : ChangesAreJudged)
+    (h : authentic r.desk.membership r.desk.me bytes ≡ Some (record { sender = x.sender.0; message = ViewChange (view_change_data x.change) })) where
   abbrev vc : ViewChangeData
   vc = view_change_data x.change
 
@@ -357,7 +357,7 @@ module _ (r : JoinedData) (x : Change) (bytes : List ℕ) (one : AreOne r.ordere
   signed = heard_is_signed r.orderer r.desk x bytes rules one h
 
   module _ (right : view_change_refusal (judging_configuration r.orderer.received) r.orderer.log.view r.orderer.received.held (change_pair x) ≡ None) where
-    abbrev with_it : JoinedData
+    abbrev with_it : BothPartsData
     with_it = record r { orderer = holding r one bytes (with_held (held_as x bytes) r.orderer.received.held) }
 
     judged : (r.orderer.log.view < vc.view) × (is_within (judging_configuration r.orderer.received) vc ≡ true)
@@ -372,18 +372,18 @@ module _ (r : JoinedData) (x : Change) (bytes : List ℕ) (one : AreOne r.ordere
         go None e = let above = judged.0 in omega (arith, above)
         go (Some last) e = judged.2 last e
 
-    module _ (c : Configuration) (past : List Entry) (runs : JoinedMatchesHistory c r past) (known : members c ≡ r.desk.membership) where
-      hears : heard (members c) (me_of r) bytes ≡ Some (record { sender = x.sender.0; message = ViewChange vc })
-      hears = heard_by r one c bytes _ known h
+    module _ (c : Configuration) (past : List Entry) (runs : BothPartsMatchHistory c r past) (known : members c ≡ r.desk.membership) where
+      receives : authentic (members c) (me_of r) bytes ≡ Some (record { sender = x.sender.0; message = ViewChange vc })
+      receives = heard_by r one c bytes _ known h
 
       counts : Counts c (me_of r) past runs.holds.of_desk.point bytes x.sender.0 (ViewChange vc)
       counts = view_changes_count c (me_of r) r.orderer.log past runs.holds.of_desk.point x.sender.0 vc bytes runs.holds.of_log.fits judged.0
           (sym ((rule r one rules bytes (change_pair x) signed c past runs known).within vc) ∙ judged.1)
-          (subst (λ (n : ℕ). n < vc.view) (sym (runs.changes.received.latest x.sender.0 (heard_are_signed c (me_of r) x.sender.0 vc bytes hears).1)) later)
+          (subst (λ (n : ℕ). n < vc.view) (sym (runs.changes.received.latest x.sender.0 (received_are_signed c (me_of r) x.sender.0 vc bytes receives).1)) later)
 
       holds : FitsChanges c (me_of r) r.orderer.log (record (changes_held r.orderer) { held = with_held (held_as x bytes) r.orderer.received.held }) (Got (me_of r) bytes ∷ past)
       holds = changes_are_taken c (me_of r) past r.orderer.log (changes_held r.orderer) x.sender.0 vc bytes
-          (passes r one bytes c past runs (change_pair x) (signed_in r one rules bytes (change_pair x) signed c past runs known)) hears
+          (passes r one bytes c past runs (change_pair x) (signed_in r one rules bytes (change_pair x) signed c past runs known)) receives
           (sym ((rule r one rules bytes (change_pair x) signed c past runs known).untaken r.orderer.log.view r.orderer.received.held (change_pair x)) ∙ right)
           runs.changes
 
@@ -395,7 +395,7 @@ module _ (r : JoinedData) (x : Change) (bytes : List ℕ) (one : AreOne r.ordere
         rests c r past runs,
         runs.all,
         (
-          (record { sender = x.sender.0; message = ViewChange vc }, hears c past runs known, counts c past runs known),
+          (record { sender = x.sender.0; message = ViewChange vc }, receives c past runs known, counts c past runs known),
           (beside r one bytes c past runs (change_pair x) s).parts,
         ),
       );
@@ -403,34 +403,34 @@ module _ (r : JoinedData) (x : Change) (bytes : List ℕ) (one : AreOne r.ordere
 
     -- ---- the view to which others move the replica
 
-    module _ (c : Configuration) (past : List Entry) (runs : JoinedMatchesHistory c r past) (known : members c ≡ r.desk.membership) where
+    module _ (c : Configuration) (past : List Entry) (runs : BothPartsMatchHistory c r past) (known : members c ≡ r.desk.membership) where
       passed : LogPassesEntry c (me_of r) past (Got (me_of r) bytes) r.orderer.log r.orderer.log
       passed = passes r one bytes c past runs (change_pair x) (signed_in r one rules bytes (change_pair x) signed c past runs known)
 
       faults_are : c.faults ≡ r.orderer.endpoint.membership.faults
       faults_are = ap (λ (m : Membership). m.faults) (known ∙ one.1)
 
-      sought_is : sought_view c (Got (me_of r) bytes ∷ past) ≡ aimed_view with_it.orderer
+      sought_is : sought_view c (Got (me_of r) bytes ∷ past) ≡ target_view with_it.orderer
       sought_is = ap₂ (λ (a b : ℕ). max a b) passed.fits_behind.view (holds c past runs known).target
 
       -- the views ahead in the history are those of the stored view changes
       joined : AreHeldFrom (judging_configuration with_it.orderer.received) 0 with_it.orderer.received.held → (v : ℕ) → HasToMove c (me_of r) past (Got (me_of r) bytes) runs.holds.of_desk.point.waiting v
-          → IsJoined r.orderer.endpoint.membership.faults (later_views (me_of r) (aimed_view with_it.orderer) with_it.orderer.received.held) v
+          → IsJoined r.orderer.endpoint.membership.faults (later_views (me_of r) (target_view with_it.orderer) with_it.orderer.received.held) v
       joined each v (inl t) = absurd (no_time c (me_of r) (me_of r) past bytes runs.holds.of_desk.point.waiting v t)
       joined each v (inr (taken, joins)) =
           let f = holds c past runs known in
-          subst (λ (n : ℕ). IsJoined n (later_views (me_of r) (aimed_view with_it.orderer) with_it.orderer.received.held) v) faults_are
+          subst (λ (n : ℕ). IsJoined n (later_views (me_of r) (target_view with_it.orderer) with_it.orderer.received.held) v) faults_are
           (subst (λ (t : ℕ). IsJoined c.faults (later_views (me_of r) t with_it.orderer.received.held) v) sought_is
           (ahead_are_held c (judging_configuration with_it.orderer.received) (me_of r) v (Got (me_of r) bytes ∷ past) with_it.orderer.received.held f.places each joins f.received))
 
       -- none, if a view change for the view can't be sent
-      unsaid_move : (v : ℕ) → IsJoinedBy with_it.orderer v → IsUnsayable with_it.orderer (change_for v (entries_of r.desk.snapshots) with_it.orderer) → (outputs : List Entry)
+      unsaid_move : (v : ℕ) → IsJoinedBy with_it.orderer v → IsUnsendable with_it.orderer (change_for v (entries_of r.desk.snapshots) with_it.orderer) → (outputs : List Entry)
           → OwesViewChange c (me_of r) past (Got (me_of r) bytes) outputs runs.holds.of_desk.point
       unsaid_move v by unsaid outputs other_vc other reason may within says =
           inr (all_are_spent c (me_of r) r.orderer.log (changes_held r.orderer) past spent runs.changes)
         where
           at : other_vc.view ≡ v
-          at = joined_one r.orderer.endpoint.membership.faults other_vc.view v (later_views (me_of r) (aimed_view with_it.orderer) with_it.orderer.received.held) (joined by.0 other_vc.view reason) by.1
+          at = joined_one r.orderer.endpoint.membership.faults other_vc.view v (later_views (me_of r) (target_view with_it.orderer) with_it.orderer.received.held) (joined by.0 other_vc.view reason) by.1
 
           kept : map snapshot_of (kept_states r.orderer.log.low runs.holds.of_desk.point.snapshots) ≡ r.desk.snapshots
           kept = subst (λ (h : ℕ). map snapshot_of (kept_states h runs.holds.of_desk.point.snapshots) ≡ r.desk.snapshots) runs.holds.of_log.fits.low runs.holds.of_desk.kept
@@ -442,12 +442,12 @@ module _ (r : JoinedData) (x : Change) (bytes : List ℕ) (one : AreOne r.ordere
               unsaid other_vc other at may within says
 
     -- what the replica owes if others move it
-    moved_at : (moved : JoinedData) (said : List Output) → MayJoin with_it [] moved said → MovesAt (Got (me_of r) bytes) r moved.orderer.target
+    moved_at : (moved : BothPartsData) (said : List Output) → MayJoin with_it [] moved said → MovesAt (Got (me_of r) bytes) r moved.orderer.target
     moved_at moved said (inl j) = go j.flag j.changes
       where
         go : (flag : Bool) → ChangesView j.view with_it [] moved said flag → MovesAt (Got (me_of r) bytes) r moved.orderer.target
         go true leaves c past runs known outputs at = λ other_vc other reason may within says.
-            let same = joined_one r.orderer.endpoint.membership.faults other_vc.view j.view (later_views (me_of r) (aimed_view with_it.orderer) with_it.orderer.received.held) (joined c past runs known j.joined.0 other_vc.view reason) j.joined.1 in
+            let same = joined_one r.orderer.endpoint.membership.faults other_vc.view j.view (later_views (me_of r) (target_view with_it.orderer) with_it.orderer.received.held) (joined c past runs known j.joined.0 other_vc.view reason) j.joined.1 in
             let to = leaves.target in
             inl (omega (arith, same, to, at))
         go false (same, still, unsaid) c past runs known outputs at = unsaid_move c past runs known j.view j.joined unsaid outputs
@@ -457,7 +457,7 @@ module _ (r : JoinedData) (x : Change) (bytes : List ℕ) (one : AreOne r.ordere
         absurd (omega (arith, many, few))
 
   -- The replica stores it and moves on.
-  pub change_taken : (received : OrdererData) (moved new : JoinedData) (said outs : List Output) (what : Touched) → ReceivesViewChange (held_as x bytes) r.orderer received true
+  pub change_taken : (received : OrdererData) (moved new : BothPartsData) (said outs : List Output) (what : DueWork) → ReceivesViewChange (held_as x bytes) r.orderer received true
       → MayJoin (record r { orderer = received }) [] moved said → MayBegin moved said what new outs → TakesBytes bytes r what new outs
   change_taken received moved new said outs what receives joins begins =
       may_begin (Got (me_of r) bytes) r one moved new said outs what begins (go joins)
@@ -469,10 +469,10 @@ module _ (r : JoinedData) (x : Change) (bytes : List ℕ) (one : AreOne r.ordere
       go : MayJoin (record r { orderer = received }) [] moved said → Comes (Got (me_of r) bytes) r moved said
       go (inl j) = moves (Got (me_of r) bytes) r one j.view (record r { orderer = received }) moved [] said j.flag j.joined j.changes came
       go (inr (same, still, none)) =
-          subst (λ (a : JoinedData). Comes (Got (me_of r) bytes) r a said) (sym same)
+          subst (λ (a : BothPartsData). Comes (Got (me_of r) bytes) r a said) (sym same)
           (subst (λ (os : List Output). Comes (Got (me_of r) bytes) r (record r { orderer = received }) os) (sym still) came)
 
   -- Or it refuses it.
-  pub change_refused : (received : OrdererData) → ReceivesViewChange (held_as x bytes) r.orderer received false → TakesBytes bytes r touched.Nothing (record r { orderer = received }) []
+  pub change_refused : (received : OrdererData) → ReceivesViewChange (held_as x bytes) r.orderer received false → TakesBytes bytes r due_work.Nothing (record r { orderer = received }) []
   change_refused received receives =
-      subst (λ (o : OrdererData). TakesBytes bytes r touched.Nothing (record r { orderer = o }) []) (sym receives.1) (refused r one rules bytes (change_pair x) signed judge receives.0)
+      subst (λ (o : OrdererData). TakesBytes bytes r due_work.Nothing (record r { orderer = o }) []) (sym receives.1) (refused r one rules bytes (change_pair x) signed judge receives.0)

@@ -4,9 +4,9 @@ use Rattle.std.specs.declared.alloc.Global.{Global}
 use Rattle.wire_format.specs.Messages.{CheckpointEntryData as CheckpointEntry, view_change as ViewChange}
 use Rattle.ordering.specs.Log.{left}
 use Rattle.events.specs.declared.output.Output.{Output}
-use Rattle.posting.specs.Endpoint.{says}
+use Rattle.frame_endpoint.specs.Endpoint.{says}
 use Rattle.protocol.specs.System.Configuration.{Configuration, members, replicas}
-use Rattle.protocol.specs.System.Frames.{IsPosted, leaf_of}
+use Rattle.protocol.specs.System.Frames.{IsOutgoing, leaf_of}
 use Rattle.protocol.specs.System.Trace.{Entry}
 use Rattle.protocol.specs.System.Trace.Entry.{Sent}
 use Rattle.protocol.specs.Replica.Certificates.{target, view as in_view, view}
@@ -26,20 +26,20 @@ use Rattle.replica_histories.proofs.Ending.{steps_leave}
 use Rattle.replica_histories.proofs.Leaves.{next_leaf_is_own, next_is_spent}
 use Rattle.replica_histories.proofs.Reasons.{ticks_are_reasons, held_are_joined}
 use Rattle.orderer.specs.State.{OrdererData, IsOrderer}
-use Rattle.replica.specs.State.{JoinedData, AreOne}
+use Rattle.replica.specs.State.{BothPartsData, AreOne}
 use Rattle.desk.specs.declared.waiting.WaitingRequest.{WaitingRequest}
 use Rattle.desk.specs.DeskOf.{waiting_calls, desk_of}
 use Rattle.orderer.specs.Fitting.{given, changes_held, FitsEvent}
 use Rattle.orderer.specs.Going.{IsVotedAll}
-use Rattle.orderer.specs.Claiming.{SaysFrame}
-use Rattle.orderer.specs.Changing.{IsNextView, SignsChange, aimed_view, IsUnsayable, MaySignChange, change_for}
+use Rattle.orderer.specs.Claiming.{MulticastsFrame}
+use Rattle.orderer.specs.ViewChangeOut.{IsNextView, SignsChange, target_view, IsUnsendable, MaySignChange, change_for}
 use Rattle.replica.specs.Changing.{HasReason, LeavesView, ChangesView}
-use Rattle.orderer.proofs.Staying.{gives_one, fits_behind, numbers_beside, sent_beside}
+use Rattle.orderer.proofs.Staying.{emits_one, fits_behind, numbers_beside, sent_beside}
 use Rattle.wire_format.specs.Words.{said}
 
 -- ---- the replica leaves the view
 
-module _ (view : ℕ) (old : JoinedData) (signed : OrdererData) (frame : List ℕ) (one : AreOne old.orderer old.desk) (next : IsNextView old.orderer view)
+module _ (view : ℕ) (old : BothPartsData) (signed : OrdererData) (frame : List ℕ) (one : AreOne old.orderer old.desk) (next : IsNextView old.orderer view)
     (own : IsOrderer old.orderer) (k : SignsChange view (entries_of old.desk.snapshots) old.orderer signed frame) where
   abbrev o : OrdererData
   o = old.orderer
@@ -61,7 +61,7 @@ module _ (view : ℕ) (old : JoinedData) (signed : OrdererData) (frame : List �
     abbrev past : List Entry
     past = after_outputs s (given me before)
 
-    posted : IsPosted c me (ViewChange k.own.change) [] frame
+    posted : IsOutgoing c me (ViewChange k.own.change) [] frame
     posted = k.signed c (known ∙ one.1)
 
     is_view : k.own.change.view ≡ view
@@ -74,7 +74,7 @@ module _ (view : ℕ) (old : JoinedData) (signed : OrdererData) (frame : List �
     faults_are : o.endpoint.membership.faults ≡ c.faults
     faults_are = sym (ap (λ m. m.faults) (known ∙ one.1))
 
-    sought : aimed_view o ≡ sought_view c past
+    sought : target_view o ≡ sought_view c past
     sought = ap₂ (λ (a b : ℕ). max a b) (sym f.fits.of_log.view) (sym f.changes.target)
 
     waits : old.desk.waiting.requests ≢ [] → desk.waiting ≢ []
@@ -127,21 +127,21 @@ module _ (view : ℕ) (old : JoinedData) (signed : OrdererData) (frame : List �
         (subst (λ (b : List ℕ). FitsChanges c me (left o.log) (record (changes_held new) { target = k.own.change.view }) (Sent me b ∷ past)) k.frame_is
         (changes_are_sent c me (o.spent + 1) past o.log (changes_held o) k.own
         (subst (λ (b : List ℕ). LogPassesEntry c me past (Sent me b) o.log (left o.log)) (sym k.frame_is) (outputs_pass c me s desk desk o.log (left o.log) [] [] (given me before) (Sent me frame) f.fits on))
-        place (k.sender ∙ f.fits.of_log.own) (subst (λ (b : List ℕ). IsPosted c me (ViewChange k.own.change) [] b) (sym k.frame_is) posted)
+        place (k.sender ∙ f.fits.of_log.own) (subst (λ (b : List ℕ). IsOutgoing c me (ViewChange k.own.change) [] b) (sym k.frame_is) posted)
         (subst (λ (v : ℕ). target past < v) (sym is_view) newer)
         (next_is_spent me o.spent past k.own.frame (ap leaf_of k.frame_is ∙ k.by_leaf)) f.changes))
 
-    goes : SaysFrame new frame before after → FitsEvent c me s new desk old.desk.waiting [] after
+    goes : MulticastsFrame new frame before after → FitsEvent c me s new desk old.desk.waiting [] after
     goes says =
         fits_behind c me s o new desk desk old.desk.waiting old.desk.waiting [] [] before after (Sent me frame)
-        (gives_one c me before after says.output (Sent me frame) says.given_is says.sends.sends (says.sends.meant c (ViewChange k.own.change) (known ∙ one.1) posted)) refl f on
+        (emits_one c me before after says.output (Sent me frame) says.given_is says.sends.sends (says.sends.meant c (ViewChange k.own.change) (known ∙ one.1) posted)) refl f on
         (numbers_beside c me old.desk.waiting o desk past (Sent me frame) f.fits.of_log.faults f.fits.of_log.own (sent_beside c me (ViewChange k.own.change) [] frame past tt posted) f.numbers) held
 
-  pub leaves_view : (before after : List Output) → SaysFrame (gone signed) frame before after → LeavesView view old before (record old { orderer = gone signed }) after
+  pub leaves_view : (before after : List Output) → MulticastsFrame (gone signed) frame before after → LeavesView view old before (record old { orderer = gone signed }) after
   leaves_view before after says =
-      subst (λ (x : OrdererData). SaysFrame (gone x) frame before after → LeavesView view old before (record old { orderer = gone x }) after) (sym k.new_is) leaves says
+      subst (λ (x : OrdererData). MulticastsFrame (gone x) frame before after → LeavesView view old before (record old { orderer = gone x }) after) (sym k.new_is) leaves says
     where
-      leaves : SaysFrame new frame before after → LeavesView view old before (record old { orderer = new }) after
+      leaves : MulticastsFrame new frame before after → LeavesView view old before (record old { orderer = new }) after
       leaves says = record {
         stands = λ c s known voted reason st. record {
           is = st.is;
@@ -155,17 +155,17 @@ module _ (view : ℕ) (old : JoinedData) (signed : OrdererData) (frame : List �
         executed = λ h. h;
       }
 
-pub leaves_as : (view : ℕ) (old : JoinedData) (signed later : OrdererData) (frame said : List ℕ) (before after : List Output) → AreOne old.orderer old.desk → IsNextView old.orderer view → IsOrderer old.orderer
-    → SignsChange view (entries_of old.desk.snapshots) old.orderer signed frame → later ≡ record signed { log = left signed.log; target = view } → said ≡ frame → SaysFrame later said before after
+pub leaves_as : (view : ℕ) (old : BothPartsData) (signed later : OrdererData) (frame said : List ℕ) (before after : List Output) → AreOne old.orderer old.desk → IsNextView old.orderer view → IsOrderer old.orderer
+    → SignsChange view (entries_of old.desk.snapshots) old.orderer signed frame → later ≡ record signed { log = left signed.log; target = view } → said ≡ frame → MulticastsFrame later said before after
     → LeavesView view old before (record old { orderer = later }) after
 leaves_as view old signed later frame said before after one next own k is same says =
     subst (λ (x : OrdererData). LeavesView view old before (record old { orderer = x }) after) (sym is)
-    (leaves_view view old signed frame one next own k before after (subst (λ (b : List ℕ). SaysFrame (record signed { log = left signed.log; target = view }) b before after) same
-    (subst (λ (x : OrdererData). SaysFrame x said before after) is says)))
+    (leaves_view view old signed frame one next own k before after (subst (λ (b : List ℕ). MulticastsFrame (record signed { log = left signed.log; target = view }) b before after) same
+    (subst (λ (x : OrdererData). MulticastsFrame x said before after) is says)))
 
 -- so the view stays
-pub stays_unsaid : (view : ℕ) (r : JoinedData) (later : OrdererData) (checkpoints : List CheckpointEntry) (frame : Option (Vec ℕ Global)) (outs : List Output) → checkpoints ≡ entries_of r.desk.snapshots → frame ≡ None
+pub stays_unsaid : (view : ℕ) (r : BothPartsData) (later : OrdererData) (checkpoints : List CheckpointEntry) (frame : Option (Vec ℕ Global)) (outs : List Output) → checkpoints ≡ entries_of r.desk.snapshots → frame ≡ None
     → MaySignChange view checkpoints r.orderer later frame → ChangesView view r outs (record r { orderer = later }) outs false
 stays_unsaid view r later checkpoints frame outs are none may =
     let h = subst (MaySignChange view checkpoints r.orderer later) none may in
-    (ap (λ (o : OrdererData). let y : JoinedData = record r { orderer = o } in y) h.0, refl, subst (λ (cs : List CheckpointEntry). IsUnsayable r.orderer (change_for view cs r.orderer)) are h.1)
+    (ap (λ (o : OrdererData). let y : BothPartsData = record r { orderer = o } in y) h.0, refl, subst (λ (cs : List CheckpointEntry). IsUnsendable r.orderer (change_for view cs r.orderer)) are h.1)

@@ -7,12 +7,12 @@ use Rattle.terms.specs.declared.parties.ReplicaId.{ReplicaId}
 use Rattle.terms.specs.declared.state.Level.TheVariants as levels
 use Rattle.wire_format.specs.Messages.{BodyData as Body, MessageData as Message, CheckpointEntryData as CheckpointEntry, checkpoint as Checkpoint, fetch as Fetch}
 use Rattle.wire_format.specs.declared.messages.Checkpoint.{Checkpoint as WireCheckpoint}
-use Rattle.signing.specs.Heard.{heard}
+use Rattle.signing.specs.AuthenticBody.{authentic}
 use Rattle.events.specs.declared.output.Output.{Output}
 use Rattle.ordering.specs.Log as logs
 use Rattle.ordering.specs.Log.{LogData}
 use Rattle.ordering.specs.Keeping.{IsLog}
-use Rattle.ordering.specs.Checkpoints.{says_checkpoint, with_checkpoint}
+use Rattle.ordering.specs.Checkpoints.{lists_checkpoint, with_checkpoint}
 use Rattle.ordering.specs.Taking.{checkpoint_fault}
 use Rattle.ordering.specs.declared.dropped.Dropped.{Dropped}
 use Rattle.protocol.specs.System.Configuration.{Configuration, members}
@@ -25,28 +25,28 @@ use Rattle.replica_histories.specs.Changes.{CutsClaims, FitsChanges, IsNoBatch, 
 use Rattle.replica_histories.specs.Inputs.{fetch_due}
 use Rattle.replica_histories.specs.Marks.{checked_log}
 use Rattle.replica_histories.specs.Transfers.{open_number}
-use Rattle.replica_histories.proofs.ChangesKept.{heard_keep, others_bring_none}
+use Rattle.replica_histories.proofs.ChangesKept.{received_keep, others_bring_none}
 use Rattle.replica_histories.proofs.ChangesPassing.{changes_stay, claims_are_above, inputs_enter}
 use Rattle.replica_histories.proofs.Counting.{checkpoints_count, checkpoints_drop, early_checkpoints_drop}
 use Rattle.replica_histories.proofs.Entering.{checkpoints_enter}
 use Rattle.replica_histories.proofs.Giving.{kept_are_above}
 use Rattle.replica_histories.proofs.Questions.{others_owe_none}
-use Rattle.replica.specs.declared.taking.Touched.TheVariants as touched
+use Rattle.replica.specs.declared.taking.DueWork.TheVariants as due_work
 use Rattle.claims.specs.ClaimsView.{ClaimsData}
 use Rattle.orderer.specs.State.{OrdererData}
-use Rattle.replica.specs.State.{JoinedData, AreOne}
+use Rattle.replica.specs.State.{BothPartsData, AreOne}
 use Rattle.desk.specs.State.{DeskData}
 use Rattle.orderer.specs.Checkpoints.{TakesCheckpoint, counting, said_entry}
-use Rattle.replica.specs.Checkpoints.{StartsTransferIfBehind, SettlesMarks}
+use Rattle.replica.specs.Checkpoints.{StartsTransferIfBehind, StabilizesMarks}
 use Rattle.orderer.specs.Fitting.{given, FitsEvent, changes_held}
 use Rattle.replica.specs.Desks.{PartsFitEvent}
 use Rattle.replica.specs.Beginning.{CannotBegin}
 use Rattle.replica.specs.Entering.{event_of, IsTakenAlone, IsTakenBeside, IsLeftToDo, TakesBytes, TakesMessage}
-use Rattle.desk.specs.Fetching.{aimed_at, aiming}
+use Rattle.desk.specs.Fetching.{target_number, with_target}
 use Rattle.desk.specs.DeskOf.{desk_of}
-use Rattle.replica.specs.Joined.{JoinedMatchesHistory, me_of}
+use Rattle.replica.specs.BothParts.{BothPartsMatchHistory, me_of}
 use Rattle.replica.specs.Going.{AllIsExecuted, IsOneParty, NothingIsLeft}
-use Rattle.orderer.specs.Saying.{SaysToOthers}
+use Rattle.orderer.specs.Multicasting.{Multicasts}
 use Rattle.orderer.specs.Going.{CommitsNoMore, IsSameLog, IsVotedAll}
 use Rattle.replica.proofs.Beginning.{IsNoCall, drops, heard_by, none_taken, rests, some_fault}
 use Rattle.replica.proofs.DueCheckpoints.{cut_commits, cut_voted, either, same_cut, settled_claims, settled_desk, settled_orderer, settled_snapshots}
@@ -104,43 +104,43 @@ none_more old new i no_more none = go (logs.committed_batch new i) refl
 
 -- ---- it comes
 
-module _ (r : JoinedData) (one : AreOne r.orderer r.desk) (s : ℕ) (entry : CheckpointEntry) (bytes : List ℕ)
-    (h : heard r.desk.membership r.desk.me bytes ≡ Some (record { sender = s; message = Checkpoint entry.number entry.digest })) where
+module _ (r : BothPartsData) (one : AreOne r.orderer r.desk) (s : ℕ) (entry : CheckpointEntry) (bytes : List ℕ)
+    (h : authentic r.desk.membership r.desk.me bytes ≡ Some (record { sender = s; message = Checkpoint entry.number entry.digest })) where
   abbrev body : Body
   body = record { sender = s; message = Checkpoint entry.number entry.digest }
 
-  hears : (c : Configuration) → members c ≡ r.desk.membership → heard (members c) (me_of r) bytes ≡ Some body
-  hears c known = heard_by r one c bytes body known h
+  receives : (c : Configuration) → members c ≡ r.desk.membership → authentic (members c) (me_of r) bytes ≡ Some body
+  receives c known = heard_by r one c bytes body known h
 
-  no_call : (c : Configuration) → members c ≡ r.desk.membership → IsNoCall c (heard (members c) (me_of r) bytes)
-  no_call c known = subst (IsNoCall c) (sym (hears c known)) (record { call = refl; asks = λ st. refl; parts = refl; views = refl; changes = tt })
+  no_call : (c : Configuration) → members c ≡ r.desk.membership → IsNoCall c (authentic (members c) (me_of r) bytes)
+  no_call c known = subst (IsNoCall c) (sym (receives c known)) (record { call = refl; asks = λ st. refl; parts = refl; views = refl; changes = tt })
 
   -- it is dropped
-  faulty_dropped : (fault : Dropped) → checkpoint_fault r.orderer.log s entry.number entry.digest ≡ Some fault → TakesBytes bytes r touched.Nothing r []
+  faulty_dropped : (fault : Dropped) → checkpoint_fault r.orderer.log s entry.number entry.digest ≡ Some fault → TakesBytes bytes r due_work.Nothing r []
   faulty_dropped fault is =
-      drops r one bytes (λ c past runs known. (checkpoints_drop c (me_of r) r.orderer.log past s entry bytes fault runs.holds.of_log.fits (hears c known) is, no_call c known))
+      drops r one bytes (λ c past runs known. (checkpoints_drop c (me_of r) r.orderer.log past s entry bytes fault runs.holds.of_log.fits (receives c known) is, no_call c known))
 
   counted_party : IsOneParty r (record r { orderer = counting r.orderer s entry })
   counted_party = record { endpoint = refl; me = refl; membership = refl }
 
-  early_dropped : says_checkpoint entry (logs.checkpoints_of (logs.with_checkpoint_of r.orderer.log s entry) s) ≡ false
-      → TakesBytes bytes r touched.Nothing (record r { orderer = counting r.orderer s entry }) []
+  early_dropped : lists_checkpoint entry (logs.checkpoints_of (logs.with_checkpoint_of r.orderer.log s entry) s) ≡ false
+      → TakesBytes bytes r due_work.Nothing (record r { orderer = counting r.orderer s entry }) []
   early_dropped early = record {
     party = counted_party;
     begins = λ c past runs known.
         subst (λ (log : LogData). let o : OrdererData = record r.orderer { log = log } in PartsFitEvent c (event_of c r past runs bytes) o r.desk [] []
-        × IsLeftToDo c (event_of c r past runs bytes) touched.Nothing (record r { orderer = o }) [] × CannotBegin c o)
-        (sym (early_checkpoints_drop c (me_of r) r.orderer.log past s entry bytes runs.holds.of_log.fits (hears c known) early).0)
+        × IsLeftToDo c (event_of c r past runs bytes) due_work.Nothing (record r { orderer = o }) [] × CannotBegin c o)
+        (sym (early_checkpoints_drop c (me_of r) r.orderer.log past s entry bytes runs.holds.of_log.fits (receives c known) early).0)
         ((drops r one bytes (λ d before held same.
-        ((early_checkpoints_drop d (me_of r) r.orderer.log before s entry bytes held.holds.of_log.fits (hears d same) early).1, no_call d same))).begins c past runs known);
+        ((early_checkpoints_drop d (me_of r) r.orderer.log before s entry bytes held.holds.of_log.fits (receives d same) early).1, no_call d same))).begins c past runs known);
   }
 
   -- or it is counted
-  module _ (none : checkpoint_fault r.orderer.log s entry.number entry.digest ≡ None) (latest : says_checkpoint entry (logs.checkpoints_of (logs.with_checkpoint_of r.orderer.log s entry) s) ≡ true) where
+  module _ (none : checkpoint_fault r.orderer.log s entry.number entry.digest ≡ None) (latest : lists_checkpoint entry (logs.checkpoints_of (logs.with_checkpoint_of r.orderer.log s entry) s) ≡ true) where
     abbrev counted : LogData
     counted = logs.with_checkpoint_of r.orderer.log s entry
 
-    abbrev with_it : JoinedData
+    abbrev with_it : BothPartsData
     with_it = record r { orderer = counting r.orderer s entry }
 
     abbrev after : LogData
@@ -150,13 +150,13 @@ module _ (r : JoinedData) (one : AreOne r.orderer r.desk) (s : ℕ) (entry : Che
     checked claims = record r.orderer { log = after; claims = claims }
 
     -- a rule takes it
-    counts : (c : Configuration) (past : List Entry) (runs : JoinedMatchesHistory c r past) → members c ≡ r.desk.membership → IsTakenBeside c (me_of r) (event_of c r past runs bytes)
+    counts : (c : Configuration) (past : List Entry) (runs : BothPartsMatchHistory c r past) → members c ≡ r.desk.membership → IsTakenBeside c (me_of r) (event_of c r past runs bytes)
     counts c past runs known = (
-      (body, hears c known, checkpoints_count c (me_of r) r.orderer.log past runs.holds.of_desk.point s entry bytes runs.holds.of_log.fits (hears c known) none latest),
+      (body, receives c known, checkpoints_count c (me_of r) r.orderer.log past runs.holds.of_desk.point s entry bytes runs.holds.of_log.fits (receives c known) none latest),
       (no_call c known).parts,
     )
 
-    module _ (c : Configuration) (past : List Entry) (runs : JoinedMatchesHistory c r past) (known : members c ≡ r.desk.membership) (claims : ClaimsData)
+    module _ (c : Configuration) (past : List Entry) (runs : BothPartsMatchHistory c r past) (known : members c ≡ r.desk.membership) (claims : ClaimsData)
         (cuts : CutsClaims r.orderer.log.low r.orderer.claims r.orderer.claims → CutsClaims after.low r.orderer.claims claims) where
       abbrev e : Entry
       e = Got (me_of r) bytes
@@ -165,10 +165,10 @@ module _ (r : JoinedData) (one : AreOne r.orderer r.desk) (s : ℕ) (entry : Che
       free = none_taken c past e (no_call c known).views
 
       fitting : histories.BothFitWithinEvent c (me_of r) (event_of c r past runs bytes) (desk_from after.low (desk_of c r.desk)) after (fetch_due (desk_of c r.desk) counted entry) []
-      fitting = checkpoints_enter c (me_of r) (desk_of c r.desk) r.orderer.log past s entry bytes runs.holds (hears c known) none
+      fitting = checkpoints_enter c (me_of r) (desk_of c r.desk) r.orderer.log past s entry bytes runs.holds (receives c known) none
 
       keeps : KeepsChanges c (me_of r) past e
-      keeps = heard_keep c (me_of r) past bytes free (subst IsNoBatch (sym (hears c known)) tt) (λ other ne. others_bring_none c (me_of r) other past bytes (no_call c known).changes ne)
+      keeps = received_keep c (me_of r) past bytes free (subst IsNoBatch (sym (receives c known)) tt) (λ other ne. others_bring_none c (me_of r) other past bytes (no_call c known).changes ne)
 
       changing : FitsChanges c (me_of r) after (changes_held (checked claims)) (e ∷ past)
       changing = changes_stay c (me_of r) past e r.orderer.log after (changes_held r.orderer) claims
@@ -188,19 +188,19 @@ module _ (r : JoinedData) (one : AreOne r.orderer r.desk) (s : ℕ) (entry : Che
       }
 
     -- the kept states are those from the low mark on
-    kept : (c : Configuration) (past : List Entry) (runs : JoinedMatchesHistory c r past) → kept_from r.orderer.log.low r.desk.snapshots ≡ r.desk.snapshots
+    kept : (c : Configuration) (past : List Entry) (runs : BothPartsMatchHistory c r past) → kept_from r.orderer.log.low r.desk.snapshots ≡ r.desk.snapshots
     kept c past runs =
         let above = kept_are_above c (me_of r) (desk_of c r.desk) r.orderer.log runs.holds.of_desk.point.snapshots past runs.holds.of_log.fits runs.holds.of_desk.kept in
         ap (λ (d : Desk). d.snapshots) above
 
-    module _ (n : JoinedData) (b : Bool) (settles : SettlesMarks entry with_it n b) where
+    module _ (n : BothPartsData) (b : Bool) (settles : StabilizesMarks entry with_it n b) where
       orderer_is : n.orderer ≡ checked n.orderer.claims
       orderer_is = settled_orderer entry with_it n b settles
 
       desk_is : n.desk ≡ record r.desk { snapshots = n.desk.snapshots }
       desk_is = settled_desk entry with_it n b settles
 
-      stands : (c : Configuration) (past : List Entry) (runs : JoinedMatchesHistory c r past) → members c ≡ r.desk.membership
+      stands : (c : Configuration) (past : List Entry) (runs : BothPartsMatchHistory c r past) → members c ≡ r.desk.membership
           → PartsFitEvent c (event_of c r past runs bytes) n.orderer n.desk (fetch_due (desk_of c r.desk) counted entry) []
       stands c past runs known =
           subst (λ (k : OrdererData). PartsFitEvent c (event_of c r past runs bytes) k n.desk (fetch_due (desk_of c r.desk) counted entry) []) (sym orderer_is)
@@ -225,7 +225,7 @@ module _ (r : JoinedData) (one : AreOne r.orderer r.desk) (s : ℕ) (entry : Che
         membership = ap (λ (d : DeskData). d.membership) desk_is;
       }
 
-      rests_on : (c : Configuration) (past : List Entry) (runs : JoinedMatchesHistory c r past) → NothingIsLeft n
+      rests_on : (c : Configuration) (past : List Entry) (runs : BothPartsMatchHistory c r past) → NothingIsLeft n
       rests_on c past runs =
           let before = rests c r past runs in
           let is_log = counted_is_log r.orderer.log s entry runs.holds.of_log.fits.is_log in (
@@ -237,7 +237,7 @@ module _ (r : JoinedData) (one : AreOne r.orderer r.desk) (s : ℕ) (entry : Che
           )
 
     -- The marks move.
-    settled : (n : JoinedData) → SettlesMarks entry with_it n true → TakesBytes bytes r touched.Waiting n []
+    settled : (n : BothPartsData) → StabilizesMarks entry with_it n true → TakesBytes bytes r due_work.Waiting n []
     settled n settles = record {
       party = party n true settles;
       begins = λ c past runs known. (
@@ -249,7 +249,7 @@ module _ (r : JoinedData) (one : AreOne r.orderer r.desk) (s : ℕ) (entry : Che
       );
     }
       where
-        alone : (c : Configuration) (past : List Entry) (runs : JoinedMatchesHistory c r past) → members c ≡ r.desk.membership → IsTakenAlone c (me_of r) (event_of c r past runs bytes)
+        alone : (c : Configuration) (past : List Entry) (runs : BothPartsMatchHistory c r past) → members c ≡ r.desk.membership → IsTakenAlone c (me_of r) (event_of c r past runs bytes)
         alone c past runs known =
             let t = counts c past runs known in
             (t.0, λ outputs executed. others_owe_none c (me_of r) past (Got (me_of r) bytes) outputs runs.holds.of_desk.point executed t.1)
@@ -260,7 +260,7 @@ module _ (r : JoinedData) (one : AreOne r.orderer r.desk) (s : ℕ) (entry : Che
 
     -- Or they don't, and the replica may fetch a state.
     module _ (unstable : logs.is_stable counted entry ≡ false) where
-      waits : (nat_le (2 * counted.faults + 1) (logs.count_checkpoints counted entry) ≡ false) ⊎ (entry.number ≤ aimed_at r.desk) → TakesBytes bytes r touched.Nothing with_it []
+      waits : (nat_le (2 * counted.faults + 1) (logs.count_checkpoints counted entry) ≡ false) ⊎ (entry.number ≤ target_number r.desk) → TakesBytes bytes r due_work.Nothing with_it []
       waits why = record {
         party = counted_party;
         begins = λ c past runs known. (
@@ -270,13 +270,13 @@ module _ (r : JoinedData) (one : AreOne r.orderer r.desk) (s : ℕ) (entry : Che
         );
       }
         where
-          none_now : (c : Configuration) (past : List Entry) (runs : JoinedMatchesHistory c r past)
-              → (nat_le (2 * counted.faults + 1) (logs.count_checkpoints counted entry) ≡ false) ⊎ (entry.number ≤ aimed_at r.desk) → fetch_due (desk_of c r.desk) counted entry ≡ []
+          none_now : (c : Configuration) (past : List Entry) (runs : BothPartsMatchHistory c r past)
+              → (nat_le (2 * counted.faults + 1) (logs.count_checkpoints counted entry) ≡ false) ⊎ (entry.number ≤ target_number r.desk) → fetch_due (desk_of c r.desk) counted entry ≡ []
           none_now c past runs (inl few) = none_for_few (desk_of c r.desk) counted entry unstable few
           none_now c past runs (inr behind) = none_behind (desk_of c r.desk) counted entry unstable (subst (λ (k : ℕ). entry.number ≤ k) (sym (aimed_same r.desk.executed.state.number r.desk.transfer)) behind)
 
-      fetches : (outs : List Output) → nat_le (2 * counted.faults + 1) (logs.count_checkpoints counted entry) ≡ true → aimed_at r.desk < entry.number
-          → SaysToOthers with_it.orderer (Fetch entry.number levels.Root 0) [] outs → TakesBytes bytes r touched.Nothing (record with_it { desk = aiming entry r.desk }) outs
+      fetches : (outs : List Output) → nat_le (2 * counted.faults + 1) (logs.count_checkpoints counted entry) ≡ true → target_number r.desk < entry.number
+          → Multicasts with_it.orderer (Fetch entry.number levels.Root 0) [] outs → TakesBytes bytes r due_work.Nothing (record with_it { desk = with_target entry r.desk }) outs
       fetches outs quorum ahead says = record {
         party = record { endpoint = refl; me = refl; membership = refl };
         begins = λ c past runs known. (
@@ -289,46 +289,46 @@ module _ (r : JoinedData) (one : AreOne r.orderer r.desk) (s : ℕ) (entry : Che
           over : r.orderer.log.low < entry.number
           over = (checkpoint_free r.orderer.log s entry.number entry.digest none).above
 
-          asked : (c : Configuration) (past : List Entry) (runs : JoinedMatchesHistory c r past) → members c ≡ r.desk.membership
-              → PartsFitEvent c (event_of c r past runs bytes) with_it.orderer (aiming entry r.desk) [] outs
+          asked : (c : Configuration) (past : List Entry) (runs : BothPartsMatchHistory c r past) → members c ≡ r.desk.membership
+              → PartsFitEvent c (event_of c r past runs bytes) with_it.orderer (with_target entry r.desk) [] outs
           asked c past runs known =
               let due = one_ahead (desk_of c r.desk) counted entry unstable quorum (subst (λ (k : ℕ). k < entry.number) (sym (aimed_same r.desk.executed.state.number r.desk.transfer)) ahead) in
               let st = subst (λ (due : List Message). PartsFitEvent c (event_of c r past runs bytes) with_it.orderer r.desk due []) due (stands with_it false (unstable, refl) c past runs known) in
               record {
                 is = aims_desk c (event_of c r past runs bytes) with_it.orderer r.desk r.desk.waiting entry [] outs st.is;
-                fits = subst (λ (m : ℕ). FitsEvent c m (event_of c r past runs bytes) with_it.orderer (desk_of c (aiming entry r.desk)) r.desk.waiting [] outs) (sym one.0)
+                fits = subst (λ (m : ℕ). FitsEvent c m (event_of c r past runs bytes) with_it.orderer (desk_of c (with_target entry r.desk)) r.desk.waiting [] outs) (sym one.0)
                     (aims c (event_of c r past runs bytes) with_it.orderer r.desk r.desk.waiting entry [] outs [] (known ∙ one.1)
                     (leb-true (2 * counted.faults + 1) (logs.count_checkpoints counted entry) quorum) over ahead says
                     (subst (λ (m : ℕ). FitsEvent c m (event_of c r past runs bytes) with_it.orderer (desk_of c r.desk) r.desk.waiting (Fetch entry.number levels.Root 0 ∷ []) []) one.0 st.fits));
               }
 
-      followed : (n : JoinedData) (outs : List Output) → StartsTransferIfBehind entry with_it [] n outs → TakesBytes bytes r touched.Nothing n outs
+      followed : (n : BothPartsData) (outs : List Output) → StartsTransferIfBehind entry with_it [] n outs → TakesBytes bytes r due_work.Nothing n outs
       followed n outs (inl (why, same, silent)) =
-          subst (λ (k : JoinedData). TakesBytes bytes r touched.Nothing k outs) (sym same) (subst (λ (os : List Output). TakesBytes bytes r touched.Nothing with_it os) (sym silent) (waits why))
-      followed n outs (inr (quorum, ahead, same, says)) = subst (λ (k : JoinedData). TakesBytes bytes r touched.Nothing k outs) (sym same) (fetches outs quorum ahead says)
+          subst (λ (k : BothPartsData). TakesBytes bytes r due_work.Nothing k outs) (sym same) (subst (λ (os : List Output). TakesBytes bytes r due_work.Nothing with_it os) (sym silent) (waits why))
+      followed n outs (inr (quorum, ahead, same, says)) = subst (λ (k : BothPartsData). TakesBytes bytes r due_work.Nothing k outs) (sym same) (fetches outs quorum ahead says)
 
 -- ---- as the program takes it
 
-module _ (r : JoinedData) (one : AreOne r.orderer r.desk) (sender : ReplicaId) (m : WireCheckpoint) where
-  pub checkpoint_dropped : (o : OrdererData) → TakesCheckpoint r.orderer sender m o false → TakesMessage sender (Checkpoint m.number.0 m.root) r touched.Nothing (record r { orderer = o }) []
+module _ (r : BothPartsData) (one : AreOne r.orderer r.desk) (sender : ReplicaId) (m : WireCheckpoint) where
+  pub checkpoint_dropped : (o : OrdererData) → TakesCheckpoint r.orderer sender m o false → TakesMessage sender (Checkpoint m.number.0 m.root) r due_work.Nothing (record r { orderer = o }) []
   checkpoint_dropped o (inl (fault, same)) bytes h =
       let why = some_fault _ fault in
-      subst (λ (k : OrdererData). TakesBytes bytes r touched.Nothing (record r { orderer = k }) []) (sym same) (faulty_dropped r one sender.0 (said_entry m) bytes h why.0 why.1)
+      subst (λ (k : OrdererData). TakesBytes bytes r due_work.Nothing (record r { orderer = k }) []) (sym same) (faulty_dropped r one sender.0 (said_entry m) bytes h why.0 why.1)
   checkpoint_dropped o (inr (counted, early)) bytes h =
-      subst (λ (k : OrdererData). TakesBytes bytes r touched.Nothing (record r { orderer = k }) []) (sym counted)
-      (early_dropped r one sender.0 (said_entry m) bytes h (subst (λ (k : OrdererData). says_checkpoint (said_entry m) (logs.checkpoints_of k.log sender.0) ≡ false) counted early))
+      subst (λ (k : OrdererData). TakesBytes bytes r due_work.Nothing (record r { orderer = k }) []) (sym counted)
+      (early_dropped r one sender.0 (said_entry m) bytes h (subst (λ (k : OrdererData). lists_checkpoint (said_entry m) (logs.checkpoints_of k.log sender.0) ≡ false) counted early))
 
   module _ (o : OrdererData) (takes : TakesCheckpoint r.orderer sender m o true) where
-    latest_then : says_checkpoint (said_entry m) (logs.checkpoints_of (logs.with_checkpoint_of r.orderer.log sender.0 (said_entry m)) sender.0) ≡ true
-    latest_then = subst (λ (k : OrdererData). says_checkpoint (said_entry m) (logs.checkpoints_of k.log sender.0) ≡ true) takes.1 takes.2
+    latest_then : lists_checkpoint (said_entry m) (logs.checkpoints_of (logs.with_checkpoint_of r.orderer.log sender.0 (said_entry m)) sender.0) ≡ true
+    latest_then = subst (λ (k : OrdererData). lists_checkpoint (said_entry m) (logs.checkpoints_of k.log sender.0) ≡ true) takes.1 takes.2
 
-    pub checkpoint_settled : (n : JoinedData) → SettlesMarks (said_entry m) (record r { orderer = o }) n true → TakesMessage sender (Checkpoint m.number.0 m.root) r touched.Waiting n []
+    pub checkpoint_settled : (n : BothPartsData) → StabilizesMarks (said_entry m) (record r { orderer = o }) n true → TakesMessage sender (Checkpoint m.number.0 m.root) r due_work.Waiting n []
     checkpoint_settled n settles bytes h =
-        settled r one sender.0 (said_entry m) bytes h takes.0 latest_then n (subst (λ (k : OrdererData). SettlesMarks (said_entry m) (record r { orderer = k }) n true) takes.1 settles)
+        settled r one sender.0 (said_entry m) bytes h takes.0 latest_then n (subst (λ (k : OrdererData). StabilizesMarks (said_entry m) (record r { orderer = k }) n true) takes.1 settles)
 
-    pub checkpoint_followed : (x n : JoinedData) (outs : List Output) → SettlesMarks (said_entry m) (record r { orderer = o }) x false → StartsTransferIfBehind (said_entry m) x [] n outs
-        → TakesMessage sender (Checkpoint m.number.0 m.root) r touched.Nothing n outs
+    pub checkpoint_followed : (x n : BothPartsData) (outs : List Output) → StabilizesMarks (said_entry m) (record r { orderer = o }) x false → StartsTransferIfBehind (said_entry m) x [] n outs
+        → TakesMessage sender (Checkpoint m.number.0 m.root) r due_work.Nothing n outs
     checkpoint_followed x n outs settles follows bytes h =
         let unstable = subst (λ (k : OrdererData). logs.is_stable k.log (said_entry m) ≡ false) takes.1 settles.0 in
         let x_is = settles.1 ∙ ap (λ (k : OrdererData). record r { orderer = k }) takes.1 in
-        followed r one sender.0 (said_entry m) bytes h takes.0 latest_then unstable n outs (subst (λ (k : JoinedData). StartsTransferIfBehind (said_entry m) k [] n outs) x_is follows)
+        followed r one sender.0 (said_entry m) bytes h takes.0 latest_then unstable n outs (subst (λ (k : BothPartsData). StartsTransferIfBehind (said_entry m) k [] n outs) x_is follows)

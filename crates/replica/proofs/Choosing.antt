@@ -20,11 +20,11 @@ use Rattle.replica_histories.specs.Changes.{CutsClaims}
 use Rattle.replica_histories.specs.Primaries.{SelectsNothing}
 use Rattle.replica_histories.proofs.Primaries.{fewer_select_nothing}
 use Rattle.orderer.specs.State.{OrdererData, IsOrderer}
-use Rattle.replica.specs.State.{JoinedData, AreOne}
-use Rattle.replica.specs.declared.taking.Touched.TheVariants as touched
+use Rattle.replica.specs.State.{BothPartsData, AreOne}
+use Rattle.replica.specs.declared.taking.DueWork.TheVariants as due_work
 use Rattle.replica.specs.Beginning.{CannotBegin, HasNoView, MayBegin}
-use Rattle.replica.specs.Checkpoints.{SettlesMarks}
-use Rattle.orderer.specs.EnteringViews.{HasNoSelection, MaySignView}
+use Rattle.replica.specs.Checkpoints.{StabilizesMarks}
+use Rattle.orderer.specs.EnterView.{HasNoSelection, MaySignView}
 use Rattle.orderer.specs.Going.{IsSameLog, IsSameOrderer, KeepsChoice}
 use Rattle.replica.specs.Marking.{MovesMarks}
 use Rattle.orderer.proofs.ChangingViews.{of_none}
@@ -38,14 +38,14 @@ cut_choice o log low claims cuts = record {
   logged = λ claim has. has_filter (λ x. x ≡ claim) (λ x. nat_lt low x.number) o.claims.logged (subst (λ (xs : List Claim). Has (λ x. x ≡ claim) xs) cuts.logged has);
 }
 
-moved_choice : (low : ℕ) (old new : JoinedData) → MovesMarks low old new → KeepsChoice old.orderer new.orderer
+moved_choice : (low : ℕ) (old new : BothPartsData) → MovesMarks low old new → KeepsChoice old.orderer new.orderer
 moved_choice low old new (o, (claims, cuts, o_is), new_is) =
-    subst (λ (r : JoinedData). KeepsChoice old.orderer r.orderer) (sym new_is)
+    subst (λ (r : BothPartsData). KeepsChoice old.orderer r.orderer) (sym new_is)
     (subst (λ (x : OrdererData). KeepsChoice old.orderer x) (sym o_is) (cut_choice old.orderer (logs.cut_to old.orderer.log low) (logs.cut_to old.orderer.log low).low claims cuts))
 
-pub settled_choice : (entry : CheckpointEntry) (old new : JoinedData) (b : Bool) → SettlesMarks entry old new b → KeepsChoice old.orderer new.orderer
+pub settled_choice : (entry : CheckpointEntry) (old new : BothPartsData) (b : Bool) → StabilizesMarks entry old new b → KeepsChoice old.orderer new.orderer
 settled_choice entry old new true (stable, moves) = moved_choice entry.number old new moves
-settled_choice entry old new false (unstable, same) = subst (λ (r : JoinedData). KeepsChoice old.orderer r.orderer) (sym same) (same_choice old.orderer)
+settled_choice entry old new false (unstable, same) = subst (λ (r : BothPartsData). KeepsChoice old.orderer r.orderer) (sym same) (same_choice old.orderer)
 
 -- ---- so no view can begin that couldn't before
 
@@ -84,7 +84,7 @@ meets_sized c s view start root set batches faults period =
     let whole : meets c view set start root batches ≡ meets (of_sizes c.faults c.period) view set start root batches = refl in
     whole ∙ ap₂ (λ (n p : ℕ). meets (of_sizes n p) view set start root batches) faults period
 
-pub none_selected : (r : JoinedData) → AreOne r.orderer r.desk → IsOrderer r.orderer → HasNoSelection r.orderer → HasNoView r
+pub none_selected : (r : BothPartsData) → AreOne r.orderer r.desk → IsOrderer r.orderer → HasNoSelection r.orderer → HasNoView r
 none_selected r one own none c known period off mine =
     inl (λ part start root batches is order each.
     meets_sized c r.orderer.received.sizes r.orderer.target start root part batches faults (period ∙ sym one.2) ∙ none off mine part start root batches is order each)
@@ -93,11 +93,11 @@ none_selected r one own none c known period off mine =
     faults = ap (λ (m : Membership). m.faults) (known ∙ one.1) ∙ sym own.3
 
 -- so no view begins, and nothing changes
-pub unselected : (r : JoinedData) (outs : List Output) (o : Option Selection) → AreOne r.orderer r.desk → IsOrderer r.orderer → o ≡ None → IfNone o (HasNoSelection r.orderer) → MayBegin r outs touched.Nothing r outs
+pub unselected : (r : BothPartsData) (outs : List Output) (o : Option Selection) → AreOne r.orderer r.desk → IsOrderer r.orderer → o ≡ None → IfNone o (HasNoSelection r.orderer) → MayBegin r outs due_work.Nothing r outs
 unselected r outs o one own none h = (refl, refl, none_selected r one own (of_none (HasNoSelection r.orderer) o none h))
 
-pub unsigned : (r : JoinedData) (later : OrdererData) (new : NewViewData) (o : Option (Vec ℕ Global)) (outs : List Output) → o ≡ None → MaySignView new r.orderer later o
-    → MayBegin r outs touched.Nothing (record r { orderer = later }) outs
+pub unsigned : (r : BothPartsData) (later : OrdererData) (new : NewViewData) (o : Option (Vec ℕ Global)) (outs : List Output) → o ≡ None → MaySignView new r.orderer later o
+    → MayBegin r outs due_work.Nothing (record r { orderer = later }) outs
 unsigned r later new o outs none may =
     let h = subst (MaySignView new r.orderer later) none may in
-    (ap (λ (x : OrdererData). let y : JoinedData = record r { orderer = x } in y) h.0, refl, λ c known period off mine. inr h.1)
+    (ap (λ (x : OrdererData). let y : BothPartsData = record r { orderer = x } in y) h.0, refl, λ c known period off mine. inr h.1)

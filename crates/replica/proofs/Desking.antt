@@ -40,10 +40,10 @@ use Rattle.desk.specs.Waiting.{frames_waiting, is_new, forgotten}
 use Rattle.orderer.specs.Flags.{FitsFlags}
 use Rattle.replica.specs.Desks.{PartsFitEvent}
 use Rattle.orderer.specs.Fitting.{FitsWaiting, FitsEvent, given}
-use Rattle.desk.specs.Desking.{RepliesAgain, RepliesToAll, RunsBatch, RunsWhole, SaysReply, snapshots_with}
+use Rattle.desk.specs.Desking.{RepliesAgain, RepliesToAll, RunsBatch, RunsWhole, SendsReply, snapshots_with}
 use Rattle.desk.specs.DeskOf.{waiting_call, waiting_calls, desk_of, SpellCalls, IsDeskOf}
 use Rattle.desk.proofs.Running.{behind_run}
-use Rattle.orderer.proofs.Staying.{GivesOne, gives_one, changes_still, executed_beside, fits_behind, fits_on, numbers_beside, sent_beside}
+use Rattle.orderer.proofs.Staying.{EmitsOne, emits_one, changes_still, executed_beside, fits_behind, fits_on, numbers_beside, sent_beside}
 use Rattle.replica.proofs.Newest.{all_kept, all_with}
 use Rattle.orderer.proofs.Parties.{same_log}
 use Rattle.orderer.proofs.Flags.{flags_forgotten}
@@ -64,12 +64,12 @@ reply_for p = reply_of p.0 p.1
 abbrev replies_for : List Ran → List Message
 replies_for ran = map (λ r. reply_for (told r)) ran
 
-pub pays_one : (d : DeskData) (client : ClientId) (kept : Kept) (before after : List Output) → SaysReply d client kept before after → (rest : List Message)
+pub pays_one : (d : DeskData) (client : ClientId) (kept : Kept) (before after : List Output) → SendsReply d client kept before after → (rest : List Message)
     → Pays d (reply_of client.number kept ∷ rest) before rest after
 pays_one d client kept before after r rest c s o known st = record {
   is = st.is;
   fits = fits_on c d.me s o o (desk_of c d) d.waiting (reply ∷ rest) rest before after (Sent d.me r.posts.bytes)
-      (gives_one c d.me before after r.output (Sent d.me r.posts.bytes) r.given_is r.posts.sends (r.posts.meant c known))
+      (emits_one c d.me before after r.output (Sent d.me r.posts.bytes) r.given_is r.posts.sends (r.posts.meant c known))
       (sent_beside c d.me reply ((256 + client.number) ∷ []) r.posts.bytes (after_outputs s (given d.me before)) tt (r.posts.posted c known))
       (sent_keep c d.me (after_outputs s (given d.me before)) reply r.posts.bytes (r.posts.posted c known).says tt (λ signed. absurd cc)) (same_log o.log) refl refl refl refl st.fits
       (replies_fit c d.me s (desk_of c d) o.log rest (given d.me before) client.number kept r.posts.bytes (r.posts.posted c known) st.fits.fits);
@@ -89,7 +89,7 @@ abbrev pub PaysAgain : DeskData → ClientId → Timestamp → List Output → L
 PaysAgain d client timestamp before after =
     Pays d (again_for client.number timestamp.0 (kept_of d.executed.state client.number)) before [] after
 
-pays_again : (d : DeskData) (client : ClientId) (t : ℕ) (kept : Kept) (x y : List Output) → kept_of d.executed.state client.number ≡ Some kept → kept.timestamp ≡ t → SaysReply d client kept x y
+pays_again : (d : DeskData) (client : ClientId) (t : ℕ) (kept : Kept) (x y : List Output) → kept_of d.executed.state client.number ≡ Some kept → kept.timestamp ≡ t → SendsReply d client kept x y
     → Pays d (again_for client.number t (kept_of d.executed.state client.number)) x [] y
 pays_again d client t kept x y has same r c s o known st = pays_one d client kept x y r [] c s o known (subst (λ (ms : List Message). PartsFitEvent c s o d ms x) due st)
   where
@@ -170,7 +170,7 @@ module _ (c : Configuration) (d : DeskData) (text : List ℕ) (ran : List Ran) (
       ap (λ (ms : List Message). ms ++ checkpoint_due c (execute c old text)) (replies_same ran (ran_in c (suc old.number) old (requests_of text)) r.ex.ran)
       ∙ ap (λ (x : State). replies_for ran ++ checkpoint_due c x) (sym r.ex.state)
 
-  module _ (s : Start) (o : OrdererData) (before after : List Output) (gives : GivesOne c d.me before after (Executed d.me (suc old.number) text))
+  module _ (s : Start) (o : OrdererData) (before after : List Output) (gives : EmitsOne c d.me before after (Executed d.me (suc old.number) text))
       (committed : logs.committed_batch o.log (suc old.number) ≡ Some text) (f : FitsEvent c d.me s o (desk_of c d) d.waiting [] before) where
     abbrev e : Entry
     e = Executed d.me (suc old.number) text
@@ -211,7 +211,7 @@ run_stands : (d : DeskData) (executed : ExecutedData) (text : List ℕ) (ran : L
 run_stands d executed text ran output before after c s o own is_state clients few ex number entry more committed st = record {
   is = run_is c d text ran executed run;
   fits = run_fits c d text ran executed run s o before after
-      (gives_one c d.me before after output (Executed d.me (suc d.executed.state.number) text) more entry (executions_meant c d.me (suc d.executed.state.number) text output entry)) committed st.fits;
+      (emits_one c d.me before after output (Executed d.me (suc d.executed.state.number) text) more entry (executions_meant c d.me (suc d.executed.state.number) text output entry)) committed st.fits;
 }
   where
     run : Run c d text ran executed

@@ -13,7 +13,7 @@ use Rattle.protocol.specs.System.Trace.{Entry, Once, Has}
 use Rattle.protocol.specs.System.Trace.Entry.{Sent}
 use Rattle.protocol.specs.Replica.State.{State, root_of}
 use Rattle.protocol.specs.Replica.RightReplica.{Point, MayCheckpoint, others}
-use Rattle.protocol.specs.Replica.Owed.{IsSaying, latest_checkpoint}
+use Rattle.protocol.specs.Replica.Owed.{IsSending, latest_checkpoint}
 use Rattle.protocol.proofs.Words.Options.{some_injective}
 use Rattle.replica_histories.specs.Desk.{Snapshot, Desk, point_of, desk_from, kept_from}
 use Rattle.replica_histories.specs.Events as events
@@ -31,7 +31,7 @@ use Rattle.replica_histories.proofs.ChangesPassing.{claims_are_above, outputs_pa
 use Rattle.replica_histories.proofs.Giving.{checkpoints_fit, kept_are_above}
 use Rattle.claims.specs.ClaimsView.{ClaimsData}
 use Rattle.orderer.specs.State.{OrdererData}
-use Rattle.replica.specs.State.{JoinedData, AreOne}
+use Rattle.replica.specs.State.{BothPartsData, AreOne}
 use Rattle.desk.specs.State.{DeskData}
 use Rattle.desk.specs.Waiting.{WaitingData}
 use Rattle.orderer.specs.Fitting.{given, FitsWaiting, FitsEvent, changes_held}
@@ -40,13 +40,13 @@ use Rattle.orderer.specs.Going.{CommitsNoMore, IsSameLog, IsSameOrderer, IsVoted
 use Rattle.replica.proofs.Choosing.{settled_choice}
 use Rattle.desk.specs.Desking.{due_entry, checkpoint_is_due, newest_entry}
 use Rattle.desk.specs.DeskOf.{desk_of}
-use Rattle.replica.specs.Checkpoints.{IsDueKept, SaysDueCheckpoint, SettlesMarks}
-use Rattle.orderer.specs.Saying.{SaysToOthers}
+use Rattle.replica.specs.Checkpoints.{IsDueKept, MulticastsDueCheckpoint, StabilizesMarks}
+use Rattle.orderer.specs.Multicasting.{Multicasts}
 use Rattle.orderer.proofs.Staying.{numbers_alike, numbers_beside, sent_beside}
 use Rattle.orderer.proofs.Voting.{SaidIn, said_in}
-use Rattle.orderer.specs.Checkpoints.{SaysCheckpoint}
+use Rattle.orderer.specs.Checkpoints.{MulticastsCheckpoint}
 
--- ---- what is due
+-- ---- due messages
 
 -- the checkpoint of a state
 abbrev entry_at : State → CheckpointEntry
@@ -114,7 +114,7 @@ same_checked log entry =
     (let s = same_cut (logs.with_checkpoint_of log log.me entry) entry.number in record { me = s.me; faults = s.faults; span = s.span; view = s.view; active = s.active; low = s.low })
 
 module _ (c : Configuration) (s : Start) (o : OrdererData) (desk : Desk) (w : WaitingData) (entry : CheckpointEntry) (claims : ClaimsData) (before after : List Output) (known : members c ≡ o.endpoint.membership)
-    (says : SaysToOthers o (Checkpoint entry.number entry.digest) before after) (voted : IsVotedAll o.log) (f : FitsEvent c o.endpoint.me s o desk w (Checkpoint entry.number entry.digest ∷ []) before)
+    (says : Multicasts o (Checkpoint entry.number entry.digest) before after) (voted : IsVotedAll o.log) (f : FitsEvent c o.endpoint.me s o desk w (Checkpoint entry.number entry.digest ∷ []) before)
     (cuts : CutsClaims o.log.low o.claims o.claims → CutsClaims (checked_log o.log o.log.me entry).low o.claims claims) (here : entry.number ≡ desk.state.number) where
   abbrev me : ℕ
   me = o.endpoint.me
@@ -156,50 +156,50 @@ module _ (c : Configuration) (s : Start) (o : OrdererData) (desk : Desk) (w : Wa
   says_due = record {
     fits = subst (λ (es : List Entry). events.BothFitWithinEvent c me s later (checking o entry claims).log [] es) (sym said.is.is) fitting;
     numbers = subst (λ (es : List Entry). FitsWaiting c me (checking o entry claims) w later (after_outputs s es)) (sym said.is.is) numbering;
-    said = λ other is. subst (λ (es : List Entry). Once (λ earlier e. IsSaying me (Checkpoint other.number other.digest) e) (after_outputs s es)) (sym said.is.is)
-        (inl (subst (λ (z : CheckpointEntry). IsSaying me (Checkpoint z.number z.digest) (Sent me said.bytes)) (some_injective entry other is) said.posted.says));
+    said = λ other is. subst (λ (es : List Entry). Once (λ earlier e. IsSending me (Checkpoint other.number other.digest) e) (after_outputs s es)) (sym said.is.is)
+        (inl (subst (λ (z : CheckpointEntry). IsSending me (Checkpoint z.number z.digest) (Sent me said.bytes)) (some_injective entry other is) said.posted.says));
     changes = subst (λ (es : List Entry). FitsChanges c me (checking o entry claims).log (changes_held (checking o entry claims)) (after_outputs s es)) (sym said.is.is) changing;
     meant = said.is.meant f.meant;
   }
 
 -- ---- both parts
 
-pub settled_orderer : (entry : CheckpointEntry) (m n : JoinedData) (b : Bool) → SettlesMarks entry m n b
+pub settled_orderer : (entry : CheckpointEntry) (m n : BothPartsData) (b : Bool) → StabilizesMarks entry m n b
     → n.orderer ≡ record m.orderer { log = cut_if_stable m.orderer.log entry; claims = n.orderer.claims }
 settled_orderer entry m n true (stable, (o, (claims, cuts, o_is), moves)) =
-    subst (λ (r : JoinedData). r.orderer ≡ record m.orderer { log = cut_if_stable m.orderer.log entry; claims = r.orderer.claims }) (sym moves)
+    subst (λ (r : BothPartsData). r.orderer ≡ record m.orderer { log = cut_if_stable m.orderer.log entry; claims = r.orderer.claims }) (sym moves)
     (subst (λ (k : OrdererData). k ≡ record m.orderer { log = cut_if_stable m.orderer.log entry; claims = k.claims }) (sym o_is)
     (ap (λ (b : Bool). let k : OrdererData = record m.orderer { log = cond b (logs.cut_to m.orderer.log entry.number) m.orderer.log; claims = claims } in k) (sym stable)))
 settled_orderer entry m n false (stable, same) =
-    subst (λ (r : JoinedData). r.orderer ≡ record m.orderer { log = cut_if_stable m.orderer.log entry; claims = r.orderer.claims }) (sym same)
+    subst (λ (r : BothPartsData). r.orderer ≡ record m.orderer { log = cut_if_stable m.orderer.log entry; claims = r.orderer.claims }) (sym same)
     (ap (λ (b : Bool). let k : OrdererData = record m.orderer { log = cond b (logs.cut_to m.orderer.log entry.number) m.orderer.log } in k) (sym stable))
 
 -- the claims up to the low mark are dropped
-pub settled_claims : (entry : CheckpointEntry) (m n : JoinedData) (b : Bool) → SettlesMarks entry m n b → CutsClaims m.orderer.log.low m.orderer.claims m.orderer.claims
+pub settled_claims : (entry : CheckpointEntry) (m n : BothPartsData) (b : Bool) → StabilizesMarks entry m n b → CutsClaims m.orderer.log.low m.orderer.claims m.orderer.claims
     → CutsClaims (cut_if_stable m.orderer.log entry).low m.orderer.claims n.orderer.claims
 settled_claims entry m n true (stable, (o, (claims, cuts, o_is), moves)) above =
     subst (λ (b : Bool). CutsClaims (cond b (logs.cut_to m.orderer.log entry.number) m.orderer.log).low m.orderer.claims n.orderer.claims) (sym stable)
-    (subst (λ (x : ClaimsData). CutsClaims (logs.cut_to m.orderer.log entry.number).low m.orderer.claims x) (sym (ap (λ (r : JoinedData). r.orderer.claims) moves ∙ ap (λ (k : OrdererData). k.claims) o_is)) cuts)
+    (subst (λ (x : ClaimsData). CutsClaims (logs.cut_to m.orderer.log entry.number).low m.orderer.claims x) (sym (ap (λ (r : BothPartsData). r.orderer.claims) moves ∙ ap (λ (k : OrdererData). k.claims) o_is)) cuts)
 settled_claims entry m n false (stable, same) above =
     subst (λ (b : Bool). CutsClaims (cond b (logs.cut_to m.orderer.log entry.number) m.orderer.log).low m.orderer.claims n.orderer.claims) (sym stable)
-    (subst (λ (r : JoinedData). CutsClaims m.orderer.log.low m.orderer.claims r.orderer.claims) (sym same) above)
+    (subst (λ (r : BothPartsData). CutsClaims m.orderer.log.low m.orderer.claims r.orderer.claims) (sym same) above)
 
-pub settled_desk : (entry : CheckpointEntry) (m n : JoinedData) (b : Bool) → SettlesMarks entry m n b → n.desk ≡ record m.desk { snapshots = n.desk.snapshots }
-settled_desk entry m n true (stable, (o, cuts, moves)) = subst (λ (r : JoinedData). r.desk ≡ record m.desk { snapshots = r.desk.snapshots }) (sym moves) refl
-settled_desk entry m n false (stable, same) = subst (λ (r : JoinedData). r.desk ≡ record m.desk { snapshots = r.desk.snapshots }) (sym same) refl
+pub settled_desk : (entry : CheckpointEntry) (m n : BothPartsData) (b : Bool) → StabilizesMarks entry m n b → n.desk ≡ record m.desk { snapshots = n.desk.snapshots }
+settled_desk entry m n true (stable, (o, cuts, moves)) = subst (λ (r : BothPartsData). r.desk ≡ record m.desk { snapshots = r.desk.snapshots }) (sym moves) refl
+settled_desk entry m n false (stable, same) = subst (λ (r : BothPartsData). r.desk ≡ record m.desk { snapshots = r.desk.snapshots }) (sym same) refl
 
 -- the kept states are those from the mark on
-pub settled_snapshots : (entry : CheckpointEntry) (m n : JoinedData) (b : Bool) → SettlesMarks entry m n b → kept_from m.orderer.log.low m.desk.snapshots ≡ m.desk.snapshots
+pub settled_snapshots : (entry : CheckpointEntry) (m n : BothPartsData) (b : Bool) → StabilizesMarks entry m n b → kept_from m.orderer.log.low m.desk.snapshots ≡ m.desk.snapshots
     → kept_from (cut_if_stable m.orderer.log entry).low m.desk.snapshots ≡ n.desk.snapshots
 settled_snapshots entry m n true (stable, (o, cuts, moves)) kept =
     ap (λ (b : Bool). kept_from (cond b (logs.cut_to m.orderer.log entry.number) m.orderer.log).low m.desk.snapshots) stable
-    ∙ sym (ap (λ (r : JoinedData). r.desk.snapshots) moves)
+    ∙ sym (ap (λ (r : BothPartsData). r.desk.snapshots) moves)
 settled_snapshots entry m n false (stable, same) kept =
     ap (λ (b : Bool). kept_from (cond b (logs.cut_to m.orderer.log entry.number) m.orderer.log).low m.desk.snapshots) stable
-    ∙ kept ∙ sym (ap (λ (r : JoinedData). r.desk.snapshots) same)
+    ∙ kept ∙ sym (ap (λ (r : BothPartsData). r.desk.snapshots) same)
 
-module _ (a : JoinedData) (o : OrdererData) (n : JoinedData) (entry : CheckpointEntry) (x y : List Output) (b : Bool) (one : AreOne a.orderer a.desk) (due : IsDueEntry a.desk entry)
-    (says : SaysCheckpoint entry a.orderer x o y) (settles : SettlesMarks entry (record a { orderer = o }) n b) (is_log : IsLog o.log) where
+module _ (a : BothPartsData) (o : OrdererData) (n : BothPartsData) (entry : CheckpointEntry) (x y : List Output) (b : Bool) (one : AreOne a.orderer a.desk) (due : IsDueEntry a.desk entry)
+    (says : MulticastsCheckpoint entry a.orderer x o y) (settles : StabilizesMarks entry (record a { orderer = o }) n b) (is_log : IsLog o.log) where
   abbrev counted : LogData
   counted = logs.with_checkpoint_of a.orderer.log a.orderer.log.me entry
 
@@ -262,7 +262,7 @@ module _ (a : JoinedData) (o : OrdererData) (n : JoinedData) (entry : Checkpoint
       above : desk_from a.orderer.log.low (desk_of c a.desk) ≡ (desk_of c a.desk)
       above = kept_are_above c a.desk.me (desk_of c a.desk) a.orderer.log st.fits.fits.of_desk.states (after_outputs s (given a.desk.me x)) st.fits.fits.of_log st.fits.fits.of_desk.kept
 
-  pub says_due_checkpoint : SaysDueCheckpoint a x n y
+  pub says_due_checkpoint : MulticastsDueCheckpoint a x n y
   says_due_checkpoint = record {
     stands = due_stands;
     party = record {

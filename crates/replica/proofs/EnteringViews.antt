@@ -12,14 +12,14 @@ use Rattle.replica_histories.specs.Desk.{desk_from}
 use Rattle.replica_histories.proofs.NumbersLists.{pairs_mapped}
 use Rattle.desk.specs.declared.waiting.WaitingRequest.{WaitingRequest}
 use Rattle.orderer.specs.State.{OrdererData}
-use Rattle.replica.specs.State.{JoinedData}
+use Rattle.replica.specs.State.{BothPartsData}
 use Rattle.desk.specs.State.{DeskData}
 use Rattle.desk.specs.Waiting.{renumbered, with_view}
 use Rattle.desk.specs.Desking.{desk_above}
-use Rattle.replica.specs.Fetching.{SaysFetch}
-use Rattle.desk.specs.Fetching.{AimsAt}
+use Rattle.replica.specs.Fetching.{MulticastsFetch}
+use Rattle.desk.specs.Fetching.{SetsTarget}
 use Rattle.replica.specs.Marking.{MovesMarks}
-use Rattle.orderer.specs.EnteringViews.{entering, LogsBatches, SaysVotesOf}
+use Rattle.orderer.specs.EnterView.{entering, LogsBatches, MulticastsVotesOf}
 use Rattle.replica.specs.EnteringViews.{EntersView, FetchesStart}
 use Rattle.desk.specs.Begun.{NotesBegun}
 use Rattle.desk.specs.DeskOf.{waiting_call, desk_of, IsDeskOf}
@@ -49,19 +49,19 @@ begun_desk c low calls d =
 
 -- ---- the fetch of the start
 
-pub fetch_passed : (entry : CheckpointEntry) (r : JoinedData) (d : DeskData) (outs : List Output) → AimsAt entry r.desk d false → FetchesStart entry r outs (record r { desk = d }) outs
+pub fetch_passed : (entry : CheckpointEntry) (r : BothPartsData) (d : DeskData) (outs : List Output) → SetsTarget entry r.desk d false → FetchesStart entry r outs (record r { desk = d }) outs
 fetch_passed entry r d outs aims = inr (aims.0, ap (λ (x : DeskData). record r { desk = x }) aims.1, refl)
 
-pub fetch_started : (entry : CheckpointEntry) (r new : JoinedData) (d : DeskData) (before after : List Output) → AimsAt entry r.desk d true → new ≡ record r { desk = d } → SaysFetch (record r { desk = d }) before after → FetchesStart entry r before new after
-fetch_started entry r new d before after aims same says = inl (d, aims, same, subst (λ (x : JoinedData). SaysFetch x before after) (sym same) says)
+pub fetch_started : (entry : CheckpointEntry) (r new : BothPartsData) (d : DeskData) (before after : List Output) → SetsTarget entry r.desk d true → new ≡ record r { desk = d } → MulticastsFetch (record r { desk = d }) before after → FetchesStart entry r before new after
+fetch_started entry r new d before after aims same says = inl (d, aims, same, subst (λ (x : BothPartsData). MulticastsFetch x before after) (sym same) says)
 
 -- ---- all of it
 
-pub enters_all : (view : ℕ) (start : CheckpointEntry) (texts : List (List ℕ)) (own : Option (List ℕ)) (r : JoinedData) (d : DeskData) (o : OrdererData) (cut : JoinedData) (logged : OrdererData) (fetched : JoinedData) (last : OrdererData)
+pub enters_all : (view : ℕ) (start : CheckpointEntry) (texts : List (List ℕ)) (own : Option (List ℕ)) (r : BothPartsData) (d : DeskData) (o : OrdererData) (cut : BothPartsData) (logged : OrdererData) (fetched : BothPartsData) (last : OrdererData)
     (before said after : List Output)
     → NotesBegun texts r.desk d → o ≡ entering view (start.number + length texts) own r.orderer → MovesMarks start.number (record r { orderer = o; desk = d }) cut
     → LogsBatches (suc start.number) texts cut.orderer logged → FetchesStart start (record cut { orderer = logged }) before fetched said
-    → SaysVotesOf start.number (start.number + length texts) fetched.orderer said last after
+    → MulticastsVotesOf start.number (start.number + length texts) fetched.orderer said last after
     → EntersView view start texts own r before (record fetched { orderer = last }) after
 enters_all view start texts own r d o cut logged fetched last before said after noted is moves logs fetches votes = record {
   desk = d;

@@ -4,13 +4,13 @@ use Rattle.events.specs.declared.output.Output.{Output}
 use Rattle.ordering.specs.Log.{LogData, is_in_marks, replicas, committed_batch, row_decided, row_of}
 use Rattle.replica_histories.proofs.Words.{passed, given_not}
 use Rattle.desk.specs.declared.waiting.WaitingRequest.{WaitingRequest}
-use Rattle.replica.specs.State.{JoinedData}
+use Rattle.replica.specs.State.{BothPartsData}
 use Rattle.desk.specs.State.{DeskData}
 use Rattle.desk.specs.Waiting.{WaitingData, all_unnumbered, count_unnumbered, keeping, is_new}
 use Rattle.orderer.specs.Going.{CommitsNoMore, IsVotedAll}
 use Rattle.replica.specs.Going.{FitIsKept, ExecutesAll, ExecutesNextBatch, AllIsExecuted, IsSameParty}
 use Rattle.desk.specs.Desking.{RunsWhole}
-use Rattle.replica.specs.Checkpoints.{SaysDueCheckpoint}
+use Rattle.replica.specs.Checkpoints.{MulticastsDueCheckpoint}
 use Rattle.replica.proofs.Desking.{RunsOn, runs_on}
 use Rattle.replica.proofs.Parties.{same_party, parties_twice}
 use Rattle.orderer.proofs.Voting.{within}
@@ -67,8 +67,8 @@ forgets_no_more p w = fewer_left p w.requests
 
 -- ---- one batch
 
-pub executes_next : (a : JoinedData) (d : DeskData) (n : JoinedData) (text : List ℕ) (x y z : List Output) → RunsWhole a.desk text x d y
-    → committed_batch a.orderer.log (suc a.desk.executed.state.number) ≡ Some text → SaysDueCheckpoint (record a { desk = d }) y n z → ExecutesNextBatch a x n z
+pub executes_next : (a : BothPartsData) (d : DeskData) (n : BothPartsData) (text : List ℕ) (x y z : List Output) → RunsWhole a.desk text x d y
+    → committed_batch a.orderer.log (suc a.desk.executed.state.number) ≡ Some text → MulticastsDueCheckpoint (record a { desk = d }) y n z → ExecutesNextBatch a x n z
 executes_next a d n text x y z whole h e =
     let r : RunsOn a.desk text x d y = runs_on a.desk d text x y whole in record {
       proceeds = λ voted c s known st.
@@ -91,7 +91,7 @@ executes_next a d n text x y z whole h e =
 -- ---- one after another
 
 -- so many are executed
-pub record ExecutesSoFar (count : ℕ) (old : JoinedData) (before : List Output) (new : JoinedData) (after : List Output) : Type 0 where
+pub record ExecutesSoFar (count : ℕ) (old : BothPartsData) (before : List Output) (new : BothPartsData) (after : List Output) : Type 0 where
   pub proceeds : IsVotedAll old.orderer.log → FitIsKept old before new after
   pub party : IsSameParty old new
   pub used : new.orderer.used ≡ old.orderer.used
@@ -101,7 +101,7 @@ pub record ExecutesSoFar (count : ℕ) (old : JoinedData) (before : List Output)
   pub number : new.desk.executed.state.number ≡ old.desk.executed.state.number + count
   pub low : (count ≡ 0) ⊎ (old.orderer.log.low ≤ old.desk.executed.state.number)
 
-pub none_executed : (a : JoinedData) (x : List Output) → ExecutesSoFar 0 a x a x
+pub none_executed : (a : BothPartsData) (x : List Output) → ExecutesSoFar 0 a x a x
 none_executed a x = record {
   proceeds = λ voted c s known st. st;
   party = same_party a;
@@ -114,12 +114,12 @@ none_executed a x = record {
 }
 
 -- the first execution shows that the low mark is not above it
-low_known : (a b : JoinedData) (count : ℕ) → IsSameParty a b → b.desk.executed.state.number ≡ a.desk.executed.state.number + count → b.orderer.log.low ≤ b.desk.executed.state.number
+low_known : (a b : BothPartsData) (count : ℕ) → IsSameParty a b → b.desk.executed.state.number ≡ a.desk.executed.state.number + count → b.orderer.log.low ≤ b.desk.executed.state.number
     → (count ≡ 0) ⊎ (a.orderer.log.low ≤ a.desk.executed.state.number) → (count + 1 ≡ 0) ⊎ (a.orderer.log.low ≤ a.desk.executed.state.number)
 low_known a b count party at inside (inr low) = inr low
 low_known a b count party at inside (inl none) = let up = party.orderer.log.low in inr (omega (arith, at, inside, none, up))
 
-pub one_executed : (count : ℕ) (a b d : JoinedData) (x y z : List Output) → ExecutesSoFar count a x b y → ExecutesNextBatch b y d z → ExecutesSoFar (count + 1) a x d z
+pub one_executed : (count : ℕ) (a b d : BothPartsData) (x y z : List Output) → ExecutesSoFar count a x b y → ExecutesNextBatch b y d z → ExecutesSoFar (count + 1) a x d z
 one_executed count a b d x y z f e = record {
   proceeds = λ voted c s known st. e.proceeds (f.voted voted) c s (known ∙ sym f.party.membership) (f.proceeds voted c s known st);
   party = parties_twice a b d f.party e.party;
@@ -131,14 +131,14 @@ one_executed count a b d x y z f e = record {
   low = low_known a b count f.party f.number e.within f.low;
 }
 
-executes_all : (count : ℕ) (a b : JoinedData) (x y : List Output) → ExecutesSoFar count a x b y → AllIsExecuted b.orderer.log b.desk → ExecutesAll a x b y
+executes_all : (count : ℕ) (a b : BothPartsData) (x y : List Output) → ExecutesSoFar count a x b y → AllIsExecuted b.orderer.log b.desk → ExecutesAll a x b y
 executes_all count a b x y f none = record { proceeds = f.proceeds; party = f.party; rises = (let at = f.number in omega (arith, at)); used = f.used; waiting = f.waiting; rests = λ voted. (f.voted voted, none) }
 
-pub executes_stop : (count : ℕ) (a b d : JoinedData) (x y z : List Output) → ExecutesSoFar count a x b y → (d ≡ b) × (z ≡ y) × AllIsExecuted b.orderer.log b.desk → ExecutesAll a x d z
+pub executes_stop : (count : ℕ) (a b d : BothPartsData) (x y z : List Output) → ExecutesSoFar count a x b y → (d ≡ b) × (z ≡ y) × AllIsExecuted b.orderer.log b.desk → ExecutesAll a x d z
 executes_stop count a b d x y z f (same, outs, none) =
-    subst (λ (r : JoinedData). ExecutesAll a x r z) (sym same) (subst (λ (o : List Output). ExecutesAll a x b o) (sym outs) (executes_all count a b x y f none))
+    subst (λ (r : BothPartsData). ExecutesAll a x r z) (sym same) (subst (λ (o : List Output). ExecutesAll a x b o) (sym outs) (executes_all count a b x y f none))
 
-pub executes_end : (count : ℕ) (a b : JoinedData) (x y : List Output) → count ≡ a.orderer.log.span → ExecutesSoFar count a x b y → ExecutesAll a x b y
+pub executes_end : (count : ℕ) (a b : BothPartsData) (x y : List Output) → count ≡ a.orderer.log.span → ExecutesSoFar count a x b y → ExecutesAll a x b y
 executes_end count a b x y whole f = executes_all count a b x y f (none_more a.orderer.log b.orderer.log (suc b.desk.executed.state.number) f.commits
     (after_span a.orderer.log a.desk.executed.state.number b.desk.executed.state.number (f.number ∙ ap (λ (n : ℕ). a.desk.executed.state.number + n) whole)
     (subst (λ (n : ℕ). (n ≡ 0) ⊎ (a.orderer.log.low ≤ a.desk.executed.state.number)) whole f.low)))

@@ -19,7 +19,7 @@ use Rattle.desk.specs.State.{DeskData, OpenData}
 use Rattle.desk.specs.Waiting.{WaitingData}
 use Rattle.orderer.specs.Fitting.{given, FitsEvent}
 use Rattle.desk.specs.Fetching.{fetch_of, with_transfer}
-use Rattle.orderer.specs.Saying.{SaysToOthers}
+use Rattle.orderer.specs.Multicasting.{Multicasts}
 use Rattle.desk.specs.Transferring.{IsRestedAt, AsksPlace}
 use Rattle.desk.specs.DeskOf.{desk_of, RestsAt, IsDeskOf}
 use Rattle.orderer.proofs.Voting.{asks}
@@ -97,7 +97,7 @@ module _ (c : Configuration) (s : Start) (o : OrdererData) (d : DeskData) (w : W
       some_same a b e = some_injective a b e
 
   -- the next place is asked for
-  pub asks_next : (m : OpenData) (place : Place) (after : List Output) → members c ≡ o.endpoint.membership → AsksPlace d.executed.state n m (Some place) → SaysToOthers o (fetch_of m.transfer) outs after
+  pub asks_next : (m : OpenData) (place : Place) (after : List Output) → members c ≡ o.endpoint.membership → AsksPlace d.executed.state n m (Some place) → Multicasts o (fetch_of m.transfer) outs after
       → IsDeskOf c (with_transfer m d) × FitsEvent c o.endpoint.me s o (desk_of c (with_transfer m d)) w [] after
   asks_next m place after known (rested, rests, next, m_is, all) says =
       let at = ap (λ (x : OpenData). x.rests_at) m_is ∙ rested_at rested rests in

@@ -9,11 +9,11 @@ use Rattle.replica_histories.proofs.ChangesPassing.{changes_begin}
 use Rattle.replica_histories.specs.Histories.{first_desk}
 use Rattle.replica_histories.proofs.Starting.{first_hold}
 use Rattle.orderer.specs.State.{OrdererData}
-use Rattle.replica.specs.State.{JoinedData}
+use Rattle.replica.specs.State.{BothPartsData}
 use Rattle.orderer.specs.Taking.{IsNewOrderer}
 use Rattle.desk.specs.Desking.{IsNewDesk}
 use Rattle.orderer.proofs.Flags.{flags_first}
-use Rattle.replica.specs.Joined.{JoinedFitsHistory}
+use Rattle.replica.specs.BothParts.{BothPartsFitHistory}
 
 -- a new replica
 module _ (c : Configuration) (me : ℕ) (valid : IsConfiguration c) (mine : me < 3 * c.faults + 1) where
@@ -23,7 +23,7 @@ module _ (c : Configuration) (me : ℕ) (valid : IsConfiguration c) (mine : me <
   first : histories.BothFitBetweenEvents c me first_desk (new_log me c.faults (span c)) []
   first = first_hold c me valid.some_faults valid.most mine few
 
-  pub fits_new : (r : JoinedData) → IsNewOrderer c me r.orderer → IsNewDesk c me r.desk → JoinedFitsHistory c r []
+  pub fits_new : (r : BothPartsData) → IsNewOrderer c me r.orderer → IsNewDesk c me r.desk → BothPartsFitHistory c r []
   fits_new r orders desks = record {
     members_are = sym (ap (λ (o : OrdererData). o.endpoint.membership) orders.0);
     right = tt;

@@ -17,9 +17,9 @@ use Rattle.orderer.specs.State.{OrdererData}
 use Rattle.desk.specs.State.{OpenData, DeskData}
 use Rattle.desk.specs.Waiting.{WaitingData}
 use Rattle.orderer.specs.Fitting.{given, FitsEvent}
-use Rattle.desk.specs.Fetching.{aimed_at, aiming, fetch_of, opened_transfer}
+use Rattle.desk.specs.Fetching.{target_number, with_target, fetch_of, opened_transfer}
 use Rattle.desk.specs.DeskOf.{desk_of, RestsAt, IsDeskOf}
-use Rattle.orderer.specs.Saying.{SaysToOthers}
+use Rattle.orderer.specs.Multicasting.{Multicasts}
 use Rattle.orderer.proofs.Voting.{asks_due}
 
 -- ---- the open transfer
@@ -51,7 +51,7 @@ aimed_same number (Some o) = refl
 -- ---- in an event
 
 module _ (c : Configuration) (s : Start) (o : OrdererData) (d : DeskData) (w : WaitingData) (entry : CheckpointEntry) (before after : List Output) where
-  pub aims_desk : IsDeskOf c d → IsDeskOf c (aiming entry d)
+  pub aims_desk : IsDeskOf c d → IsDeskOf c (with_target entry d)
   aims_desk is = record {
     members_are = is.members_are;
     period_is = is.period_is;
@@ -60,7 +60,7 @@ module _ (c : Configuration) (s : Start) (o : OrdererData) (d : DeskData) (w : W
     differ = is.differ;
   }
 
-  may_ask : (due : List Message) → 2 * o.log.faults + 1 ≤ logs.count_checkpoints o.log entry → o.log.low < entry.number → aimed_at d < entry.number → FitsEvent c o.endpoint.me s o (desk_of c d) w due before
+  may_ask : (due : List Message) → 2 * o.log.faults + 1 ≤ logs.count_checkpoints o.log entry → o.log.low < entry.number → target_number d < entry.number → FitsEvent c o.endpoint.me s o (desk_of c d) w due before
       → TransferMayAsk c o.endpoint.me (aim_of entry d).transfer d.executed.state.number (after_outputs s (given o.endpoint.me before))
       × AsksNext c o.endpoint.me (aim_of entry d).transfer d.executed.state (after_outputs s (given o.endpoint.me before))
   may_ask due enough over ahead f =
@@ -70,12 +70,12 @@ module _ (c : Configuration) (s : Start) (o : OrdererData) (d : DeskData) (w : W
       (subst (λ (n : ℕ). n < entry.number) (sym (aimed_same d.executed.state.number d.transfer)) ahead) f.fits)
 
   -- The due fetch is sent, and the transfer is open after it.
-  pub aims : (rest : List Message) → members c ≡ o.endpoint.membership → 2 * o.log.faults + 1 ≤ logs.count_checkpoints o.log entry → o.log.low < entry.number → aimed_at d < entry.number
-      → SaysToOthers o (Fetch entry.number levels.Root 0) before after → FitsEvent c o.endpoint.me s o (desk_of c d) w (Fetch entry.number levels.Root 0 ∷ rest) before
-      → FitsEvent c o.endpoint.me s o (desk_of c (aiming entry d)) w rest after
+  pub aims : (rest : List Message) → members c ≡ o.endpoint.membership → 2 * o.log.faults + 1 ≤ logs.count_checkpoints o.log entry → o.log.low < entry.number → target_number d < entry.number
+      → Multicasts o (Fetch entry.number levels.Root 0) before after → FitsEvent c o.endpoint.me s o (desk_of c d) w (Fetch entry.number levels.Root 0 ∷ rest) before
+      → FitsEvent c o.endpoint.me s o (desk_of c (with_target entry d)) w rest after
   aims rest known enough over ahead says f =
       let root = sym (asks_root d.executed.state d.transfer entry) in
       let asking = may_ask (Fetch entry.number levels.Root 0 ∷ rest) enough over ahead f in
-      asks_due c s o (desk_of c d) w before after (aim_of entry d).transfer known (subst (λ (m : Message). SaysToOthers o m before after) root says) rest
+      asks_due c s o (desk_of c d) w before after (aim_of entry d).transfer known (subst (λ (m : Message). Multicasts o m before after) root says) rest
       asking.0 asking.1
       (subst (λ (m : Message). FitsEvent c o.endpoint.me s o (desk_of c d) w (m ∷ rest) before) root f)

@@ -4,12 +4,12 @@ use Rattle.std.proofs.lemmas.Bool.{eqb-false}
 use Rattle.events.specs.declared.output.Output.{Output}
 use Rattle.ordering.specs.Log.{LogData}
 use Rattle.orderer.specs.State.{OrdererData}
-use Rattle.replica.specs.State.{JoinedData, AreOne}
+use Rattle.replica.specs.State.{BothPartsData, AreOne}
 use Rattle.protocol.specs.System.Configuration.{Configuration, members}
 use Rattle.replica_histories.specs.Events.{Start}
 use Rattle.replica.specs.Desks.{PartsFitEvent}
 use Rattle.replica.specs.Going.{FitIsKept, ExecutesAll, GoesOnWith}
-use Rattle.orderer.specs.Saying.{GoesAgain, SaysVotes, PostsAll, PostsChange, SaysLastAlso}
+use Rattle.orderer.specs.Multicasting.{GoesAgain, MulticastsVotes, OutputsHaveAll, OutputsHaveViewChange, MulticastsLastAlso}
 use Rattle.desk.specs.DeskOf.{desk_of}
 use Rattle.orderer.specs.Fitting.{FitsEvent}
 use Rattle.orderer.specs.Going.{KeepsFitting, NoVoteIsDue, IsVotedBut, IsVotedAll}
@@ -17,7 +17,7 @@ use Rattle.orderer.proofs.Parties.{orderers_twice}
 use Rattle.replica.specs.Numbering.{AllAgain}
 
 -- what the orderer sends stands on the same desk
-pub said_stands : (a : JoinedData) (o : OrdererData) (x y : List Output) → AreOne a.orderer a.desk → KeepsFitting a.orderer x o y → FitIsKept a x (record a { orderer = o }) y
+pub said_stands : (a : BothPartsData) (o : OrdererData) (x y : List Output) → AreOne a.orderer a.desk → KeepsFitting a.orderer x o y → FitIsKept a x (record a { orderer = o }) y
 said_stands a o x y one goes c s known st = record {
   is = st.is;
   fits = subst (λ (m : ℕ). FitsEvent c m s o (desk_of c a.desk) a.desk.waiting [] y) (sym one.0)
@@ -25,7 +25,7 @@ said_stands a o x y one goes c s known st = record {
 }
 
 -- what the replica sends again, from the event's beginning on
-pub again_stands : (a : JoinedData) (y : List Output) → AreOne a.orderer a.desk → GoesAgain 0 a.orderer [] a.orderer y → (c : Configuration) (s : Start) → members c ≡ a.desk.membership → PartsFitEvent c s a.orderer a.desk [] []
+pub again_stands : (a : BothPartsData) (y : List Output) → AreOne a.orderer a.desk → GoesAgain 0 a.orderer [] a.orderer y → (c : Configuration) (s : Start) → members c ≡ a.desk.membership → PartsFitEvent c s a.orderer a.desk [] []
     → PartsFitEvent c s a.orderer a.desk [] y
 again_stands a y one goes c s known st = record {
   is = st.is;
@@ -41,7 +41,7 @@ all_voted number old new others here but i = go (i == number) refl
     go true e = subst (NoVoteIsDue new) (sym (eqb-true i number e)) here
     go false e = others i (eqb-false i number e) (but i (eqb-false i number e))
 
-pub goes_on_with : (number : ℕ) (a : JoinedData) (o : OrdererData) (d : JoinedData) (x y z : List Output) → AreOne a.orderer a.desk → SaysVotes number a.orderer x o y
+pub goes_on_with : (number : ℕ) (a : BothPartsData) (o : OrdererData) (d : BothPartsData) (x y z : List Output) → AreOne a.orderer a.desk → MulticastsVotes number a.orderer x o y
     → ExecutesAll (record a { orderer = o }) y d z → GoesOnWith number a x d z
 goes_on_with number a o d x y z one v e = record {
   proceeds = λ but c s known st. e.proceeds (voted but) c s known (said_stands a o x y one v.says.goes c s known st);
@@ -61,7 +61,7 @@ goes_on_with number a o d x y z one v e = record {
 
 -- ---- the same with the desk
 
-pub all_again : (a new : JoinedData) (o : OrdererData) (before after : List Output) → a.orderer.log.active ≡ true → SaysLastAlso true 0 (PostsAll a.desk.executed.state.number) a.orderer before o after
+pub all_again : (a new : BothPartsData) (o : OrdererData) (before after : List Output) → a.orderer.log.active ≡ true → MulticastsLastAlso true 0 (OutputsHaveAll a.desk.executed.state.number) a.orderer before o after
     → new ≡ record a { orderer = o } → AllAgain a before new after
 all_again a new o before after at says is = record {
   same = is ∙ ap (λ (k : OrdererData). record a { orderer = k }) says.0.same;
@@ -70,7 +70,7 @@ all_again a new o before after at says is = record {
   inactive = λ inactive. absurd (let bad : true ≡ false = sym at ∙ inactive in cc);
 }
 
-pub change_only : (a new : JoinedData) (o : OrdererData) (before after : List Output) → a.orderer.log.active ≡ false → SaysLastAlso false 0 PostsChange a.orderer before o after → new ≡ record a { orderer = o }
+pub change_only : (a new : BothPartsData) (o : OrdererData) (before after : List Output) → a.orderer.log.active ≡ false → MulticastsLastAlso false 0 OutputsHaveViewChange a.orderer before o after → new ≡ record a { orderer = o }
     → AllAgain a before new after
 change_only a new o before after at says is = record {
   same = is ∙ ap (λ (k : OrdererData). record a { orderer = k }) says.0.same;

@@ -6,7 +6,7 @@ use Rattle.quorum.specs.Votes.{or_else}
 use Rattle.wire_format.specs.Messages.{BodyData as Body, MessageData as Message, ViewChangeData, request as Request, reply as Reply}
 use Rattle.protocol.specs.System.Configuration.{Configuration, members}
 use Rattle.wire_format.specs.Words.{said, carried}
-use Rattle.signing.specs.Heard.{heard, signed_body}
+use Rattle.signing.specs.AuthenticBody.{authentic, signed_body}
 use Rattle.protocol.specs.System.Trace.{Entry, Once, Has, frames_in}
 use Rattle.protocol.specs.System.Trace.Entry.{Got, Sent}
 use Rattle.protocol.specs.Replica.Selection.{change_in, signed_change, is_within}
@@ -86,7 +86,7 @@ only_whole whole frame quiet (inr h) = absurd (go (said whole) quiet h)
 
 module _ (c : Configuration) (me p : ℕ) (bytes : List ℕ) where
   module _ (all : (body : Body) → said bytes ≡ Some body → OrdersNothing body.message) where
-    quiet : (body : Body) → heard (members c) p bytes ≡ Some body → OrdersNothing body.message
+    quiet : (body : Body) → authentic (members c) p bytes ≡ Some body → OrdersNothing body.message
     quiet body is = all body (heard_said c p bytes body is)
 
     signed_quiet : (body : Body) → signed_body (members c) bytes ≡ Some body → OrdersNothing body.message
@@ -97,13 +97,13 @@ module _ (c : Configuration) (me p : ℕ) (bytes : List ℕ) where
 
     pub got_idle : BringsNothing c me (Got p bytes)
     got_idle = record {
-      view = nothing (new_view_from c) (heard (members c) p bytes) (λ body q. no_view c me body.sender body.message q) quiet;
+      view = nothing (new_view_from c) (authentic (members c) p bytes) (λ body q. no_view c me body.sender body.message q) quiet;
       change = refl;
-      checkpoint = nothing checkpoint_from (heard (members c) p bytes) (λ body q. no_checkpoint c me body.sender body.message q) quiet;
+      checkpoint = nothing checkpoint_from (authentic (members c) p bytes) (λ body q. no_checkpoint c me body.sender body.message q) quiet;
       installed = refl;
-      batch = λ v i. nothing (batch_from c me v i) (heard (members c) p bytes) (λ body q. no_batch c me body.sender v i body.message q) quiet;
-      prepare = λ s v i. nothing (prepare_from c s v i) (heard (members c) p bytes) (λ body q. no_prepare c me body.sender s v i body.message q) quiet;
-      commit = λ s v i. nothing (commit_from s v i) (heard (members c) p bytes) (λ body q. no_commit c me body.sender s v i body.message q) quiet;
+      batch = λ v i. nothing (batch_from c me v i) (authentic (members c) p bytes) (λ body q. no_batch c me body.sender v i body.message q) quiet;
+      prepare = λ s v i. nothing (prepare_from c s v i) (authentic (members c) p bytes) (λ body q. no_prepare c me body.sender s v i body.message q) quiet;
+      commit = λ s v i. nothing (commit_from s v i) (authentic (members c) p bytes) (λ body q. no_commit c me body.sender s v i body.message q) quiet;
       fetch = refl;
       asked = λ past. refl;
       latest = λ past s. ap (λ (o : Option (ℕ × ViewChangeData)). option_map_or (λ (x : ℕ × ViewChangeData). cond ((x.0 == s) && nat_lt (view c past) x.1.view && is_within c x.1) x.1.view 0) o 0) no_signed;

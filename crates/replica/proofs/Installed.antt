@@ -28,7 +28,7 @@ use Rattle.replica_histories.proofs.ChangesKept.{silent_keep}
 use Rattle.desk.specs.declared.waiting.WaitingRequest.{WaitingRequest}
 use Rattle.claims.specs.ClaimsView.{ClaimsData}
 use Rattle.orderer.specs.State.{OrdererData}
-use Rattle.replica.specs.State.{JoinedData, AreOne}
+use Rattle.replica.specs.State.{BothPartsData, AreOne}
 use Rattle.desk.specs.State.{OpenData, DeskData}
 use Rattle.desk.specs.Waiting.{forgotten, frames_waiting, is_new}
 use Rattle.orderer.specs.Flags.{FitsFlags}
@@ -41,18 +41,18 @@ use Rattle.desk.specs.DeskOf.{waiting_calls, desk_of, IsDeskOf}
 use Rattle.replica.specs.Going.{IsSameParty}
 use Rattle.orderer.specs.Going.{IsVotedAll}
 use Rattle.replica.specs.Marking.{MovesMarks}
-use Rattle.replica.specs.Joined.{me_of}
+use Rattle.replica.specs.BothParts.{me_of}
 use Rattle.replica.proofs.Choosing.{cut_choice}
 use Rattle.replica.proofs.Desking.{calls_behind, frames_behind, spelled_behind}
 use Rattle.replica.proofs.DueCheckpoints.{same_cut, cut_voted}
-use Rattle.orderer.proofs.Staying.{GivesOne, gives_one, changes_cut, fits_behind, installed_beside, numbers_alike, numbers_beside}
+use Rattle.orderer.proofs.Staying.{EmitsOne, emits_one, changes_cut, fits_behind, installed_beside, numbers_alike, numbers_beside}
 use Rattle.replica_histories.proofs.Reaching.{reached_asking}
 use Rattle.desk.proofs.Newest.{below_next, kept_alone}
 use Rattle.orderer.proofs.Flags.{flags_forgotten}
 
 -- All held pages have the wanted root. The transfer rests on the executed state, and may ask. Up to here the event fits
 -- with this one open.
-pub record IsFetched (c : Configuration) (s : Start) (a : JoinedData) (m : OpenData) (before : List Output) : Type 0 where
+pub record IsFetched (c : Configuration) (s : Start) (a : BothPartsData) (m : OpenData) (before : List Output) : Type 0 where
   pub is_open : a.desk.transfer ≡ Some m
   pub is : IsDeskOf c a.desk
   pub open_one : Option TransferData
@@ -79,7 +79,7 @@ none_some x P e = absurd cc
 abbrev cut_orderer : ℕ → ClaimsData → OrdererData → OrdererData
 cut_orderer number claims o = record o { log = logs.cut_to o.log number; claims = claims }
 
-record IsInstalled (a : JoinedData) (m : OpenData) (number : Number) (root : List ℕ) (st : State) (b : JoinedData) : Type 0 where
+record IsInstalled (a : BothPartsData) (m : OpenData) (number : Number) (root : List ℕ) (st : State) (b : BothPartsData) : Type 0 where
   has : HasPagesAt m.transfer.number m.transfer.held st
   falls : NoneFalls a.desk.executed.state st
   below : Each (λ x. x.number ≤ a.desk.executed.state.number) a.desk.snapshots
@@ -92,11 +92,11 @@ record IsInstalled (a : JoinedData) (m : OpenData) (number : Number) (root : Lis
     desk = with_state st (logs.cut_to a.orderer.log m.transfer.number).low a.desk;
   }
 
-module _ (c : Configuration) (s : Start) (a : JoinedData) (m : OpenData) (before after : List Output) (st : State)
+module _ (c : Configuration) (s : Start) (a : BothPartsData) (m : OpenData) (before after : List Output) (st : State)
     (g : IsFetched c s a m before) (has : HasPagesAt m.transfer.number m.transfer.held st) (falls : NoneFalls a.desk.executed.state st)
     (below : Each (λ x. x.number ≤ a.desk.executed.state.number) a.desk.snapshots) (voted : IsVotedAll a.orderer.log)
     (claims : ClaimsData) (cuts : CutsClaims (logs.cut_to a.orderer.log m.transfer.number).low a.orderer.claims claims)
-    (gives : GivesOne c (me_of a) before after (Installed (me_of a) m.transfer.number m.transfer.root)) where
+    (gives : EmitsOne c (me_of a) before after (Installed (me_of a) m.transfer.number m.transfer.root)) where
   abbrev me : ℕ
   me = a.orderer.endpoint.me
 
@@ -172,7 +172,7 @@ entry_for number root = record { number = number.0; digest = root }
 pub same_open : (x y : OpenData) → Some x ≡ Some y → x ≡ y
 same_open x y e = some_injective x y e
 
-installs_so : (a b : JoinedData) (d : DeskData) (m : OpenData) (number : Number) (root : List ℕ) → a.desk.transfer ≡ Some m → InstallsHeldPages a.desk d (Some (entry_for number root)) → MovesMarks number.0 (record a { desk = d }) b
+installs_so : (a b : BothPartsData) (d : DeskData) (m : OpenData) (number : Number) (root : List ℕ) → a.desk.transfer ≡ Some m → InstallsHeldPages a.desk d (Some (entry_for number root)) → MovesMarks number.0 (record a { desk = d }) b
     → IsInstalled a m number root d.executed.state b
 installs_so a b d m number root there (o, is_open, entry_is, has, falls, d_is, below) (x, (claims, cuts, x_is), moves) = record {
   has = subst (λ (y : OpenData). HasPagesAt y.transfer.number y.transfer.held d.executed.state) same has;
@@ -183,9 +183,9 @@ installs_so a b d m number root there (o, is_open, entry_is, has, falls, d_is, b
   claims = claims;
   cuts = subst (λ (n : ℕ). CutsClaims (logs.cut_to a.orderer.log n).low a.orderer.claims claims) at cuts;
   new_is = moves
-      ∙ ap (λ (k : OrdererData). let new : JoinedData = record a { orderer = k; desk = desk_above (logs.cut_to a.orderer.log number.0).low d } in new) x_is
-      ∙ ap (λ (n : ℕ). let new : JoinedData = record a { orderer = cut_orderer n claims a.orderer; desk = desk_above (logs.cut_to a.orderer.log n).low d } in new) at
-      ∙ ap (λ (y : DeskData). let new : JoinedData = record a { orderer = cut_orderer m.transfer.number claims a.orderer; desk = desk_above (logs.cut_to a.orderer.log m.transfer.number).low y } in new) d_is;
+      ∙ ap (λ (k : OrdererData). let new : BothPartsData = record a { orderer = k; desk = desk_above (logs.cut_to a.orderer.log number.0).low d } in new) x_is
+      ∙ ap (λ (n : ℕ). let new : BothPartsData = record a { orderer = cut_orderer n claims a.orderer; desk = desk_above (logs.cut_to a.orderer.log n).low d } in new) at
+      ∙ ap (λ (y : DeskData). let new : BothPartsData = record a { orderer = cut_orderer m.transfer.number claims a.orderer; desk = desk_above (logs.cut_to a.orderer.log m.transfer.number).low y } in new) d_is;
 }
   where
     same : o ≡ m
@@ -194,7 +194,7 @@ installs_so a b d m number root there (o, is_open, entry_is, has, falls, d_is, b
     at : number.0 ≡ m.transfer.number
     at = ap (λ (x : CheckpointEntry). x.number) entry_is ∙ ap (λ (x : OpenData). x.transfer.number) same
 
-installed_party : (a : JoinedData) (n : ℕ) (claims : ClaimsData) (st : State) (low : ℕ) → CutsClaims (logs.cut_to a.orderer.log n).low a.orderer.claims claims → IsSameParty a (record a { orderer = cut_orderer n claims a.orderer; desk = with_state st low a.desk })
+installed_party : (a : BothPartsData) (n : ℕ) (claims : ClaimsData) (st : State) (low : ℕ) → CutsClaims (logs.cut_to a.orderer.log n).low a.orderer.claims claims → IsSameParty a (record a { orderer = cut_orderer n claims a.orderer; desk = with_state st low a.desk })
 installed_party a n claims st low cuts = record {
   orderer = record { endpoint = refl; log = same_cut a.orderer.log n; target = refl; choice = λ off. cut_choice a.orderer (logs.cut_to a.orderer.log n) (logs.cut_to a.orderer.log n).low claims cuts };
   me = refl;
@@ -202,28 +202,28 @@ installed_party a n claims st low cuts = record {
 }
 
 -- The fetched state's number is reached.
-pub number_reached : (a b : JoinedData) (m : OpenData) (before after : List Output) → a.desk.transfer ≡ Some m → InstallsFetchedState a before b after true → b.desk.executed.state.number ≡ m.transfer.number
+pub number_reached : (a b : BothPartsData) (m : OpenData) (before after : List Output) → a.desk.transfer ≡ Some m → InstallsFetchedState a before b after true → b.desk.executed.state.number ≡ m.transfer.number
 number_reached a b m before after there (d, number, root, installs, gives, moves) =
     let i = installs_so a b d m number root there installs moves in
-    ap (λ (r : JoinedData). r.desk.executed.state.number) i.new_is ∙ i.has.number
+    ap (λ (r : BothPartsData). r.desk.executed.state.number) i.new_is ∙ i.has.number
 
 -- The party is the same.
-pub moved_party : (a b : JoinedData) (m : OpenData) (before after : List Output) → a.desk.transfer ≡ Some m → InstallsFetchedState a before b after true → IsSameParty a b
+pub moved_party : (a b : BothPartsData) (m : OpenData) (before after : List Output) → a.desk.transfer ≡ Some m → InstallsFetchedState a before b after true → IsSameParty a b
 moved_party a b m before after there (d, number, root, installs, gives, moves) =
     let i = installs_so a b d m number root there installs moves in
-    subst (λ (r : JoinedData). IsSameParty a r) (sym i.new_is) (installed_party a m.transfer.number i.claims d.executed.state (logs.cut_to a.orderer.log m.transfer.number).low i.cuts)
+    subst (λ (r : BothPartsData). IsSameParty a r) (sym i.new_is) (installed_party a m.transfer.number i.claims d.executed.state (logs.cut_to a.orderer.log m.transfer.number).low i.cuts)
 
 -- The replica installs the fetched state.
-pub installs_fetched : (c : Configuration) (s : Start) (a b : JoinedData) (m : OpenData) (before after : List Output) → AreOne a.orderer a.desk → IsFetched c s a m before → IsVotedAll a.orderer.log
+pub installs_fetched : (c : Configuration) (s : Start) (a b : BothPartsData) (m : OpenData) (before after : List Output) → AreOne a.orderer a.desk → IsFetched c s a m before → IsVotedAll a.orderer.log
     → InstallsFetchedState a before b after true → PartsFitEvent c s b.orderer b.desk [] after × IsVotedAll b.orderer.log
 installs_fetched c s a b m before after one g voted (d, number, root, installs, gives, moves) =
     let i = installs_so a b d m number root g.is_open installs moves in
     let st = d.executed.state in
     let later : DeskData = with_state st (logs.cut_to a.orderer.log m.transfer.number).low a.desk in
-    let is : GivesOne c (me_of a) before after (Installed (me_of a) m.transfer.number m.transfer.root) =
-    gives_one c (me_of a) before after (outputs.Installed number root) (Installed (me_of a) m.transfer.number m.transfer.root) gives
+    let is : EmitsOne c (me_of a) before after (Installed (me_of a) m.transfer.number m.transfer.root) =
+    emits_one c (me_of a) before after (outputs.Installed number root) (Installed (me_of a) m.transfer.number m.transfer.root) gives
     (ap (λ (n : ℕ). Installed (me_of a) n root) i.number_is ∙ ap (λ (r : List ℕ). Installed (me_of a) m.transfer.number r) i.root_is) tt in
-    subst (λ (r : JoinedData). PartsFitEvent c s r.orderer r.desk [] after × IsVotedAll r.orderer.log) (sym i.new_is) (
+    subst (λ (r : BothPartsData). PartsFitEvent c s r.orderer r.desk [] after × IsVotedAll r.orderer.log) (sym i.new_is) (
       record {
         is = installed_is c s a m before after st g i.has i.falls i.below voted i.claims i.cuts is;
         fits = subst (λ (k : ℕ). FitsEvent c k s (cut_orderer m.transfer.number i.claims a.orderer) (desk_of c later) later.waiting [] after)

@@ -26,7 +26,7 @@ use Rattle.replica_histories.proofs.Words.{marks_are}
 use Rattle.replica_histories.proofs.Numbers.{next_is_free}
 use Rattle.replica_histories.proofs.NumbersLists.{each_unmapped, has_taken, pairs_kept, pairs_mapped, pairs_unmapped, pairs_front, IsAt, Spells, spelled_at, Differ, frames_differ}
 use Rattle.desk.specs.declared.waiting.WaitingRequest.{WaitingRequest}
-use Rattle.replica.specs.State.{JoinedData, AreOne}
+use Rattle.replica.specs.State.{BothPartsData, AreOne}
 use Rattle.desk.specs.State.{DeskData}
 use Rattle.desk.specs.Waiting.{WaitingData, texts, frames_waiting, all_unnumbered, unnumbered, count_unnumbered, all_numbered, with_numbered}
 use Rattle.orderer.specs.Flags.{FitsFlags, flagged}
@@ -38,7 +38,7 @@ use Rattle.replica.specs.Numbering.{IsAllNumbered}
 use Rattle.orderer.specs.Fitting.{given, FitsEvent}
 use Rattle.orderer.specs.Going.{IsSameLog, IsSameOrderer, NoVoteIsDue, IsVotedBut, IsVotedAll}
 use Rattle.orderer.specs.Numbering.{next_number}
-use Rattle.replica.specs.NumbersNext.{NumbersNext, GivesNumber, NumbersWaitingRequests}
+use Rattle.replica.specs.NumbersNext.{NumbersNext, AssignsNumber, NumbersWaitingRequests}
 use Rattle.desk.proofs.WaitingKept.{few_unnumbered}
 use Rattle.orderer.proofs.Flags.{oldest_spelled}
 use Rattle.replica.proofs.Parties.{same_party, parties_twice}
@@ -164,7 +164,7 @@ module _ (c : Configuration) (me number used : ℕ) (log : LogData) (text : List
 
 -- ---- one turn
 
-module _ (number : ℕ) (a b : JoinedData) (x y : List Output) (one : AreOne a.orderer a.desk) (is_next : number ≡ next_number a.orderer) (near : number ≤ a.desk.executed.state.number + 2) (inside : logs.is_in_marks a.orderer.log number ≡ true)
+module _ (number : ℕ) (a b : BothPartsData) (x y : List Output) (one : AreOne a.orderer a.desk) (is_next : number ≡ next_number a.orderer) (near : number ≤ a.desk.executed.state.number + 2) (inside : logs.is_in_marks a.orderer.log number ≡ true)
     (active : a.orderer.log.active ≡ true) (primary : logs.primary a.orderer.log a.orderer.log.view ≡ a.orderer.log.me) (some : 1 ≤ length (unnumbered a.desk.waiting)) (n : NumbersNext number a x b y) where
   abbrev w : WaitingData
   w = a.desk.waiting
@@ -245,7 +245,7 @@ module _ (number : ℕ) (a b : JoinedData) (x y : List Output) (one : AreOne a.o
       omega (arith, left, some))
 
   -- the primary assigns the number, and goes on with it
-  pub gives_number : (d : JoinedData) (z : List Output) → GoesOnWith number b y d z → GivesNumber a x d z
+  pub gives_number : (d : BothPartsData) (z : List Output) → GoesOnWith number b y d z → AssignsNumber a x d z
   gives_number d z e = record {
     proceeds = λ rest c s known st.
         e.proceeds (voted_but rest.0) c s (known ∙ sym (ap (λ (k : DeskData). k.membership) n.waits)) (next_stands c s known st);
@@ -262,17 +262,17 @@ module _ (number : ℕ) (a b : JoinedData) (x y : List Output) (one : AreOne a.o
 -- ---- one turn after another
 
 -- so many numbers are assigned
-pub record NumbersSoFar (count : ℕ) (old : JoinedData) (before : List Output) (new : JoinedData) (after : List Output) : Type 0 where
+pub record NumbersSoFar (count : ℕ) (old : BothPartsData) (before : List Output) (new : BothPartsData) (after : List Output) : Type 0 where
   pub proceeds : NothingIsLeft old → FitIsKept old before new after
   pub party : IsSameParty old new
   pub rises : old.desk.executed.state.number ≤ new.desk.executed.state.number
   pub rests : NothingIsLeft old → NothingIsLeft new
   pub fewer : count_unnumbered new.desk.waiting + count ≤ count_unnumbered old.desk.waiting
 
-pub none_given : (a : JoinedData) (x : List Output) → NumbersSoFar 0 a x a x
+pub none_given : (a : BothPartsData) (x : List Output) → NumbersSoFar 0 a x a x
 none_given a x = record { proceeds = λ rest c s known st. st; party = same_party a; rises = omega arith; rests = λ r. r; fewer = omega arith }
 
-pub one_given : (count : ℕ) (a b d : JoinedData) (x y z : List Output) → NumbersSoFar count a x b y → GivesNumber b y d z → NumbersSoFar (count + 1) a x d z
+pub one_given : (count : ℕ) (a b d : BothPartsData) (x y z : List Output) → NumbersSoFar count a x b y → AssignsNumber b y d z → NumbersSoFar (count + 1) a x d z
 one_given count a b d x y z f g = record {
   proceeds = λ rest c s known st. g.proceeds (f.rests rest) c s (known ∙ sym f.party.membership) (f.proceeds rest c s known st);
   party = parties_twice a b d f.party g.party;
@@ -281,13 +281,13 @@ one_given count a b d x y z f g = record {
   fewer = let first = f.fewer in let then = g.fewer in omega (arith, first, then);
 }
 
-pub numbers_stop : (count : ℕ) (a b d : JoinedData) (x y z : List Output) → NumbersSoFar count a x b y → (d ≡ b) × (z ≡ y) × IsAllNumbered b → NumbersWaitingRequests a x d z
+pub numbers_stop : (count : ℕ) (a b d : BothPartsData) (x y z : List Output) → NumbersSoFar count a x b y → (d ≡ b) × (z ≡ y) × IsAllNumbered b → NumbersWaitingRequests a x d z
 numbers_stop count a b d x y z f (same, outs, all) =
-    subst (λ (r : JoinedData). NumbersWaitingRequests a x r z) (sym same) (subst (λ (o : List Output). NumbersWaitingRequests a x b o) (sym outs)
+    subst (λ (r : BothPartsData). NumbersWaitingRequests a x r z) (sym same) (subst (λ (o : List Output). NumbersWaitingRequests a x b o) (sym outs)
     (record { proceeds = f.proceeds; party = f.party; rises = f.rises; rests = f.rests; all = all }))
 
 -- after as many numbers as requests without one, none is left
-pub numbers_end : (count : ℕ) (a b : JoinedData) (x y : List Output) → count ≡ count_unnumbered a.desk.waiting → NumbersSoFar count a x b y → NumbersWaitingRequests a x b y
+pub numbers_end : (count : ℕ) (a b : BothPartsData) (x y : List Output) → count ≡ count_unnumbered a.desk.waiting → NumbersSoFar count a x b y → NumbersWaitingRequests a x b y
 numbers_end count a b x y whole f = record {
   proceeds = f.proceeds;
   party = f.party;

@@ -15,7 +15,7 @@ use Rattle.ordering.specs.Log as logs
 use Rattle.ordering.specs.Keeping.{IsLog}
 use Rattle.events.specs.declared.output.Output.{Output}
 use Rattle.protocol.specs.System.Configuration.{Configuration, members, primary, span}
-use Rattle.protocol.specs.System.Frames.{IsPosted}
+use Rattle.protocol.specs.System.Frames.{IsOutgoing}
 use Rattle.protocol.specs.System.Trace.{Entry, Once, Has}
 use Rattle.protocol.specs.System.Trace.Entry.{Sent}
 use Rattle.protocol.specs.Replica.Certificates.{view, target, is_later, new_view_from, new_view_in, taken}
@@ -44,20 +44,20 @@ use Rattle.replica_histories.proofs.NumbersBegun.{logs_are_of_no_later_view}
 use Rattle.replica_histories.proofs.Seeing.{logged_are_seen}
 use Rattle.replica_histories.proofs.Words.{primary_same}
 use Rattle.orderer.specs.State.{OrdererData, IsOrderer}
-use Rattle.replica.specs.State.{JoinedData, AreOne}
+use Rattle.replica.specs.State.{BothPartsData, AreOne}
 use Rattle.desk.specs.Waiting.{with_view}
 use Rattle.desk.specs.DeskOf.{desk_of, IsDeskOf}
 use Rattle.replica.specs.Beginning.{BeginsView}
-use Rattle.orderer.specs.Claiming.{SaysFrame}
+use Rattle.orderer.specs.Claiming.{MulticastsFrame}
 use Rattle.replica.specs.Desks.{PartsFitEvent}
 use Rattle.replica.specs.EnteringViews.{EntersView}
 use Rattle.orderer.specs.Flags.{FitsFlags}
 use Rattle.orderer.specs.Fitting.{given, changes_held, FitsEvent, FitsWaiting}
-use Rattle.orderer.specs.EnteringViews.{IsSelection, MaySignView, SignsView, new_view_of}
+use Rattle.orderer.specs.EnterView.{IsSelection, MaySignView, SignsView, new_view_of}
 use Rattle.replica.specs.Going.{NothingIsLeft}
 use Rattle.replica.proofs.BegunViews.{Begins, begins, begun_orderer, begun_stands, all_voted, one_active, one_party, one_target, start_of}
 use Rattle.orderer.proofs.Flags.{flags_begun}
-use Rattle.orderer.proofs.Staying.{fits_behind, GivesOne, gives_one}
+use Rattle.orderer.proofs.Staying.{fits_behind, EmitsOne, emits_one}
 
 -- ---- sizes
 
@@ -114,7 +114,7 @@ module _ (decide : SizesDecide) (o : OrdererData) (start : ℕ) (root frame : Li
 
   module _ (c : Configuration) (past : List Entry) (known : members c ≡ o.endpoint.membership) (period : c.period ≡ o.received.sizes.period)
       (faults : o.log.faults ≡ c.faults) (is_me : o.log.me ≡ me) (is_view : view c past ≡ o.log.view) (is_active : nat_le (target past) o.log.view ≡ o.log.active) (is_target : target past ≡ o.target) where
-    pub posted : IsPosted c me (NewView new) [] frame
+    pub posted : IsOutgoing c me (NewView new) [] frame
     posted = signs.signed c known
 
     alike : AreAlikeConfigurations c (judging_configuration o.received)
@@ -152,12 +152,12 @@ module _ (decide : SizesDecide) (o : OrdererData) (start : ℕ) (root frame : Li
 -- ---- all stands after it
 
 -- the leaf is spent
-abbrev signing : JoinedData → JoinedData
+abbrev signing : BothPartsData → BothPartsData
 signing r = record r { orderer = record r.orderer { spent = r.orderer.spent + 1 } }
 
-module _ (decide : SizesDecide) (r : JoinedData) (start : ℕ) (root frame : List ℕ) (texts : List (List ℕ)) (before said after : List Output) (n : JoinedData)
+module _ (decide : SizesDecide) (r : BothPartsData) (start : ℕ) (root frame : List ℕ) (texts : List (List ℕ)) (before said after : List Output) (n : BothPartsData)
     (one : AreOne r.orderer r.desk) (own : IsOrderer r.orderer) (is_log : IsLog r.orderer.log) (clients : r.desk.executed.clients ≡ r.desk.membership.clients)
-    (sel : IsSelection r.orderer start root texts) (signs : SignsView r.orderer (new_view_of r.orderer start root texts) frame) (says : SaysFrame r.orderer frame before said)
+    (sel : IsSelection r.orderer start root texts) (signs : SignsView r.orderer (new_view_of r.orderer start root texts) frame) (says : MulticastsFrame r.orderer frame before said)
     (enters : EntersView r.orderer.target (start_of (new_view_of r.orderer start root texts)) texts (Some frame) (signing r) said n after) where
   abbrev o : OrdererData
   o = r.orderer
@@ -196,7 +196,7 @@ module _ (decide : SizesDecide) (r : JoinedData) (start : ℕ) (root frame : Lis
     period : c.period ≡ o.received.sizes.period
     period = is.period_is ∙ sym one.2
 
-    signed : IsPosted c mine (NewView its) [] frame
+    signed : IsOutgoing c mine (NewView its) [] frame
     signed = posted decide o start root frame texts own sel signs c past to period f.fits.of_log.faults own.0 f.fits.of_log.view f.fits.of_log.active f.changes.target
 
     leads : primary c its.view ≡ mine
@@ -225,8 +225,8 @@ module _ (decide : SizesDecide) (r : JoinedData) (start : ℕ) (root frame : Lis
         (flags_begun c mine r.desk.waiting k.calls desk.state past e its is.differ takes (logs_are_of_no_later_view c mine o.log past f.fits.of_log)
         (k.are c (ap (λ m. m.clients) known ∙ sym clients)))
 
-    gives : GivesOne c mine before said e
-    gives = gives_one c mine before said says.output e says.given_is says.sends.sends (says.sends.meant c (NewView its) to signed)
+    gives : EmitsOne c mine before said e
+    gives = emits_one c mine before said says.output e says.given_is says.sends.sends (says.sends.meant c (NewView its) to signed)
 
     fits : FitsEvent c mine s begun (desk_from low desk) (with_view k.calls r.desk.waiting) (start_due desk its) said
     fits =
@@ -252,16 +252,16 @@ pub signs_in : (o : OrdererData) (its : NewViewData) (later : OrdererData) (r : 
 signs_in o its later r frame is h = subst (MaySignView its o later) is h
 
 -- by equal parts
-pub begins_so : (decide : SizesDecide) (r : JoinedData) (start : ℕ) (root frame : List ℕ) (texts : List (List ℕ)) (before said after : List Output) (n : JoinedData)
-    (view : ℕ) (bytes : List ℕ) (signed : OrdererData) (mid : JoinedData)
+pub begins_so : (decide : SizesDecide) (r : BothPartsData) (start : ℕ) (root frame : List ℕ) (texts : List (List ℕ)) (before said after : List Output) (n : BothPartsData)
+    (view : ℕ) (bytes : List ℕ) (signed : OrdererData) (mid : BothPartsData)
     → AreOne r.orderer r.desk → IsOrderer r.orderer → IsLog r.orderer.log → r.desk.executed.clients ≡ r.desk.membership.clients
     → IsSelection r.orderer start root texts → SignsView r.orderer (new_view_of r.orderer start root texts) frame
-    → signed ≡ (signing r).orderer → bytes ≡ frame → SaysFrame signed bytes before said
+    → signed ≡ (signing r).orderer → bytes ≡ frame → MulticastsFrame signed bytes before said
     → view ≡ r.orderer.target → mid ≡ signing r → EntersView view (start_of (new_view_of r.orderer start root texts)) texts (Some frame) mid said n after
     → BeginsView r before n after
 begins_so decide r start root frame texts before said after n view bytes signed mid one own is_log clients sel signs same_orderer same_bytes says same_view same enters =
     own_view_begins decide r start root frame texts before said after n one own is_log clients sel signs
-    (let k = subst (λ (o : OrdererData). SaysFrame o frame before said) same_orderer (subst (λ (b : List ℕ). SaysFrame signed b before said) same_bytes says) in
+    (let k = subst (λ (o : OrdererData). MulticastsFrame o frame before said) same_orderer (subst (λ (b : List ℕ). MulticastsFrame signed b before said) same_bytes says) in
     record { output = k.output; sends = k.sends; given_is = k.given_is })
     (subst (λ (v : ℕ). EntersView v (start_of (new_view_of r.orderer start root texts)) texts (Some frame) (signing r) said n after) same_view
-    (subst (λ (m : JoinedData). EntersView view (start_of (new_view_of r.orderer start root texts)) texts (Some frame) m said n after) same enters))
+    (subst (λ (m : BothPartsData). EntersView view (start_of (new_view_of r.orderer start root texts)) texts (Some frame) m said n after) same enters))

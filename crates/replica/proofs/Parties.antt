@@ -1,13 +1,13 @@
 -- The party of a replica, from one step to the next.
 use Rattle.std.proofs.Common.{refl, ◌∙◌}
-use Rattle.replica.specs.State.{JoinedData}
+use Rattle.replica.specs.State.{BothPartsData}
 use Rattle.replica.specs.Going.{IsSameParty, IsOneParty}
 use Rattle.orderer.proofs.Parties.{same_orderer, orderers_twice}
 
-pub same_party : (r : JoinedData) → IsSameParty r r
+pub same_party : (r : BothPartsData) → IsSameParty r r
 same_party r = record { orderer = same_orderer r.orderer; me = refl; membership = refl }
 
-pub parties_twice : (a b d : JoinedData) → IsSameParty a b → IsSameParty b d → IsSameParty a d
+pub parties_twice : (a b d : BothPartsData) → IsSameParty a b → IsSameParty b d → IsSameParty a d
 parties_twice a b d first then = record {
   orderer = orderers_twice a.orderer b.orderer d.orderer first.orderer then.orderer;
   me = then.me ∙ first.me;
@@ -16,13 +16,13 @@ parties_twice a b d first then = record {
 
 -- ---- whatever its view
 
-pub one_self : (r : JoinedData) → IsOneParty r r
+pub one_self : (r : BothPartsData) → IsOneParty r r
 one_self r = record { endpoint = refl; me = refl; membership = refl }
 
-pub one_of_same : (a b : JoinedData) → IsSameParty a b → IsOneParty a b
+pub one_of_same : (a b : BothPartsData) → IsSameParty a b → IsOneParty a b
 one_of_same a b p = record { endpoint = p.orderer.endpoint; me = p.me; membership = p.membership }
 
-pub ones_twice : (a b d : JoinedData) → IsOneParty a b → IsOneParty b d → IsOneParty a d
+pub ones_twice : (a b d : BothPartsData) → IsOneParty a b → IsOneParty b d → IsOneParty a d
 ones_twice a b d first then = record {
   endpoint = then.endpoint ∙ first.endpoint;
   me = then.me ∙ first.me;

@@ -8,7 +8,7 @@ use Rattle.sha2.specs.Sha256.{sha256}
 use Rattle.terms.specs.declared.state.Level.{Level}
 use Rattle.terms.specs.declared.state.Level.TheVariants as levels
 use Rattle.partition_tree.specs.Digests.{digest_of_children}
-use Rattle.signing.specs.Heard.{heard}
+use Rattle.signing.specs.AuthenticBody.{authentic}
 use Rattle.events.specs.declared.output.Output.{Output}
 use Rattle.state_transfer.specs.declared.place.Place.{Place}
 use Rattle.state_transfer.specs.Places.{page_place}
@@ -31,15 +31,15 @@ use Rattle.replica_histories.proofs.PartsOwed.{fetches_suffice, other_digests_ow
 use Rattle.replica_histories.proofs.Transfers.{digests_keep, digests_open}
 use Rattle.replica_histories.proofs.TransfersInstalling.{digests_rest, pages_rest}
 use Rattle.desk.specs.declared.open_transfer.Taken.{Taken}
-use Rattle.replica.specs.declared.taking.Touched.TheVariants as touched
-use Rattle.replica.specs.State.{JoinedData, AreOne}
+use Rattle.replica.specs.declared.taking.DueWork.TheVariants as due_work
+use Rattle.replica.specs.State.{BothPartsData, AreOne}
 use Rattle.desk.specs.State.{DeskData, OpenData}
 use Rattle.orderer.specs.Fitting.{given, FitsEvent}
 use Rattle.replica.specs.Entering.{event_of, TakesBytes}
-use Rattle.replica.specs.Fetching.{FetchesNextPart, SaysFetch}
+use Rattle.replica.specs.Fetching.{FetchesNextPart, MulticastsFetch}
 use Rattle.desk.specs.Fetching.{fetch_of, with_transfer, TakesDigests, TakesPage}
-use Rattle.replica.specs.Joined.{JoinedMatchesHistory, me_of}
-use Rattle.orderer.specs.Saying.{SaysToOthers}
+use Rattle.replica.specs.BothParts.{BothPartsMatchHistory, me_of}
+use Rattle.orderer.specs.Multicasting.{Multicasts}
 use Rattle.desk.specs.Transferring.{TakesDigestsOf, TakesPageOf, AsksPlace}
 use Rattle.desk.specs.DeskOf.{desk_of, RestsAt, IsDeskOf}
 use Rattle.replica.proofs.Beginning.{rests}
@@ -66,7 +66,7 @@ told_with t levels.Page index digests digest h = told_below t levels.Page index 
 
 -- In the event that begins with the bytes, which are a part, this transfer may ask on. It has the open one's number. Up
 -- to here the event fits with that one open, and nothing else changed.
-pub record Comes (c : Configuration) (r : JoinedData) (past : List Entry) (runs : JoinedMatchesHistory c r past) (bytes : List ℕ) (n : OpenData) : Type 0 where
+pub record Comes (c : Configuration) (r : BothPartsData) (past : List Entry) (runs : BothPartsMatchHistory c r past) (bytes : List ℕ) (n : OpenData) : Type 0 where
   pub is : IsDeskOf c (with_transfer n r.desk)
   pub open_one : Option TransferData
   pub fits : FitsEvent c (me_of r) (event_of c r past runs bytes) r.orderer (record (desk_of c r.desk) { transfer = open_one }) r.desk.waiting [] []
@@ -77,15 +77,15 @@ pub record Comes (c : Configuration) (r : JoinedData) (past : List Entry) (runs 
   pub is_open : (desk_of c r.desk).transfer ≡ Some was
   pub number : n.transfer.number ≡ was.number
   pub body : Body
-  pub heard_is : heard (members c) (me_of r) bytes ≡ Some body
+  pub heard_is : authentic (members c) (me_of r) bytes ≡ Some body
   pub part : is_part body ≡ true
 
 -- after the bytes it is open
-abbrev pub IsOpen : (c : Configuration) (r : JoinedData) (past : List Entry) → JoinedMatchesHistory c r past → List ℕ → OpenData → Type 0
+abbrev pub IsOpen : (c : Configuration) (r : BothPartsData) (past : List Entry) → BothPartsMatchHistory c r past → List ℕ → OpenData → Type 0
 IsOpen c r past runs bytes n = FitsOpenTransfer c (me_of r) (Some n.transfer) r.desk.executed.state.number (Got (me_of r) bytes ∷ past)
 
-module _ (r : JoinedData) (one : AreOne r.orderer r.desk) (bytes : List ℕ) (sender : ℕ) (o n : OpenData) (there : r.desk.transfer ≡ Some o) (c : Configuration) (past : List Entry)
-    (runs : JoinedMatchesHistory c r past) (known : members c ≡ r.desk.membership) where
+module _ (r : BothPartsData) (one : AreOne r.orderer r.desk) (bytes : List ℕ) (sender : ℕ) (o n : OpenData) (there : r.desk.transfer ≡ Some o) (c : Configuration) (past : List Entry)
+    (runs : BothPartsMatchHistory c r past) (known : members c ≡ r.desk.membership) where
   abbrev me : ℕ
   me = me_of r
 
@@ -93,7 +93,7 @@ module _ (r : JoinedData) (one : AreOne r.orderer r.desk) (bytes : List ℕ) (se
   open_there = ap (option_map (λ (x : OpenData). x.transfer)) there
 
   -- the event that begins with a received part, from which the transfer has this
-  module _ (message : Message) (t : TransferData) (n_is : n ≡ record o { transfer = t }) (hears : heard r.desk.membership r.desk.me bytes ≡ Some (record { sender = sender; message = message })) where
+  module _ (message : Message) (t : TransferData) (n_is : n ≡ record o { transfer = t }) (receives : authentic r.desk.membership r.desk.me bytes ≡ Some (record { sender = sender; message = message })) where
     abbrev body : Body
     body = record { sender = sender; message = message }
 
@@ -114,22 +114,22 @@ module _ (r : JoinedData) (one : AreOne r.orderer r.desk) (bytes : List ℕ) (se
       fits = record {
         fits = fits;
         numbers = numbers_beside c me r.desk.waiting r.orderer (desk_of c r.desk) past (Got me bytes) runs.holds.of_log.fits.faults runs.holds.of_log.fits.own
-            (record { here = refl; none = takes_none r one c past runs bytes body known hears views; sends = refl }) runs.numbers;
+            (record { here = refl; none = takes_none r one c past runs bytes body known receives views; sends = refl }) runs.numbers;
         said = said_on me r.orderer.last_checkpoint past (Got me bytes) runs.said;
-        changes = changes_beside r one c past runs bytes body known hears (record (desk_of c r.desk) { transfer = open_one }) [] views changes fits;
+        changes = changes_beside r one c past runs bytes body known receives (record (desk_of c r.desk) { transfer = open_one }) [] views changes fits;
         meant = tt;
       };
-      taken = (body, heard_so r one c past runs bytes body known hears, counts);
+      taken = (body, heard_so r one c past runs bytes body known receives, counts);
       was = o.transfer;
       is_open = open_there;
       number = number;
       body = body;
-      heard_is = heard_so r one c past runs bytes body known hears;
+      heard_is = heard_so r one c past runs bytes body known receives;
       part = part;
     })
 
   -- digests are taken
-  module _ (meta : Meta) (hears : heard r.desk.membership r.desk.me bytes ≡ Some (record { sender = sender; message = MetaMessage meta.number.0 meta.level meta.index meta.digests.items }))
+  module _ (meta : Meta) (receives : authentic r.desk.membership r.desk.me bytes ≡ Some (record { sender = sender; message = MetaMessage meta.number.0 meta.level meta.index meta.digests.items }))
       (takes : TakesDigestsOf o meta n true) where
     abbrev place : Place
     place = record { level = meta.level; index = meta.index }
@@ -143,10 +143,10 @@ module _ (r : JoinedData) (one : AreOne r.orderer r.desk) (bytes : List ℕ) (se
     wants : wanted o.transfer place ≡ Some (digest_of_children meta.digests.items)
     wants = subst (λ (p : Place). wanted o.transfer p ≡ Some (digest_of_children meta.digests.items)) takes.1 takes.2
 
-    heard_told : heard r.desk.membership r.desk.me bytes ≡ Some (record { sender = sender; message = told })
-    heard_told = subst (λ (k : ℕ). heard r.desk.membership r.desk.me bytes ≡ Some (record { sender = sender; message = MetaMessage k meta.level meta.index meta.digests.items })) takes.0 hears
+    heard_told : authentic r.desk.membership r.desk.me bytes ≡ Some (record { sender = sender; message = told })
+    heard_told = subst (λ (k : ℕ). authentic r.desk.membership r.desk.me bytes ≡ Some (record { sender = sender; message = MetaMessage k meta.level meta.index meta.digests.items })) takes.0 receives
 
-    heard_here : heard (members c) me bytes ≡ Some (record { sender = sender; message = told })
+    heard_here : authentic (members c) me bytes ≡ Some (record { sender = sender; message = told })
     heard_here = heard_so r one c past runs bytes (record { sender = sender; message = told }) known heard_told
 
     pub digests_come : Comes c r past runs bytes n
@@ -162,11 +162,11 @@ module _ (r : JoinedData) (one : AreOne r.orderer r.desk) (bytes : List ℕ) (se
         (subst (λ (t : Option TransferData). FitsOpenTransfer c me t r.desk.executed.state.number past) open_there runs.holds.of_desk.opened))
 
   -- a page is taken
-  pub page_comes : (page : Page) (replaced : Taken) → heard r.desk.membership r.desk.me bytes ≡ Some (record { sender = sender; message = PageMessage page.number.0 page.index page.text.items })
+  pub page_comes : (page : Page) (replaced : Taken) → authentic r.desk.membership r.desk.me bytes ≡ Some (record { sender = sender; message = PageMessage page.number.0 page.index page.text.items })
       → TakesPageOf o page n (Some replaced) → Comes c r past runs bytes n
-  page_comes page replaced hears (number, asked, wants, n_is, from, all, below) =
+  page_comes page replaced receives (number, asked, wants, n_is, from, all, below) =
       let text = page.text.items in
-      let heard_it = subst (λ (k : ℕ). heard r.desk.membership r.desk.me bytes ≡ Some (record { sender = sender; message = PageMessage k page.index text })) number hears in
+      let heard_it = subst (λ (k : ℕ). authentic r.desk.membership r.desk.me bytes ≡ Some (record { sender = sender; message = PageMessage k page.index text })) number receives in
       let message = PageMessage o.transfer.number page.index text in
       let enters = pages_enter c me (desk_of c r.desk) r.orderer.log past o.transfer sender page.index text bytes runs.holds open_there asked
       (heard_so r one c past runs bytes (record { sender = sender; message = message }) known heard_it) all.0 all.1 in
@@ -175,18 +175,18 @@ module _ (r : JoinedData) (one : AreOne r.orderer r.desk) (bytes : List ℕ) (se
       (desk_of c r.desk).transfer enters.0 enters.1 (told_below o.transfer levels.Page page.index (sha256 text) wants (λ same. cc))
 
 -- If more is to be fetched then, the event asks for it.
-module _ (r : JoinedData) (one : AreOne r.orderer r.desk) (bytes : List ℕ) (n : OpenData)
-    (comes : (c : Configuration) (past : List Entry) (runs : JoinedMatchesHistory c r past) → members c ≡ r.desk.membership → Comes c r past runs bytes n) where
+module _ (r : BothPartsData) (one : AreOne r.orderer r.desk) (bytes : List ℕ) (n : OpenData)
+    (comes : (c : Configuration) (past : List Entry) (runs : BothPartsMatchHistory c r past) → members c ≡ r.desk.membership → Comes c r past runs bytes n) where
   -- the fetch is sent
-  fetch_given : (c : Configuration) → members c ≡ r.orderer.endpoint.membership → (m : OpenData) (outs : List Output) → SaysToOthers r.orderer (fetch_of m.transfer) [] outs → (k : ℕ) → m.transfer.number ≡ k
+  fetch_given : (c : Configuration) → members c ≡ r.orderer.endpoint.membership → (m : OpenData) (outs : List Output) → Multicasts r.orderer (fetch_of m.transfer) [] outs → (k : ℕ) → m.transfer.number ≡ k
       → Has (λ e. fetch_sent e ≡ k) (given (me_of r) outs)
   fetch_given c known m outs says k number =
       let said = said_in c r.orderer (fetch_of m.transfer) [] outs known says in
       subst (Has (λ e. fetch_sent e ≡ k)) (sym said.is.is)
       (inl (ap (λ (x : Option Body). option_map_or (λ (b : Body). elim b.message [ FetchMessage n level index ↦ n | _ ↦ 0 ]) x 0) said.posted.says ∙ number))
 
-  asks_for : (m : OpenData) (place : Place) (outs : List Output) → AsksPlace r.desk.executed.state n m (Some place) → SaysToOthers r.orderer (fetch_of m.transfer) [] outs
-      → TakesBytes bytes r touched.Nothing (record r { desk = with_transfer m r.desk }) outs
+  asks_for : (m : OpenData) (place : Place) (outs : List Output) → AsksPlace r.desk.executed.state n m (Some place) → Multicasts r.orderer (fetch_of m.transfer) [] outs
+      → TakesBytes bytes r due_work.Nothing (record r { desk = with_transfer m r.desk }) outs
   asks_for m place outs asks says = record {
     party = record { endpoint = refl; me = refl; membership = refl };
     begins = λ c past runs known.
@@ -208,64 +208,64 @@ module _ (r : JoinedData) (one : AreOne r.orderer r.desk) (bytes : List ℕ) (n 
         );
   }
 
-  said : (m : OpenData) (outs : List Output) → SaysFetch (record r { desk = with_transfer m r.desk }) [] outs → SaysToOthers r.orderer (fetch_of m.transfer) [] outs
+  said : (m : OpenData) (outs : List Output) → MulticastsFetch (record r { desk = with_transfer m r.desk }) [] outs → Multicasts r.orderer (fetch_of m.transfer) [] outs
   said m outs (inl (none, same)) = absurd cc
-  said m outs (inr (x, is, says)) = subst (λ (y : OpenData). SaysToOthers r.orderer (fetch_of y.transfer) [] outs) (sym (some_injective m x is)) says
+  said m outs (inr (x, is, says)) = subst (λ (y : OpenData). Multicasts r.orderer (fetch_of y.transfer) [] outs) (sym (some_injective m x is)) says
 
-  pub asks_on : (new : JoinedData) (outs : List Output) → FetchesNextPart (record r { desk = with_transfer n r.desk }) [] new outs true → TakesBytes bytes r touched.Nothing new outs
+  pub asks_on : (new : BothPartsData) (outs : List Output) → FetchesNextPart (record r { desk = with_transfer n r.desk }) [] new outs true → TakesBytes bytes r due_work.Nothing new outs
   asks_on new outs (desk, (x, m, place, there, desk_is, asks), new_is, says) =
       let whole : new ≡ record r { desk = with_transfer m r.desk } = new_is ∙ ap (λ (d : DeskData). record r { desk = d }) desk_is in
-      subst (λ (y : JoinedData). TakesBytes bytes r touched.Nothing y outs) (sym whole)
+      subst (λ (y : BothPartsData). TakesBytes bytes r due_work.Nothing y outs) (sym whole)
       (asks_for m place outs (subst (λ (y : OpenData). AsksPlace r.desk.executed.state y m (Some place)) (sym (some_injective n x there)) asks)
-      (said m outs (subst (λ (y : JoinedData). SaysFetch y [] outs) whole says)))
+      (said m outs (subst (λ (y : BothPartsData). MulticastsFetch y [] outs) whole says)))
 
 -- ---- what the code does
 
-module _ (r : JoinedData) (one : AreOne r.orderer r.desk) (bytes : List ℕ) (sender : ℕ) (desk : DeskData) (outs : List Output) where
+module _ (r : BothPartsData) (one : AreOne r.orderer r.desk) (bytes : List ℕ) (sender : ℕ) (desk : DeskData) (outs : List Output) where
   -- an input to which the replica owes nothing is dropped, with the same desk
-  dropped : (message : Message) → heard r.desk.membership r.desk.me bytes ≡ Some (record { sender = sender; message = message }) → ((c : Configuration) → IsBeside c (record { sender = sender; message = message }))
-      → ((c : Configuration) (past : List Entry) (runs : JoinedMatchesHistory c r past) → members c ≡ r.desk.membership → AnswersInput c (me_of r) past (Got (me_of r) bytes) [] runs.holds.of_desk.point r.desk.executed.state.number)
-      → desk ≡ r.desk → outs ≡ [] → TakesBytes bytes r touched.Nothing (record r { desk = desk }) outs
-  dropped message hears beside answers same silent =
-      subst (λ (os : List Output). TakesBytes bytes r touched.Nothing (record r { desk = desk }) os) (sym silent)
-      (subst (λ (d : DeskData). TakesBytes bytes r touched.Nothing (record r { desk = d }) []) (sym same) (drops_beside r one bytes (record { sender = sender; message = message }) hears beside answers))
+  dropped : (message : Message) → authentic r.desk.membership r.desk.me bytes ≡ Some (record { sender = sender; message = message }) → ((c : Configuration) → IsBeside c (record { sender = sender; message = message }))
+      → ((c : Configuration) (past : List Entry) (runs : BothPartsMatchHistory c r past) → members c ≡ r.desk.membership → AnswersInput c (me_of r) past (Got (me_of r) bytes) [] runs.holds.of_desk.point r.desk.executed.state.number)
+      → desk ≡ r.desk → outs ≡ [] → TakesBytes bytes r due_work.Nothing (record r { desk = desk }) outs
+  dropped message receives beside answers same silent =
+      subst (λ (os : List Output). TakesBytes bytes r due_work.Nothing (record r { desk = desk }) os) (sym silent)
+      (subst (λ (d : DeskData). TakesBytes bytes r due_work.Nothing (record r { desk = d }) []) (sym same) (drops_beside r one bytes (record { sender = sender; message = message }) receives beside answers))
 
   -- the transfer that is open is the one at the desk
-  of_open : (c : Configuration) (past : List Entry) (runs : JoinedMatchesHistory c r past) (P : TransferData → Type 0) → ((o : OpenData) → r.desk.transfer ≡ Some o → P o.transfer) → (t : TransferData) → (desk_of c r.desk).transfer ≡ Some t → P t
+  of_open : (c : Configuration) (past : List Entry) (runs : BothPartsMatchHistory c r past) (P : TransferData → Type 0) → ((o : OpenData) → r.desk.transfer ≡ Some o → P o.transfer) → (t : TransferData) → (desk_of c r.desk).transfer ≡ Some t → P t
   of_open c past runs P each t there = go r.desk.transfer refl there
     where
       go : (x : Option OpenData) → r.desk.transfer ≡ x → option_map (λ (y : OpenData). y.transfer) x ≡ Some t → P t
       go None e f = absurd cc
       go (Some o) e f = subst P (some_injective o.transfer t f) (each o e)
 
-  pub digests_dropped : (meta : Meta) → heard r.desk.membership r.desk.me bytes ≡ Some (record { sender = sender; message = MetaMessage meta.number.0 meta.level meta.index meta.digests.items })
-      → TakesDigests r.desk meta desk false → outs ≡ [] → TakesBytes bytes r touched.Nothing (record r { desk = desk }) outs
-  digests_dropped meta hears (same, others) silent =
-      dropped (MetaMessage meta.number.0 meta.level meta.index meta.digests.items) hears (λ c. record { log = tt; call = refl; asks = λ st. refl; views = refl; changes = tt })
+  pub digests_dropped : (meta : Meta) → authentic r.desk.membership r.desk.me bytes ≡ Some (record { sender = sender; message = MetaMessage meta.number.0 meta.level meta.index meta.digests.items })
+      → TakesDigests r.desk meta desk false → outs ≡ [] → TakesBytes bytes r due_work.Nothing (record r { desk = desk }) outs
+  digests_dropped meta receives (same, others) silent =
+      dropped (MetaMessage meta.number.0 meta.level meta.index meta.digests.items) receives (λ c. record { log = tt; call = refl; asks = λ st. refl; views = refl; changes = tt })
       (λ c past runs known.
       other_digests_owe_none c (me_of r) (desk_of c r.desk) r.orderer.log past sender meta.number.0 r.desk.executed.state.number (record { level = meta.level; index = meta.index }) meta.digests.items bytes [] runs.holds
-      (heard_so r one c past runs bytes (record { sender = sender; message = MetaMessage meta.number.0 meta.level meta.index meta.digests.items }) known hears)
+      (heard_so r one c past runs bytes (record { sender = sender; message = MetaMessage meta.number.0 meta.level meta.index meta.digests.items }) known receives)
       (of_open c past runs (λ t. IsOther t meta.number.0 (record { level = meta.level; index = meta.index }) (digest_of_children meta.digests.items)) others)) same silent
 
-  pub page_dropped : (page : Page) → heard r.desk.membership r.desk.me bytes ≡ Some (record { sender = sender; message = PageMessage page.number.0 page.index page.text.items })
-      → TakesPage r.desk page desk None → outs ≡ [] → TakesBytes bytes r touched.Nothing (record r { desk = desk }) outs
-  page_dropped page hears (same, others) silent =
-      dropped (PageMessage page.number.0 page.index page.text.items) hears (λ c. record { log = tt; call = refl; asks = λ st. refl; views = refl; changes = tt })
+  pub page_dropped : (page : Page) → authentic r.desk.membership r.desk.me bytes ≡ Some (record { sender = sender; message = PageMessage page.number.0 page.index page.text.items })
+      → TakesPage r.desk page desk None → outs ≡ [] → TakesBytes bytes r due_work.Nothing (record r { desk = desk }) outs
+  page_dropped page receives (same, others) silent =
+      dropped (PageMessage page.number.0 page.index page.text.items) receives (λ c. record { log = tt; call = refl; asks = λ st. refl; views = refl; changes = tt })
       (λ c past runs known.
       other_pages_owe_none c (me_of r) (desk_of c r.desk) r.orderer.log past sender page.number.0 page.index r.desk.executed.state.number page.text.items bytes [] runs.holds
-      (heard_so r one c past runs bytes (record { sender = sender; message = PageMessage page.number.0 page.index page.text.items }) known hears)
+      (heard_so r one c past runs bytes (record { sender = sender; message = PageMessage page.number.0 page.index page.text.items }) known receives)
       (of_open c past runs (λ t. IsOther t page.number.0 (page_place page.index) (sha256 page.text.items)) others)) same silent
 
-  module _ (before : List Output) (first : before ≡ []) (new : JoinedData) (asks : FetchesNextPart (record r { desk = desk }) before new outs true) where
+  module _ (before : List Output) (first : before ≡ []) (new : BothPartsData) (asks : FetchesNextPart (record r { desk = desk }) before new outs true) where
     -- the transfer takes it, and asks for more after it
     asked : (n : OpenData) → desk ≡ with_transfer n r.desk
-        → ((c : Configuration) (past : List Entry) (runs : JoinedMatchesHistory c r past) → members c ≡ r.desk.membership → Comes c r past runs bytes n) → TakesBytes bytes r touched.Nothing new outs
+        → ((c : Configuration) (past : List Entry) (runs : BothPartsMatchHistory c r past) → members c ≡ r.desk.membership → Comes c r past runs bytes n) → TakesBytes bytes r due_work.Nothing new outs
     asked n desk_is comes = asks_on r one bytes n comes new outs (subst (λ (d : DeskData). FetchesNextPart (record r { desk = d }) [] new outs true) desk_is (subst (λ (os : List Output). FetchesNextPart (record r { desk = desk }) os new outs true) first asks))
 
-    pub digests_asked : (meta : Meta) → heard r.desk.membership r.desk.me bytes ≡ Some (record { sender = sender; message = MetaMessage meta.number.0 meta.level meta.index meta.digests.items })
-        → TakesDigests r.desk meta desk true → TakesBytes bytes r touched.Nothing new outs
-    digests_asked meta hears (o, n, there, desk_is, takes) = asked n desk_is (λ c past runs known. digests_come r one bytes sender o n there c past runs known meta hears takes)
+    pub digests_asked : (meta : Meta) → authentic r.desk.membership r.desk.me bytes ≡ Some (record { sender = sender; message = MetaMessage meta.number.0 meta.level meta.index meta.digests.items })
+        → TakesDigests r.desk meta desk true → TakesBytes bytes r due_work.Nothing new outs
+    digests_asked meta receives (o, n, there, desk_is, takes) = asked n desk_is (λ c past runs known. digests_come r one bytes sender o n there c past runs known meta receives takes)
 
-    pub page_asked : (page : Page) (replaced : Taken) → heard r.desk.membership r.desk.me bytes ≡ Some (record { sender = sender; message = PageMessage page.number.0 page.index page.text.items })
-        → TakesPage r.desk page desk (Some replaced) → TakesBytes bytes r touched.Nothing new outs
-    page_asked page replaced hears (o, n, there, desk_is, takes) = asked n desk_is (λ c past runs known. page_comes r one bytes sender o n there c past runs known page replaced hears takes)
+    pub page_asked : (page : Page) (replaced : Taken) → authentic r.desk.membership r.desk.me bytes ≡ Some (record { sender = sender; message = PageMessage page.number.0 page.index page.text.items })
+        → TakesPage r.desk page desk (Some replaced) → TakesBytes bytes r due_work.Nothing new outs
+    page_asked page replaced receives (o, n, there, desk_is, takes) = asked n desk_is (λ c past runs known. page_comes r one bytes sender o n there c past runs known page replaced receives takes)

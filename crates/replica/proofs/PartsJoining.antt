@@ -17,7 +17,7 @@ use Rattle.protocol.specs.System.Trace.Entry.{Got, Sent}
 use Rattle.protocol.specs.Replica.RightReplica.{SendsBytes, SentBefore, HasSeen, IsFree}
 use Rattle.protocol.specs.Replica.Certificates.{target, view, taken, is_later, low, is_in_marks, logged, prepare_of, commit_of, Prepared, Committed}
 use Rattle.protocol.specs.Replica.State.{Call}
-use Rattle.protocol.specs.Replica.Owed.{IsSaying, BeginsViewWith, BringsChange, HasLatestChange, HasBatch, CanBeginView, AreKeysSpent, StartsAhead}
+use Rattle.protocol.specs.Replica.Owed.{IsSending, BeginsViewWith, BringsChange, HasLatestChange, HasBatch, CanBeginView, AreKeysSpent, StartsAhead}
 use Rattle.claims.specs.ClaimsView.{ClaimsData}
 use Rattle.view_change.specs.ReceivedData.{HeldData}
 use Rattle.replica_histories.specs.Logs.{FitsLog, IsVoted, checkpoints_above}
@@ -42,12 +42,12 @@ use Rattle.desk.specs.State.{DeskData}
 use Rattle.desk.specs.DeskOf.{waiting_calls, desk_of}
 use Rattle.orderer.specs.Flags.{FitsFlags, flagged}
 use Rattle.replica.specs.Numbering.{IsAllNumbered}
-use Rattle.orderer.specs.Fitting.{FitsWaiting, WasSaid, changes_held}
+use Rattle.orderer.specs.Fitting.{FitsWaiting, WasSent, changes_held}
 use Rattle.orderer.specs.Numbering.{next_number}
-use Rattle.replica.specs.Joined.{joined, me_of}
+use Rattle.replica.specs.BothParts.{both_parts, me_of}
 use Rattle.replica.specs.Parted.{DeskMatchesHistory, OrdererMatchesHistory, IsUsed}
 use Rattle.replica.specs.PartedLaws.{PartsJoin, HoldsPart}
-use Rattle.orderer.specs.Changing.{AreChanges}
+use Rattle.orderer.specs.ViewChangeOut.{AreChanges}
 use Rattle.orderer.proofs.Flags.{count_same as flags_count}
 use Rattle.replica_histories.proofs.Resting.{held_are_settled}
 use Rattle.replica_histories.proofs.Words.{primary_same}
@@ -153,7 +153,7 @@ module _ (c : Configuration) (me : ℕ) (g h : List Entry) (s : CertifySame c me
 
 -- ---- view-change data
 
-saying_sent : (me : ℕ) (message : Message) (frame : List ℕ) (past : List Entry) (e : Entry) → said frame ≡ Some (record { sender = me; message = message }) → SendsBytes frame past e → IsSaying me message e
+saying_sent : (me : ℕ) (message : Message) (frame : List ℕ) (past : List Entry) (e : Entry) → said frame ≡ Some (record { sender = me; message = message }) → SendsBytes frame past e → IsSending me message e
 saying_sent me message frame past (Sent p text) says is = ap said is ∙ says
 saying_sent me message frame past _ says is = absurd is
 
@@ -335,11 +335,11 @@ module _ (c : Configuration) (me : ℕ) (g h : List Entry) (p : LeavesOut c me g
       begun_back (inl none) = inl none
       begun_back (inr (new, once, at, is)) = inr (new, taken_back new once, at, is)
 
-  pub said_over : (last : Option CheckpointEntry) → WasSaid me last g → WasSaid me last h
-  said_over last f entry is = once_over c me (λ past e. IsSaying me (Checkpoint entry.number entry.digest) e) (λ e g h p x. x) g h p (f entry is)
+  pub said_over : (last : Option CheckpointEntry) → WasSent me last g → WasSent me last h
+  said_over last f entry is = once_over c me (λ past e. IsSending me (Checkpoint entry.number entry.digest) e) (λ e g h p x. x) g h p (f entry is)
 
-  pub said_back : (last : Option CheckpointEntry) → WasSaid me last h → WasSaid me last g
-  said_back last f entry is = once_back c me (λ past e. IsSaying me (Checkpoint entry.number entry.digest) e) (λ e g h p x. x)
+  pub said_back : (last : Option CheckpointEntry) → WasSent me last h → WasSent me last g
+  said_back last f entry is = once_back c me (λ past e. IsSending me (Checkpoint entry.number entry.digest) e) (λ e g h p x. x)
       (λ e past idle x. idle.says (Checkpoint entry.number entry.digest) x) g h p (f entry is)
 
 -- ---- used numbers, and waiting requests
@@ -388,7 +388,7 @@ module _ (c : Configuration) (o : OrdererData) (d : DeskData) (h : List Entry) (
       subst (λ (v : ℕ). FitsFlags c me v o.used d.waiting d.executed.state (waiting_calls c d.waiting.requests) h) fits.view
       (record { calls = f.1.calls; free = u.free; full = u.full; rightly = f.1.rightly; numbered = f.1.numbered; known = f.1.known; differ = f.1.differ })
 
-  all : IsAllNumbered (joined o d)
+  all : IsAllNumbered (both_parts o d)
   all (own, marks, near, active) =
       let f = numbered own in
       let n = next_number o in

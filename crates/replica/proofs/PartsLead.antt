@@ -14,16 +14,16 @@ use Rattle.replica.specs.declared.replica.Event.{Event}
 use Rattle.replica.specs.declared.replica.Event.TheVariants as events
 use Rattle.replica.specs.Fits.{EventLeads, SendsAsMeant}
 use Rattle.orderer.specs.State.{OrdererData}
-use Rattle.replica.specs.State.{MemberData, JoinedData, OrdererPart, DeskPart, ReplicaData, IsOrdererPart, IsDeskPart, AreOne}
+use Rattle.replica.specs.State.{MemberData, BothPartsData, OrdererPart, DeskPart, ReplicaData, IsOrdererPart, IsDeskPart, AreOne}
 use Rattle.replica.specs.ReplicaView.{both_of}
 use Rattle.desk.specs.State.{DeskData}
 use Rattle.desk.specs.Desking.{IsNewDesk}
 use Rattle.orderer.specs.Taking.{IsNewOrderer}
 use Rattle.replica.specs.Inputs.{input_of}
-use Rattle.replica.specs.Joined.{JoinedEventLeads, JoinedFitsHistory}
+use Rattle.replica.specs.BothParts.{BothPartsEventLead, BothPartsFitHistory}
 use Rattle.replica.specs.Parted.{DeskMatchesHistory, OrdererMatchesHistory, DeskFitsHistory, OrdererFitsHistory, FitBoth, AreTogether, BothLead, BothSendAsMeant, PartsReact}
-use Rattle.orderer.specs.Changing.{AreChanges}
-use Rattle.replica.specs.Joined.{joined}
+use Rattle.orderer.specs.ViewChangeOut.{AreChanges}
+use Rattle.replica.specs.BothParts.{both_parts}
 use Rattle.replica.proofs.Fitting.{fits_new}
 use Rattle.replica.proofs.PartsJoining.{parts_join, holds_part}
 
@@ -54,14 +54,14 @@ orderer_fits c me m o ordering mine members_are holds = record {
 
 -- both fit the histories that they fit when joined
 both_fit : (c : Configuration) (m : MemberData) (o : OrdererData) (d : DeskData) (history : List Entry) → AreOne o d → AreChanges o.received.held → o.endpoint.me ≡ m.me
-    → members c ≡ m.membership → JoinedFitsHistory c (joined o d) history → FitBoth c m.me (orders m o) (answers m d) history
+    → members c ≡ m.membership → BothPartsFitHistory c (both_parts o d) history → FitBoth c m.me (orders m o) (answers m d) history
 both_fit c m o d history one are mine members_are fits = (
   desk_fits c m.me m d history refl members_are (subst (λ (n : ℕ). IsReplica c n history) mine fits.right) (subst (λ (n : ℕ). DeskMatchesHistory c n d history) mine parts.0),
   orderer_fits c m.me m o (without_reads history) refl members_are (subst (λ (n : ℕ). OrdererMatchesHistory c n o (without_reads history)) mine parts.1),
 )
   where
     parts : DeskMatchesHistory c o.endpoint.me d history × OrdererMatchesHistory c o.endpoint.me o (without_reads history)
-    parts = holds_part c (joined o d) history one are fits.runs
+    parts = holds_part c (both_parts o d) history one are fits.runs
 
 -- ---- a replica that begins
 
@@ -75,15 +75,15 @@ one_new c me o d new_orderer new_desk = (
 pub both_new : (c : Configuration) (m : MemberData) (me : ℕ) (o : OrdererData) (d : DeskData) → IsConfiguration c → me < 3 * c.faults + 1 → m.me ≡ me → m.membership ≡ members c
     → IsNewOrderer c me o → IsNewDesk c me d → AreChanges o.received.held → FitBoth c m.me (orders m o) (answers m d) []
 both_new c m me o d valid few mine membership new_orderer new_desk are =
-    both_fit c m o d [] (one_new c me o d new_orderer new_desk) are (ap (λ (x : OrdererData). x.endpoint.me) new_orderer.0 ∙ sym mine) (sym membership) (fits_new c me valid few (joined o d) new_orderer new_desk)
+    both_fit c m o d [] (one_new c me o d new_orderer new_desk) are (ap (λ (x : OrdererData). x.endpoint.me) new_orderer.0 ∙ sym mine) (sym membership) (fits_new c me valid few (both_parts o d) new_orderer new_desk)
 
 -- ---- an event
 
 module _ (m n : MemberData) (o later_o : OrdererData) (d later_d : DeskData) (event : Event) (outs : List Output) (same : n ≡ m) (mine : o.endpoint.me ≡ m.me) (membership : o.endpoint.membership ≡ m.membership)
     (one : AreOne o d) (later_one : AreOne later_o later_d) (are : AreChanges later_o.received.held) (endpoint : later_o.endpoint ≡ o.endpoint)
-    (leads : JoinedEventLeads (joined o d) event outs (joined later_o later_d)) where
+    (leads : BothPartsEventLead (both_parts o d) event outs (both_parts later_o later_d)) where
   -- the joined replica fits what both fit
-  fits_joined : (c : Configuration) (history : List Entry) → FitBoth c m.me (orders m o) (answers m d) history → JoinedFitsHistory c (joined o d) history
+  fits_joined : (c : Configuration) (history : List Entry) → FitBoth c m.me (orders m o) (answers m d) history → BothPartsFitHistory c (both_parts o d) history
   fits_joined c history (fits_desk, fits_orderer) = record {
     members_are = fits_desk.members_are ∙ sym membership;
     right = subst (λ (k : ℕ). IsReplica c k history) (sym mine) fits_desk.right;
@@ -95,7 +95,7 @@ module _ (m n : MemberData) (o later_o : OrdererData) (d later_d : DeskData) (ev
       → FitBoth c m.me (orders m later_o) (answers m later_d) (after_event m.me (input_of m.me event) outs history)
   lead_at c history fits =
       both_fit c m later_o later_d (after_event m.me (input_of m.me event) outs history) later_one are (ap (λ e. e.me) endpoint ∙ mine) fits.0.members_are
-      (subst (λ (k : ℕ). JoinedFitsHistory c (joined later_o later_d) (after_event k (input_of k event) outs history)) mine (leads c history (fits_joined c history fits)).0)
+      (subst (λ (k : ℕ). BothPartsFitHistory c (both_parts later_o later_d) (after_event k (input_of k event) outs history)) mine (leads c history (fits_joined c history fits)).0)
 
   -- both fit this as parts of one replica
   fit_at : (c : Configuration) (me : ℕ) (history : List Entry) → FitBoth c me (orders m o) (answers n d) history → FitBoth c m.me (orders m o) (answers m d) history
@@ -152,11 +152,11 @@ pub replica_sends : (r : ReplicaData) (outs : List Output) → BothSendAsMeant r
 replica_sends r outs meant c history fits = meant c r.desk.member.me history fits
 
 -- an event of a replica that runs
-pub joined_steps : (m : MemberData) (h : Option JoinedData) (x later : JoinedData) (event : Event) (outs : List Output) → h ≡ Some x → IsOrdererPart (both_of m h).orderer → AreOne x.orderer x.desk
-    → JoinedEventLeads x event outs later → AreOne later.orderer later.desk → AreChanges later.orderer.received.held → later.orderer.endpoint ≡ x.orderer.endpoint
+pub joined_steps : (m : MemberData) (h : Option BothPartsData) (x later : BothPartsData) (event : Event) (outs : List Output) → h ≡ Some x → IsOrdererPart (both_of m h).orderer → AreOne x.orderer x.desk
+    → BothPartsEventLead x event outs later → AreOne later.orderer later.desk → AreChanges later.orderer.received.held → later.orderer.endpoint ≡ x.orderer.endpoint
     → EventLeads (both_of m h) event outs (both_of m (Some later)) × SendsAsMeant (both_of m h) outs
 joined_steps m h x later event outs is own one leads later_one are endpoint =
-    subst (λ (k : Option JoinedData). EventLeads (both_of m k) event outs (both_of m (Some later)) × SendsAsMeant (both_of m k) outs) (sym is) (
+    subst (λ (k : Option BothPartsData). EventLeads (both_of m k) event outs (both_of m (Some later)) × SendsAsMeant (both_of m k) outs) (sym is) (
       replica_leads (both_of m (Some x)) (orders m later.orderer) (answers m later.desk) event outs refl
           (both_lead m m x.orderer later.orderer x.desk later.desk event outs refl mine.0 mine.1 one later_one are endpoint leads),
       replica_sends (both_of m (Some x)) outs
@@ -164,7 +164,7 @@ joined_steps m h x later event outs is own one leads later_one are endpoint =
     )
   where
     mine : (x.orderer.endpoint.me ≡ m.me) × (x.orderer.endpoint.membership ≡ m.membership)
-    mine = own x.orderer (ap (option_map (λ (r : JoinedData). r.orderer)) is)
+    mine = own x.orderer (ap (option_map (λ (r : BothPartsData). r.orderer)) is)
 
 -- ---- parts that are not together fit nothing
 
@@ -222,7 +222,7 @@ both_stop o stopped_o d stopped_d event same_o none_o same_d none_d c me history
 )
 
 -- a replica of which both parts have stopped, after an event
-pub joined_stops : (m : MemberData) (h : Option JoinedData) (event : Event) → EventLeads (both_of m h) event [] (both_of m None)
+pub joined_stops : (m : MemberData) (h : Option BothPartsData) (event : Event) → EventLeads (both_of m h) event [] (both_of m None)
 joined_stops m h event =
     replica_leads (both_of m h) (both_of m None).orderer (both_of m None).desk event [] refl
     (both_stop (both_of m h).orderer (both_of m None).orderer (both_of m h).desk (both_of m None).desk event refl refl refl refl)

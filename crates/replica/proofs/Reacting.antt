@@ -9,7 +9,7 @@ use Rattle.protocol.specs.System.Configuration.{Configuration, members}
 use Rattle.protocol.specs.System.Trace.{Entry, is_output}
 use Rattle.protocol.specs.Replica.Certificates.{target}
 use Rattle.protocol.specs.Replica.State.{State}
-use Rattle.posting.specs.Endpoint.{EndpointState}
+use Rattle.frame_endpoint.specs.Endpoint.{EndpointState}
 use Rattle.replica_histories.specs.Questions.{AnswersInput}
 use Rattle.replica_histories.specs.Logs.{FitsLog}
 use Rattle.protocol.specs.Replica.Owed.{IsReplica}
@@ -23,12 +23,12 @@ use Rattle.replica_histories.proofs.Primaries.{no_views_are_left}
 use Rattle.replica_histories.proofs.Starting.{held_are_replicas}
 use Rattle.replica_histories.proofs.Questions.{others_owe_none}
 use Rattle.terms.specs.declared.order.Number.{Number}
-use Rattle.replica.specs.declared.taking.Touched.{Touched}
-use Rattle.replica.specs.declared.taking.Touched.TheVariants as touched
-use Rattle.replica.specs.State.{JoinedData, AreOne}
+use Rattle.replica.specs.declared.taking.DueWork.{DueWork}
+use Rattle.replica.specs.declared.taking.DueWork.TheVariants as due_work
+use Rattle.replica.specs.State.{BothPartsData, AreOne}
 use Rattle.replica.specs.Beginning.{CannotBegin}
 use Rattle.replica.specs.Desks.{PartsFitEvent}
-use Rattle.orderer.specs.Fitting.{given, FitsEvent, FitsWaiting, WasSaid, changes_held}
+use Rattle.orderer.specs.Fitting.{given, FitsEvent, FitsWaiting, WasSent, changes_held}
 use Rattle.desk.specs.Waiting.{count_unnumbered}
 use Rattle.desk.specs.DeskOf.{waiting_calls, desk_of}
 use Rattle.replica.specs.Going.{IsSameParty, IsOneParty, NothingIsLeft}
@@ -38,7 +38,7 @@ use Rattle.replica.specs.FollowingUp.{FollowsUp, ExecutesAndNumbers}
 use Rattle.replica.specs.declared.replica.Event.{Event}
 use Rattle.replica.specs.declared.replica.Event.TheVariants as events
 use Rattle.replica.specs.Inputs.{input_of}
-use Rattle.replica.specs.Joined.{JoinedMatchesHistory, JoinedFitsHistory, JoinedStaysRight, me_of}
+use Rattle.replica.specs.BothParts.{BothPartsMatchHistory, BothPartsFitHistory, BothPartsStayRight, me_of}
 use Rattle.replica.specs.Entering.{event_with, InputIsAnswered, IsTakenBeside, TakesInput}
 use Rattle.replica.proofs.Choosing.{begun_same}
 use Rattle.orderer.proofs.Flags.{flags_given}
@@ -59,7 +59,7 @@ next_free c me used executed log history fits next = rw (fits.span, sym fits.low
 
 -- ---- settled
 
-pub settled : (c : Configuration) (me : ℕ) (r : JoinedData) (history : List Entry) → FitsLog c me r.orderer.log history
+pub settled : (c : Configuration) (me : ℕ) (r : BothPartsData) (history : List Entry) → FitsLog c me r.orderer.log history
     → FitsWaiting c me r.orderer r.desk.waiting (desk_of c r.desk) history → NothingIsLeft r → IsAllNumbered r → IsSettled c me (desk_of c r.desk) r.orderer.log history
 settled c me r history fits count rest all = record {
   prepares = λ i. (rest.0 i).0;
@@ -77,21 +77,21 @@ settled c me r history fits count rest all = record {
 
 -- ---- the end of an event
 
-module _ (old new : JoinedData) (one : AreOne old.orderer old.desk) (party : IsOneParty old new) where
-  pub ends : (c : Configuration) (past : List Entry) (input : Entry) (outs : List Output) (f : JoinedFitsHistory c old past) (runs : JoinedMatchesHistory c old past) → is_output input ≡ false
+module _ (old new : BothPartsData) (one : AreOne old.orderer old.desk) (party : IsOneParty old new) where
+  pub ends : (c : Configuration) (past : List Entry) (input : Entry) (outs : List Output) (f : BothPartsFitHistory c old past) (runs : BothPartsMatchHistory c old past) → is_output input ≡ false
       → PartsFitEvent c (start_at c (me_of old) (desk_of c old.desk) old.orderer.log past runs.holds input) new.orderer new.desk [] outs → NothingIsLeft new → IsAllNumbered new
       → AnswersInput c (me_of old) past input (given (me_of old) outs) runs.holds.of_desk.point new.desk.executed.state.number → CannotBegin c new.orderer
       → (outs ≡ []) ⊎ IsTaken c (me_of old) (start_at c (me_of old) (desk_of c old.desk) old.orderer.log past runs.holds input)
-      → JoinedFitsHistory c new (after_event (me_of old) input outs past) × AreSentAsMeant c (me_of old) outs
+      → BothPartsFitHistory c new (after_event (me_of old) input outs past) × AreSentAsMeant c (me_of old) outs
   ends c past input outs f runs is st rest all answered begun why = (
-    subst (JoinedFitsHistory c new) (behind_is (map (entry_of (me_of old)) outs) (input ∷ past)) (record {
+    subst (BothPartsFitHistory c new) (behind_is (map (entry_of (me_of old)) outs) (input ∷ past)) (record {
       members_are = f.members_are ∙ sym (ap (λ (e : EndpointState). e.membership) party.endpoint);
       right = subst (λ (e : EndpointState). IsReplica c e.me now) (sym party.endpoint) (held_are_replicas c (me_of old) (desk_of c new.desk) new.orderer.log now held);
       runs = record {
         is_desk = st.is;
         holds = subst (λ (x : EndpointState). histories.BothFitBetweenEvents c x.me (desk_of c new.desk) new.orderer.log now) (sym party.endpoint) held;
         numbers = subst (λ (x : EndpointState). FitsWaiting c x.me new.orderer new.desk.waiting (desk_of c new.desk) now) (sym party.endpoint) event.numbers;
-        said = subst (λ (x : EndpointState). WasSaid x.me new.orderer.last_checkpoint now) (sym party.endpoint) event.said;
+        said = subst (λ (x : EndpointState). WasSent x.me new.orderer.last_checkpoint now) (sym party.endpoint) event.said;
         changes = subst (λ (x : EndpointState). FitsChanges c x.me new.orderer.log (changes_held new.orderer) now) (sym party.endpoint) event.changes;
         all = all;
         begun = begun;
@@ -129,15 +129,15 @@ module _ (old new : JoinedData) (one : AreOne old.orderer old.desk) (party : IsO
 
 -- ---- by what the event touched
 
-module _ (input : Entry) (old : JoinedData) (one : AreOne old.orderer old.desk) (is_input : is_output input ≡ false) where
-  known : (c : Configuration) (past : List Entry) → JoinedFitsHistory c old past → members c ≡ old.desk.membership
+module _ (input : Entry) (old : BothPartsData) (one : AreOne old.orderer old.desk) (is_input : is_output input ≡ false) where
+  known : (c : Configuration) (past : List Entry) → BothPartsFitHistory c old past → members c ≡ old.desk.membership
   known c past f = f.members_are ∙ sym one.1
 
   -- a rule that takes it at the later replica takes it at the earlier one
-  taken_then : (c : Configuration) (s : Start) (new : JoinedData) → IsOneParty old new → IsTaken c (me_of new) s → IsTaken c (me_of old) s
+  taken_then : (c : Configuration) (s : Start) (new : BothPartsData) → IsOneParty old new → IsTaken c (me_of new) s → IsTaken c (me_of old) s
   taken_then c s new party t = subst (λ (e : EndpointState). IsTaken c e.me s) party.endpoint t
 
-  why : (c : Configuration) (s : Start) (new : JoinedData) (outs : List Output) → IsOneParty old new → (outs ≡ []) ⊎ IsTaken c (me_of new) s → (outs ≡ []) ⊎ IsTaken c (me_of old) s
+  why : (c : Configuration) (s : Start) (new : BothPartsData) (outs : List Output) → IsOneParty old new → (outs ≡ []) ⊎ IsTaken c (me_of new) s → (outs ≡ []) ⊎ IsTaken c (me_of old) s
   why c s new outs party (inl e) = inl e
   why c s new outs party (inr t) = inr (taken_then c s new party t)
 
@@ -146,11 +146,11 @@ module _ (input : Entry) (old : JoinedData) (one : AreOne old.orderer old.desk) 
   beside_answered c me s number t = (t.0, λ outputs executed above. others_owe_none c me s.before s.input outputs s.old executed t.1)
 
   -- an event that ends with numbers for waiting requests
-  ends_numbered : (c : Configuration) (past : List Entry) (mid before new : JoinedData) (x outs : List Output) (f : JoinedFitsHistory c old past) (runs : JoinedMatchesHistory c old past)
+  ends_numbered : (c : Configuration) (past : List Entry) (mid before new : BothPartsData) (x outs : List Output) (f : BothPartsFitHistory c old past) (runs : BothPartsMatchHistory c old past)
       → IsOneParty old mid → IsSameParty mid before → NumbersWaitingRequests before x new outs → mid.desk.executed.state.number ≤ before.desk.executed.state.number → NothingIsLeft before
       → PartsFitEvent c (event_with c old past runs input) before.orderer before.desk [] x → CannotBegin c mid.orderer
       → IsTaken c (me_of mid) (event_with c old past runs input) × InputIsAnswered c (me_of mid) (event_with c old past runs input) mid.desk.executed.state.number
-      → JoinedFitsHistory c new (after_event (me_of old) input outs past) × AreSentAsMeant c (me_of old) outs
+      → BothPartsFitHistory c new (after_event (me_of old) input outs past) × AreSentAsMeant c (me_of old) outs
   ends_numbered c past mid before new x outs f runs first then n above rest st begun t =
       let party = ones_twice old mid before first (one_of_same mid before then) in
       let p = n.proceeds rest c (event_with c old past runs input) (known c past f ∙ sym party.membership) st in
@@ -160,7 +160,7 @@ module _ (input : Entry) (old : JoinedData) (one : AreOne old.orderer old.desk) 
       (begun_same c before.orderer new.orderer n.party.orderer (begun_same c mid.orderer before.orderer then.orderer begun)) (inr (taken_then c (event_with c old past runs input) mid first t.0))
 
   -- The event's own part, and then what follows by what it touched.
-  leads_nothing : (new : JoinedData) (outs : List Output) → TakesInput input old touched.Nothing new outs → JoinedStaysRight old input outs new
+  leads_nothing : (new : BothPartsData) (outs : List Output) → TakesInput input old due_work.Nothing new outs → BothPartsStayRight old input outs new
   leads_nothing new outs t c past f =
       let runs = f.runs in
       let b = t.begins c past runs (known c past f) in
@@ -168,13 +168,13 @@ module _ (input : Entry) (old : JoinedData) (one : AreOne old.orderer old.desk) 
       (subst (λ (e : EndpointState). AnswersInput c e.me past input (given e.me outs) runs.holds.of_desk.point new.desk.executed.state.number) t.party.endpoint b.1.2) b.2
       (why c (event_with c old past runs input) new outs t.party b.1.3)
 
-  leads_waiting : (mid new : JoinedData) (x outs : List Output) → TakesInput input old touched.Waiting mid x → NumbersWaitingRequests mid x new outs → JoinedStaysRight old input outs new
+  leads_waiting : (mid new : BothPartsData) (x outs : List Output) → TakesInput input old due_work.Waiting mid x → NumbersWaitingRequests mid x new outs → BothPartsStayRight old input outs new
   leads_waiting mid new x outs t n c past f =
       let runs = f.runs in
       let b = t.begins c past runs (known c past f) in
       ends_numbered c past mid mid new x outs f runs t.party (same_party mid) n (omega arith) b.1.0 b.0 b.2 (b.1.1.0, λ outputs executed above. b.1.1.1 outputs executed)
 
-  leads_row : (number : Number) (mid new : JoinedData) (x outs : List Output) → TakesInput input old (touched.Row number) mid x → FollowsUp (touched.Row number) mid x new outs → JoinedStaysRight old input outs new
+  leads_row : (number : Number) (mid new : BothPartsData) (x outs : List Output) → TakesInput input old (due_work.Row number) mid x → FollowsUp (due_work.Row number) mid x new outs → BothPartsStayRight old input outs new
   leads_row number mid new x outs t (voted, y, g, n) c past f =
       let runs = f.runs in
       let b = t.begins c past runs (known c past f) in
@@ -182,14 +182,14 @@ module _ (input : Entry) (old : JoinedData) (one : AreOne old.orderer old.desk) 
       ends_numbered c past mid voted new y outs f runs t.party g.party n g.rises (g.rests b.1.0) st b.2
       (beside_answered c (me_of mid) (event_with c old past runs input) mid.desk.executed.state.number b.1.1)
 
-  leads_state : (mid new : JoinedData) (x outs : List Output) → TakesInput input old touched.State mid x → ExecutesAndNumbers mid x new outs → JoinedStaysRight old input outs new
+  leads_state : (mid new : BothPartsData) (x outs : List Output) → TakesInput input old due_work.State mid x → ExecutesAndNumbers mid x new outs → BothPartsStayRight old input outs new
   leads_state mid new x outs t (run, y, g, n) c past f =
       let runs = f.runs in
       let b = t.begins c past runs (known c past f) in
       let st = g.proceeds b.1.0 c (event_with c old past runs input) (known c past f ∙ sym t.party.membership) b.0 in
       ends_numbered c past mid run new y outs f runs t.party g.party n g.rises (g.rests b.1.0) st b.2 (b.1.1, b.1.2)
 
-  leads_view : (mid new : JoinedData) (x outs : List Output) → TakesInput input old touched.View mid x → ExecutesAndNumbers mid x new outs → JoinedStaysRight old input outs new
+  leads_view : (mid new : BothPartsData) (x outs : List Output) → TakesInput input old due_work.View mid x → ExecutesAndNumbers mid x new outs → BothPartsStayRight old input outs new
   leads_view mid new x outs t (run, y, g, n) c past f =
       let runs = f.runs in
       let b = t.begins c past runs (known c past f) in
@@ -207,13 +207,13 @@ module _ (input : Entry) (old : JoinedData) (one : AreOne old.orderer old.desk) 
       (inr (taken_then c s mid t.party b.1.1.0))
 
   -- whatever it touched
-  pub leads_on : (what : Touched) (mid new : JoinedData) (x outs : List Output) → TakesInput input old what mid x → FollowsUp what mid x new outs → JoinedStaysRight old input outs new
-  leads_on touched.Nothing mid new x outs t (same, still) =
-      subst (λ (a : JoinedData). JoinedStaysRight old input outs a) (sym same) (subst (λ (os : List Output). JoinedStaysRight old input os mid) (sym still) (leads_nothing mid x t))
-  leads_on touched.Waiting mid new x outs t n = leads_waiting mid new x outs t n
-  leads_on (touched.Row number) mid new x outs t u = leads_row number mid new x outs t u
-  leads_on touched.State mid new x outs t u = leads_state mid new x outs t u
-  leads_on touched.View mid new x outs t u = leads_view mid new x outs t u
+  pub leads_on : (what : DueWork) (mid new : BothPartsData) (x outs : List Output) → TakesInput input old what mid x → FollowsUp what mid x new outs → BothPartsStayRight old input outs new
+  leads_on due_work.Nothing mid new x outs t (same, still) =
+      subst (λ (a : BothPartsData). BothPartsStayRight old input outs a) (sym same) (subst (λ (os : List Output). BothPartsStayRight old input os mid) (sym still) (leads_nothing mid x t))
+  leads_on due_work.Waiting mid new x outs t n = leads_waiting mid new x outs t n
+  leads_on (due_work.Row number) mid new x outs t u = leads_row number mid new x outs t u
+  leads_on due_work.State mid new x outs t u = leads_state mid new x outs t u
+  leads_on due_work.View mid new x outs t u = leads_view mid new x outs t u
 
 -- An event has an input.
 pub has_input : (me : ℕ) (event : Event) → is_output (input_of me event) ≡ false

@@ -9,9 +9,9 @@ use Rattle.terms.specs.declared.order.Mode.TheVariants as modes
 use Rattle.terms.specs.declared.state.Level.TheVariants as levels
 use Rattle.wire_format.specs.Messages.{BodyData as Body, AuthenticatorData, macs, signature, request as Request, pre_prepare as PrePrepare, reply as Reply, fetch as Fetch, meta as Meta, page as Page, view_change as ViewChange}
 use Rattle.wire_format.specs.Words.{said, receivers_of}
-use Rattle.signing.specs.Heard.{heard}
+use Rattle.signing.specs.AuthenticBody.{authentic}
 use Rattle.protocol.specs.System.Configuration.{Configuration, members, primary}
-use Rattle.protocol.specs.System.Frames.{IsPosted}
+use Rattle.protocol.specs.System.Frames.{IsOutgoing}
 use Rattle.protocol.specs.System.Trace.{Entry, Once, Has}
 use Rattle.protocol.specs.System.Trace.Entry.{Got, Sent}
 use Rattle.protocol.specs.Replica.Selection.{is_quorum}
@@ -68,8 +68,8 @@ addressed c me past client timestamp number a (signature s) h = tt
 -- ---- an answered read
 
 module _ (c : Configuration) (me : ℕ) (h : List Entry) (p : Point) (bytes answer : List ℕ) (client timestamp : ℕ) (op : Operation) (proceeds : HistoryIsPrompt c me h [] p p) (fetched : QuorumsFetched c p.state.number h)
-    (hears : heard (members c) me bytes ≡ Some (read_from client timestamp op)) (is_read : is_read_only op ≡ true)
-    (frame : IsPosted c me (read_reply p.state client timestamp op) (client ∷ []) answer) where
+    (receives : authentic (members c) me bytes ≡ Some (read_from client timestamp op)) (is_read : is_read_only op ≡ true)
+    (frame : IsOutgoing c me (read_reply p.state client timestamp op) (client ∷ []) answer) where
   abbrev now : List Entry
   now = Sent me answer ∷ Got me bytes ∷ h
 
@@ -77,16 +77,16 @@ module _ (c : Configuration) (me : ℕ) (h : List Entry) (p : Point) (bytes answ
   mid = record p { ran = []; waiting = waiting_after c me p bytes }
 
   pub waits : waiting_after c me p bytes ≡ p.waiting
-  waits = ap (λ (o : Option Body). option_map_or (with_waiting p.state p.waiting) (option_and_then (call_in c) o) p.waiting) hears
+  waits = ap (λ (o : Option Body). option_map_or (with_waiting p.state p.waiting) (option_and_then (call_in c) o) p.waiting) receives
 
-  read_only : (b : Body) → heard (members c) me bytes ≡ Some b → is_read_request b ≡ true
-  read_only b other = ap is_read_request (some_injective b (read_from client timestamp op) (sym other ∙ hears))
+  read_only : (b : Body) → authentic (members c) me bytes ≡ Some b → is_read_request b ≡ true
+  read_only b other = ap is_read_request (some_injective b (read_from client timestamp op) (sym other ∙ receives))
 
   reply_only : (b : Body) → said answer ≡ Some b → is_read_reply b ≡ true
   reply_only b other = ap is_read_reply (some_injective b (record { sender = me; message = read_reply p.state client timestamp op }) (sym other ∙ frame.says))
 
   pub got_quiet : BringsNothing c me (Got me bytes)
-  got_quiet = got_idle c me me bytes (λ body is. subst (λ (b : Body). OrdersNothing b.message) (some_injective (read_from client timestamp op) body (sym (heard_said c me bytes (read_from client timestamp op) hears) ∙ is)) tt)
+  got_quiet = got_idle c me me bytes (λ body is. subst (λ (b : Body). OrdersNothing b.message) (some_injective (read_from client timestamp op) body (sym (heard_said c me bytes (read_from client timestamp op) receives) ∙ is)) tt)
 
   pub sent_quiet : BringsNothing c me (Sent me answer)
   sent_quiet = sent_idle c me me answer (λ body is. reply_is_quiet body.message body.sender (reply_only body is))
@@ -122,7 +122,7 @@ module _ (c : Configuration) (me : ℕ) (h : List Entry) (p : Point) (bytes answ
     checkpoints = λ k e multiple. absurd (no_execution k e);
     again = λ k t o kept other is at. let bad : false ≡ true = read_only (record { sender = 256 + k; message = Request t modes.Ordered o }) other in absurd cc;
     says_again = λ waits. let bad : false ≡ true = read_only (ordered_from waits.0) waits.2 in absurd cc;
-    reads = λ a t o other is. inl (same_answer a t o (sym hears ∙ other));
+    reads = λ a t o other is. inl (same_answer a t o (sym receives ∙ other));
     fetched_digests = λ s k index level is other st kept. let bad : false ≡ true = read_only (record { sender = s; message = Fetch k level index }) other in absurd cc;
     fetched_page = λ s k index other st kept. let bad : false ≡ true = read_only (record { sender = s; message = Fetch k levels.Page index }) other in absurd cc;
     goes_on_by_digests = λ s k index level digests other awaited. let bad : false ≡ true = read_only (record { sender = s; message = Meta k level index digests }) other in absurd cc;
@@ -135,7 +135,7 @@ module _ (c : Configuration) (me : ℕ) (h : List Entry) (p : Point) (bytes answ
         (can_begin_idle c me (Got me bytes ∷ h) (Sent me answer) sent_quiet (idle_same c me (Sent me answer) sent_quiet (Got me bytes ∷ h)) other can))));
     view_changes = λ vc other moves may within says. absurd (no_reason c me h bytes p.waiting vc.view (λ s x asks. let bad : false ≡ true = read_only (record { sender = s; message = ViewChange x }) asks in absurd cc) moves);
     dropped = λ other got drops. let at : bytes ≡ other = cc in
-        absurd (drops (read_from client timestamp op) (subst (λ (b : List ℕ). heard (members c) me b ≡ Some (read_from client timestamp op)) at hears) is_read);
+        absurd (drops (read_from client timestamp op) (subst (λ (b : List ℕ). authentic (members c) me b ≡ Some (read_from client timestamp op)) at receives) is_read);
   }
     where
       no_execution : (k : ℕ) → Has (λ e. Executes k [] e) (Sent me answer ∷ []) → ⊥
@@ -154,7 +154,7 @@ module _ (c : Configuration) (me : ℕ) (h : List Entry) (p : Point) (bytes answ
     says = frame.says;
     own = refl;
     seen = tt;
-    say = record { op = op; is_read = is_read; heard = inl hears; answer_is = refl; number_is = refl };
+    allowed = record { op = op; is_read = is_read; authentic = inl receives; answer_is = refl; number_is = refl };
     is_sealed = λ f is. let s = frame.is_sealed f is in (s.0, addressed c me (Got me bytes ∷ h) client timestamp p.state.number (outcome (tuples p.state) (client - 256) op) f.authenticator s.1);
     leaf = unsigned_have_no_leaf (Got me bytes ∷ h) answer (record { sender = me; message = read_reply p.state client timestamp op }) frame.says refl;
     once = λ here. here;

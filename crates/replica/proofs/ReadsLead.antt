@@ -6,11 +6,11 @@ use Rattle.space.specs.Applying.{is_read_only}
 use Rattle.wire.specs.Marks.{asks_read}
 use Rattle.wire_format.specs.Messages.{BodyData as Body, request as Request}
 use Rattle.wire_format.specs.Words.{said}
-use Rattle.signing.specs.Heard.{heard}
+use Rattle.signing.specs.AuthenticBody.{authentic}
 use Rattle.events.specs.declared.output.Output.{Output}
 use Rattle.events.specs.Outputs.{entry_of, after_event, AreSentAsMeant}
 use Rattle.protocol.specs.System.Configuration.{Configuration, members}
-use Rattle.protocol.specs.System.Frames.{IsPosted}
+use Rattle.protocol.specs.System.Frames.{IsOutgoing}
 use Rattle.protocol.specs.System.Reads.{is_beside, without_reads}
 use Rattle.protocol.specs.System.Trace.{Entry}
 use Rattle.protocol.specs.System.Trace.Entry.{Got, Sent}
@@ -30,7 +30,7 @@ use Rattle.orderer.specs.Flags.{FitsFlags}
 use Rattle.replica.specs.Idle.{BringsNothing}
 use Rattle.replica.specs.Parted.{DeskMatchesHistory, ReadLeads, ReadSendsAsMeant}
 use Rattle.replica.specs.Reads.{is_read_request}
-use Rattle.desk.specs.Reading.{AnswersRead, HearsNoRead, AnswersBytes}
+use Rattle.desk.specs.Reading.{AnswersRead, ReceivesNoRead, AnswersBytes}
 use Rattle.desk.specs.DeskOf.{waiting_calls, desk_of}
 use Rattle.orderer.proofs.Flags.{flags_stay}
 use Rattle.replica.proofs.ReadMarks.{marked_are_requests, replies_are_marked}
@@ -79,30 +79,30 @@ module _ (c : Configuration) (me : ℕ) (d : DeskData) (h : List Entry) (bytes :
 
   -- ---- answered
 
-  module _ (client t : ℕ) (op : Operation) (answer : List ℕ) (hears : heard (members c) me bytes ≡ Some (read_from client t op)) (is_read : is_read_only op ≡ true)
-      (frame : IsPosted c me (read_reply p.state client t op) (client ∷ []) answer) where
+  module _ (client t : ℕ) (op : Operation) (answer : List ℕ) (receives : authentic (members c) me bytes ≡ Some (read_from client t op)) (is_read : is_read_only op ≡ true)
+      (frame : IsOutgoing c me (read_reply p.state client t op) (client ∷ []) answer) where
     got_quiet : BringsNothing c me (Got me bytes)
-    got_quiet = beside.got_quiet c me h p bytes answer client t op hd.holds.proceeds fetched hears is_read frame
+    got_quiet = beside.got_quiet c me h p bytes answer client t op hd.holds.proceeds fetched receives is_read frame
 
     sent_quiet : BringsNothing c me (Sent me answer)
-    sent_quiet = beside.sent_quiet c me h p bytes answer client t op hd.holds.proceeds fetched hears is_read frame
+    sent_quiet = beside.sent_quiet c me h p bytes answer client t op hd.holds.proceeds fetched receives is_read frame
 
     pub answered : Left c me d h (Sent me answer ∷ got)
     answered = (
-      holds_on c me d h hd (Sent me answer ∷ got) (beside.same c me h p bytes answer client t op hd.holds.proceeds fetched hears is_read frame) mid
-          (beside.goes_on c me h p bytes answer client t op hd.holds.proceeds fetched hears is_read frame)
-          (same_point (beside.waits c me h p bytes answer client t op hd.holds.proceeds fetched hears is_read frame))
+      holds_on c me d h hd (Sent me answer ∷ got) (beside.same c me h p bytes answer client t op hd.holds.proceeds fetched receives is_read frame) mid
+          (beside.goes_on c me h p bytes answer client t op hd.holds.proceeds fetched receives is_read frame)
+          (same_point (beside.waits c me h p bytes answer client t op hd.holds.proceeds fetched receives is_read frame))
           (frames_on c me (desk_of c d) got (Sent me answer) (frames_on c me (desk_of c d) h (Got me bytes) hd.holds.frames))
           (open_stays c me (desk_of c d).transfer d.executed.state.number got (Sent me answer) (asks_none answer me (read_reply p.state client t op) frame.says refl) tt opened)
           (λ v used f. flags_on v used got (Sent me answer) sent_quiet (flags_on v used h (Got me bytes) got_quiet f))
-          (beside.started c me h p bytes answer client t op hd.holds.proceeds fetched hears is_read frame),
-      inl (mid, beside.goes_on c me h p bytes answer client t op hd.holds.proceeds fetched hears is_read frame),
+          (beside.started c me h p bytes answer client t op hd.holds.proceeds fetched receives is_read frame),
+      inl (mid, beside.goes_on c me h p bytes answer client t op hd.holds.proceeds fetched receives is_read frame),
       unread (Sent me answer) got (replies_are_marked answer (record { sender = me; message = read_reply p.state client t op }) frame.says refl) ∙ unread (Got me bytes) h marks,
     )
 
   -- ---- dropped
 
-  module _ (never : (client t : ℕ) (op : Operation) → heard (members c) me bytes ≡ Some (read_from client t op) → is_read_only op ≡ true → ⊥) where
+  module _ (never : (client t : ℕ) (op : Operation) → authentic (members c) me bytes ≡ Some (read_from client t op) → is_read_only op ≡ true → ⊥) where
     says : (body : Body) → said bytes ≡ Some body → is_read_request body ≡ true
     says body is = marked_are_requests bytes body marks is
 
@@ -121,28 +121,28 @@ module _ (c : Configuration) (me : ℕ) (d : DeskData) (h : List Entry) (bytes :
   -- ---- whatever the desk gives
 
   module _ (known : members c ≡ d.membership) (mine : d.me ≡ me) where
-    hears_so : (o : Option Body) → heard d.membership d.me bytes ≡ o → heard (members c) me bytes ≡ o
-    hears_so o is = ap (λ m. heard m me bytes) known ∙ ap (λ n. heard d.membership n bytes) (sym mine) ∙ is
+    hears_so : (o : Option Body) → authentic d.membership d.me bytes ≡ o → authentic (members c) me bytes ≡ o
+    hears_so o is = ap (λ m. authentic m me bytes) known ∙ ap (λ n. authentic d.membership n bytes) (sym mine) ∙ is
 
     answers : (outs : List Output) → AnswersRead d bytes [] outs → Left c me d h (after_event me (Got me bytes) outs h)
     answers outs a = subst (λ (os : List Output). Left c me d h (after_event me (Got me bytes) os h)) (sym a.says.given_is)
         (subst (λ (e : Entry). Left c me d h (e ∷ got)) (sym sends)
-        (answered (256 + a.client.number) a.timestamp a.op a.says.posts.bytes (hears_so (Some (read_from (256 + a.client.number) a.timestamp a.op)) a.hears) a.is_read posted))
+        (answered (256 + a.client.number) a.timestamp a.op a.says.posts.bytes (hears_so (Some (read_from (256 + a.client.number) a.timestamp a.op)) a.receives) a.is_read posted))
       where
         sends : entry_of me a.says.output ≡ Sent me a.says.posts.bytes
         sends = subst (λ (m : ℕ). entry_of m a.says.output ≡ Sent m a.says.posts.bytes) mine a.says.posts.sends
 
-        posted : IsPosted c me (read_reply p.state (256 + a.client.number) a.timestamp a.op) ((256 + a.client.number) ∷ []) a.says.posts.bytes
-        posted = subst (λ (s : State). IsPosted c me (read_reply s (256 + a.client.number) a.timestamp a.op) ((256 + a.client.number) ∷ []) a.says.posts.bytes) (sym state_is)
-            (subst (λ (m : ℕ). IsPosted c m (read_reply d.executed.state (256 + a.client.number) a.timestamp a.op) ((256 + a.client.number) ∷ []) a.says.posts.bytes) mine (a.says.posts.posted c known))
+        posted : IsOutgoing c me (read_reply p.state (256 + a.client.number) a.timestamp a.op) ((256 + a.client.number) ∷ []) a.says.posts.bytes
+        posted = subst (λ (s : State). IsOutgoing c me (read_reply s (256 + a.client.number) a.timestamp a.op) ((256 + a.client.number) ∷ []) a.says.posts.bytes) (sym state_is)
+            (subst (λ (m : ℕ). IsOutgoing c m (read_reply d.executed.state (256 + a.client.number) a.timestamp a.op) ((256 + a.client.number) ∷ []) a.says.posts.bytes) mine (a.says.posts.posted c known))
 
-    never_heard : HearsNoRead d bytes → (client t : ℕ) (op : Operation) → heard (members c) me bytes ≡ Some (read_from client t op) → is_read_only op ≡ true → ⊥
-    never_heard (inl silent) client t op hears is = absurd (none_some (read_from client t op) (sym (hears_so None silent) ∙ hears))
+    never_heard : ReceivesNoRead d bytes → (client t : ℕ) (op : Operation) → authentic (members c) me bytes ≡ Some (read_from client t op) → is_read_only op ≡ true → ⊥
+    never_heard (inl silent) client t op receives is = absurd (none_some (read_from client t op) (sym (hears_so None silent) ∙ receives))
       where
         none_some : (x : Body) → None ≡ Some x → ⊥
         none_some x e = absurd cc
-    never_heard (inr (k, u, o, other, not_read)) client t op hears is =
-        let same = some_injective (read_from k u o) (read_from client t op) (sym (hears_so (Some (read_from k u o)) other) ∙ hears) in
+    never_heard (inr (k, u, o, other, not_read)) client t op receives is =
+        let same = some_injective (read_from k u o) (read_from client t op) (sym (hears_so (Some (read_from k u o)) other) ∙ receives) in
         let ops : o ≡ op = operation_same k u client t o op same in
         let bad : false ≡ true = sym not_read ∙ ap is_read_only ops ∙ is in absurd cc
       where

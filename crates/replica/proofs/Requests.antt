@@ -10,8 +10,8 @@ use Rattle.terms.specs.declared.order.Timestamp.{Timestamp}
 use Rattle.wire_format.specs.Messages.{BodyData as Body, MessageData as Message, request as Request}
 use Rattle.wire_format.proofs.Saying.{reads_said}
 use Rattle.authenticator.specs.Membership.{has_sender}
-use Rattle.signing.specs.Heard.{heard}
-use Rattle.signing.proofs.Heard.{heard_was_opened}
+use Rattle.signing.specs.AuthenticBody.{authentic}
+use Rattle.signing.proofs.AuthenticBody.{authentic_was_opened}
 use Rattle.events.specs.declared.output.Output.{Output}
 use Rattle.reply_cache.specs.Replies.{Kept}
 use Rattle.ordering.specs.Log.{LogData}
@@ -32,16 +32,16 @@ use Rattle.replica_histories.proofs.Counting.{requests_count, others_drop}
 use Rattle.replica_histories.proofs.Entering.{inputs_fit}
 use Rattle.replica_histories.specs.Changes.{FitsChanges, LogPassesEntry, IsNoBatch, IsNoChange}
 use Rattle.replica_histories.proofs.ChangesPassing.{inputs_enter}
-use Rattle.replica_histories.proofs.ChangesKept.{heard_keep, others_bring_none}
+use Rattle.replica_histories.proofs.ChangesKept.{received_keep, others_bring_none}
 use Rattle.replica_histories.proofs.Questions.{new_requests_owe_none}
 use Rattle.replica_histories.proofs.Resending.{resending_suffices, waiting_are_new}
 use Rattle.protocol.proofs.Words.Linking.{heard_said}
 use Rattle.protocol.proofs.Words.Reacting.{proceeds_leaves}
 use Rattle.protocol.proofs.Points.Invoking.{call_body}
 use Rattle.desk.specs.declared.waiting.WaitingRequest.{WaitingRequest}
-use Rattle.replica.specs.declared.taking.Touched.TheVariants as touched
+use Rattle.replica.specs.declared.taking.DueWork.TheVariants as due_work
 use Rattle.orderer.specs.State.{OrdererData}
-use Rattle.replica.specs.State.{JoinedData, AreOne}
+use Rattle.replica.specs.State.{BothPartsData, AreOne}
 use Rattle.desk.specs.State.{DeskData}
 use Rattle.desk.specs.Waiting.{WaitingData, frames_waiting, is_begun, is_of, request_of, with_request, without_client}
 use Rattle.orderer.specs.Flags.{FitsFlags}
@@ -51,7 +51,7 @@ use Rattle.replica.proofs.Desking.{PaysAgain}
 use Rattle.desk.specs.Desking.{HasReply, RequestWaits}
 use Rattle.desk.specs.Arriving.{IsBehind, IsPast, IsWaitingAlready, IsNewer}
 use Rattle.desk.specs.DeskOf.{waiting_call, waiting_calls, desk_of, IsDeskOf}
-use Rattle.replica.specs.Joined.{JoinedMatchesHistory, me_of}
+use Rattle.replica.specs.BothParts.{BothPartsMatchHistory, me_of}
 use Rattle.replica.specs.Numbering.{AllAgain}
 use Rattle.replica.specs.Entering.{event_of, IsLeftToDo, TakesBytes, TakesRequest}
 use Rattle.replica.proofs.Beginning.{rests, none_taken, changes_kept}
@@ -74,28 +74,28 @@ call_for k t op = record { client = k; timestamp = t; op = op }
 back : (k : ℕ) → 256 + k - 256 ≡ k
 back k = omega arith
 
-module _ (c : Configuration) (me : ℕ) (bytes : List ℕ) (k t : ℕ) (op : Operation) (h : heard (members c) me bytes ≡ Some (body_of k t op)) where
+module _ (c : Configuration) (me : ℕ) (bytes : List ℕ) (k t : ℕ) (op : Operation) (h : authentic (members c) me bytes ≡ Some (body_of k t op)) where
   -- the call of the request
   call_is : call_in c (body_of k t op) ≡ Some (call_for k t op)
   call_is = go (is_client c (256 + k)) known
     where
       known : is_client c (256 + k) ≡ true
-      known = let o = heard_was_opened (members c) me bytes (body_of k t op) h in
+      known = let o = authentic_was_opened (members c) me bytes (body_of k t op) h in
           ap (has_sender (members c)) (sym o.body_is) ∙ o.opens.sender
 
       go : (b : Bool) → b ≡ true → cond b (Some (call_for (256 + k - 256) t op)) None ≡ Some (call_for k t op)
       go true e = ap (λ (n : ℕ). Some (call_for n t op)) (back k)
       go false e = absurd cc
 
-  call_heard : option_and_then (call_in c) (heard (members c) me bytes) ≡ Some (call_for k t op)
+  call_heard : option_and_then (call_in c) (authentic (members c) me bytes) ≡ Some (call_for k t op)
   call_heard = ap (option_and_then (call_in c)) h ∙ call_is
 
   call_of_bytes : call_of c bytes ≡ Some (call_for k t op)
   call_of_bytes =
-      let o = heard_was_opened (members c) me bytes (body_of k t op) h in
+      let o = authentic_was_opened (members c) me bytes (body_of k t op) h in
       ap (option_and_then (call_in c)) (reads_said bytes o.frame o.opens.spelled ∙ ap Some o.body_is) ∙ call_is
 
-  asked_is : (st : State) → replies_again st (heard (members c) me bytes) ≡ again_for k t (kept_of st k)
+  asked_is : (st : State) → replies_again st (authentic (members c) me bytes) ≡ again_for k t (kept_of st k)
   asked_is st = ap (replies_again st) h ∙ go (nat_le 256 (256 + k)) (le-leb 256 (256 + k) (omega arith))
     where
       go : (b : Bool) → b ≡ true → cond b (again_for (256 + k - 256) t (kept_of st (256 + k - 256))) [] ≡ again_for k t (kept_of st k)
@@ -117,15 +117,15 @@ module _ (c : Configuration) (me : ℕ) (bytes : List ℕ) (k t : ℕ) (op : Ope
     due_is = sym (asked_is desk.state);
   }
     where
-      here : (frame : List ℕ) → Has (λ x. x ≡ frame) desk.frames ⊎ (frame ≡ bytes) → Has (λ x. x ≡ frame) desk.frames ⊎ ((frame ≡ bytes) × (is_some (heard (members c) me bytes) ≡ true))
+      here : (frame : List ℕ) → Has (λ x. x ≡ frame) desk.frames ⊎ (frame ≡ bytes) → Has (λ x. x ≡ frame) desk.frames ⊎ ((frame ≡ bytes) × (is_some (authentic (members c) me bytes) ≡ true))
       here frame (inl x) = inl x
       here frame (inr x) = inr (x, ap is_some h)
 
 -- a request older than the waiting one is not the waiting one
-not_behind : (c : Configuration) (me : ℕ) (bytes : List ℕ) (k t : ℕ) (op : Operation) (r : WaitingRequest) → heard (members c) me bytes ≡ Some (body_of k t op) → call_of c r.frame.items ≡ Some (call_for k t op)
+not_behind : (c : Configuration) (me : ℕ) (bytes : List ℕ) (k t : ℕ) (op : Operation) (r : WaitingRequest) → authentic (members c) me bytes ≡ Some (body_of k t op) → call_of c r.frame.items ≡ Some (call_for k t op)
     → waiting_call c r ≡ call_for k t op → IsBehind r t bytes → ⊥
-not_behind c me bytes k t op r hears spells is (inl below) = let same = ap (λ (x : Call). x.timestamp) is in omega (arith, below, same)
-not_behind c me bytes k t op r hears spells is (inr (same, other)) = other (call_body c r.frame.items (call_for k t op) spells ∙ sym (heard_said c me bytes (body_of k t op) hears))
+not_behind c me bytes k t op r receives spells is (inl below) = let same = ap (λ (x : Call). x.timestamp) is in omega (arith, below, same)
+not_behind c me bytes k t op r receives spells is (inr (same, other)) = other (call_body c r.frame.items (call_for k t op) spells ∙ sym (heard_said c me bytes (body_of k t op) receives))
 
 -- ---- a replica gets it
 
@@ -136,8 +136,8 @@ seen_of_kept st k t kept has same = go (kept_of st k) has
     go None e = absurd cc
     go (Some x) e = let one : x.timestamp ≡ kept.timestamp = cc in omega (arith, one, same)
 
-module _ (old : JoinedData) (client : ClientId) (timestamp : Timestamp) (bytes : List ℕ) (one : AreOne old.orderer old.desk) (op : Operation)
-    (hears : heard old.desk.membership old.desk.me bytes ≡ Some (body_of client.number timestamp.0 op)) where
+module _ (old : BothPartsData) (client : ClientId) (timestamp : Timestamp) (bytes : List ℕ) (one : AreOne old.orderer old.desk) (op : Operation)
+    (receives : authentic old.desk.membership old.desk.me bytes ≡ Some (body_of client.number timestamp.0 op)) where
   abbrev k : ℕ
   k = client.number
 
@@ -148,15 +148,15 @@ module _ (old : JoinedData) (client : ClientId) (timestamp : Timestamp) (bytes :
   abbrev due : List Message
   due = again_for k t (kept_of old.desk.executed.state k)
 
-  module _ (c : Configuration) (past : List Entry) (runs : JoinedMatchesHistory c old past) (known : members c ≡ old.desk.membership) where
+  module _ (c : Configuration) (past : List Entry) (runs : BothPartsMatchHistory c old past) (known : members c ≡ old.desk.membership) where
     abbrev start : Start
     start = event_of c old past runs bytes
 
     abbrev input : Entry
     input = Got (me_of old) bytes
 
-    h : heard (members c) (me_of old) bytes ≡ Some (body_of k t op)
-    h = ap (λ m. heard m (me_of old) bytes) known ∙ ap (λ (n : ℕ). heard old.desk.membership n bytes) (sym one.0) ∙ hears
+    h : authentic (members c) (me_of old) bytes ≡ Some (body_of k t op)
+    h = ap (λ m. authentic m (me_of old) bytes) known ∙ ap (λ (n : ℕ). authentic old.desk.membership n bytes) (sym one.0) ∙ receives
 
     -- it brings no new view
     free : taken c past input ≡ None
@@ -170,7 +170,7 @@ module _ (old : JoinedData) (client : ClientId) (timestamp : Timestamp) (bytes :
     -- the view-change data stay
     changes : LogPassesEntry c (me_of old) past input old.orderer.log old.orderer.log → FitsChanges c (me_of old) old.orderer.log (changes_held old.orderer) (input ∷ past)
     changes = changes_kept old one c past runs bytes old.orderer.log (same_log old.orderer.log) refl
-        (λ passes. heard_keep c (me_of old) past bytes free (subst IsNoBatch (sym h) tt) (λ s other. others_bring_none c (me_of old) s past bytes (subst IsNoChange (sym h) tt) other))
+        (λ passes. received_keep c (me_of old) past bytes free (subst IsNoBatch (sym h) tt) (λ s other. others_bring_none c (me_of old) s past bytes (subst IsNoChange (sym h) tt) other))
 
     -- the kept reply is due
     stands : (d : DeskData) → d.me ≡ old.desk.me → IsDeskOf c d → BytesEnter c (me_of old) bytes (desk_of c old.desk) (desk_of c d) old.orderer.log old.orderer.log due
@@ -246,7 +246,7 @@ module _ (old : JoinedData) (client : ClientId) (timestamp : Timestamp) (bytes :
         (found_call c k old.desk.waiting.requests r (call_for k t op) runs.is_desk.differ found has refl).1 behind
 
     -- if nothing is touched
-    leaves : (outs : List Output) → AnswersInput c (me_of old) past input (given (me_of old) outs) point old.desk.executed.state.number → (outs ≡ []) ⊎ IsTaken c (me_of old) start → IsLeftToDo c start touched.Nothing old outs
+    leaves : (outs : List Output) → AnswersInput c (me_of old) past input (given (me_of old) outs) point old.desk.executed.state.number → (outs ≡ []) ⊎ IsTaken c (me_of old) start → IsLeftToDo c start due_work.Nothing old outs
     leaves outs answered silent = (rests c old past runs, runs.all, answered, silent)
 
   -- ---- what the replica sends for it
@@ -255,7 +255,7 @@ module _ (old : JoinedData) (client : ClientId) (timestamp : Timestamp) (bytes :
   due_none d c s o outs none st = subst (λ (ms : List Message). PartsFitEvent c s o d ms outs) none st
 
   -- the kept reply goes again
-  takes_kept : (outs : List Output) → PaysAgain old.desk client timestamp [] outs → HasReply old.desk client timestamp true → TakesBytes bytes old touched.Nothing old outs
+  takes_kept : (outs : List Output) → PaysAgain old.desk client timestamp [] outs → HasReply old.desk client timestamp true → TakesBytes bytes old due_work.Nothing old outs
   takes_kept outs pays (kept, has, same) = record {
     party = one_self old;
     begins = λ c past runs known. (
@@ -267,7 +267,7 @@ module _ (old : JoinedData) (client : ClientId) (timestamp : Timestamp) (bytes :
   }
 
   -- a past request is dropped
-  takes_past : (outs : List Output) → due ≡ [] → outs ≡ [] → IsPast old.desk k t bytes → TakesBytes bytes old touched.Nothing old outs
+  takes_past : (outs : List Output) → due ≡ [] → outs ≡ [] → IsPast old.desk k t bytes → TakesBytes bytes old due_work.Nothing old outs
   takes_past outs none silent is = record {
     party = one_self old;
     begins = λ c past runs known. (
@@ -279,7 +279,7 @@ module _ (old : JoinedData) (client : ClientId) (timestamp : Timestamp) (bytes :
   }
 
   -- a request that waits already makes the replica send again what it sent
-  takes_again : (outs : List Output) → due ≡ [] → IsWaitingAlready old.desk k t bytes → AllAgain old [] old outs → TakesBytes bytes old touched.Nothing old outs
+  takes_again : (outs : List Output) → due ≡ [] → IsWaitingAlready old.desk k t bytes → AllAgain old [] old outs → TakesBytes bytes old due_work.Nothing old outs
   takes_again outs none (lt, r, found, same, says) again = record {
     party = one_self old;
     begins = λ c past runs known. (
@@ -294,7 +294,7 @@ module _ (old : JoinedData) (client : ClientId) (timestamp : Timestamp) (bytes :
     );
   }
     where
-      given_again : (c : Configuration) (past : List Entry) (runs : JoinedMatchesHistory c old past) (known : members c ≡ old.desk.membership)
+      given_again : (c : Configuration) (past : List Entry) (runs : BothPartsMatchHistory c old past) (known : members c ≡ old.desk.membership)
           → AnswersInput c (me_of old) past (Got (me_of old) bytes) (given (me_of old) outs) runs.holds.of_desk.point old.desk.executed.state.number
       given_again c past runs known =
           resending_suffices c (me_of old) (desk_of c old.desk) old.orderer.log past (Got (me_of old) bytes) (given (me_of old) outs) (changes_held old.orderer) (call_for k t op) old.desk.executed.state.number runs.holds runs.changes (h c past runs known)
@@ -311,7 +311,7 @@ module _ (old : JoinedData) (client : ClientId) (timestamp : Timestamp) (bytes :
     abbrev waiting_desk : DeskData
     waiting_desk = record old.desk { waiting = more }
 
-    module _ (c : Configuration) (past : List Entry) (runs : JoinedMatchesHistory c old past) (known : members c ≡ old.desk.membership) where
+    module _ (c : Configuration) (past : List Entry) (runs : BothPartsMatchHistory c old past) (known : members c ≡ old.desk.membership) where
       abbrev calls : List Call
       calls = waiting_calls c old.desk.waiting.requests
 
@@ -356,7 +356,7 @@ module _ (old : JoinedData) (client : ClientId) (timestamp : Timestamp) (bytes :
           (sym (ap (with_waiting old.desk.executed.state calls) (sym same_call) ∙ waiting_is)) frames_are)
           new_numbers
 
-    takes_new_so : TakesBytes bytes old touched.Waiting (record old { desk = waiting_desk }) outs
+    takes_new_so : TakesBytes bytes old due_work.Waiting (record old { desk = waiting_desk }) outs
     takes_new_so = record {
       party = record { endpoint = refl; me = refl; membership = refl };
       begins = λ c past runs known. (
@@ -376,36 +376,36 @@ module _ (old : JoinedData) (client : ClientId) (timestamp : Timestamp) (bytes :
       );
     }
 
-    takes_new : TakesBytes bytes old touched.Waiting (record old { desk = desk }) outs
-    takes_new = subst (λ (d : DeskData). TakesBytes bytes old touched.Waiting (record old { desk = d }) outs) (sym waits.2) takes_new_so
+    takes_new : TakesBytes bytes old due_work.Waiting (record old { desk = desk }) outs
+    takes_new = subst (λ (d : DeskData). TakesBytes bytes old due_work.Waiting (record old { desk = d }) outs) (sym waits.2) takes_new_so
 
 -- ---- what a request does
 
 -- what the same replica sends again, from the first output on
-pub all_again : (before old new : JoinedData) (x y : List Output) → before ≡ old → AllAgain before x new y → x ≡ [] → AllAgain old [] old y
+pub all_again : (before old new : BothPartsData) (x y : List Output) → before ≡ old → AllAgain before x new y → x ≡ [] → AllAgain old [] old y
 all_again before old new x y same says first =
-    let own : AllAgain old [] new y = subst (λ (xs : List Output). AllAgain old xs new y) first (subst (λ (r : JoinedData). AllAgain r x new y) same says) in
-    subst (λ (r : JoinedData). AllAgain old [] r y) own.same own
+    let own : AllAgain old [] new y = subst (λ (xs : List Output). AllAgain old xs new y) first (subst (λ (r : BothPartsData). AllAgain r x new y) same says) in
+    subst (λ (r : BothPartsData). AllAgain old [] r y) own.same own
 
-abbrev Silent : JoinedData → ClientId → Timestamp → Type 0
+abbrev Silent : BothPartsData → ClientId → Timestamp → Type 0
 Silent old client timestamp = again_for client.number timestamp.0 (kept_of old.desk.executed.state client.number) ≡ []
 
-pub request_kept : (old : JoinedData) (client : ClientId) (timestamp : Timestamp) (bytes : List ℕ) (new : JoinedData) (outs : List Output) → AreOne old.orderer old.desk → new ≡ old
-    → PaysAgain old.desk client timestamp [] outs → HasReply old.desk client timestamp true → TakesRequest client timestamp bytes old touched.Nothing new outs
-request_kept old client timestamp bytes new outs one same pays has op hears =
-    subst (λ (r : JoinedData). TakesBytes bytes old touched.Nothing r outs) (sym same) (takes_kept old client timestamp bytes one op hears outs pays has)
+pub request_kept : (old : BothPartsData) (client : ClientId) (timestamp : Timestamp) (bytes : List ℕ) (new : BothPartsData) (outs : List Output) → AreOne old.orderer old.desk → new ≡ old
+    → PaysAgain old.desk client timestamp [] outs → HasReply old.desk client timestamp true → TakesRequest client timestamp bytes old due_work.Nothing new outs
+request_kept old client timestamp bytes new outs one same pays has op receives =
+    subst (λ (r : BothPartsData). TakesBytes bytes old due_work.Nothing r outs) (sym same) (takes_kept old client timestamp bytes one op receives outs pays has)
 
-pub request_past : (old : JoinedData) (client : ClientId) (timestamp : Timestamp) (bytes : List ℕ) (new : JoinedData) (outs : List Output) → AreOne old.orderer old.desk → new ≡ old
-    → Silent old client timestamp → outs ≡ [] → IsPast old.desk client.number timestamp.0 bytes → TakesRequest client timestamp bytes old touched.Nothing new outs
-request_past old client timestamp bytes new outs one same none silent is op hears =
-    subst (λ (r : JoinedData). TakesBytes bytes old touched.Nothing r outs) (sym same) (takes_past old client timestamp bytes one op hears outs none silent is)
+pub request_past : (old : BothPartsData) (client : ClientId) (timestamp : Timestamp) (bytes : List ℕ) (new : BothPartsData) (outs : List Output) → AreOne old.orderer old.desk → new ≡ old
+    → Silent old client timestamp → outs ≡ [] → IsPast old.desk client.number timestamp.0 bytes → TakesRequest client timestamp bytes old due_work.Nothing new outs
+request_past old client timestamp bytes new outs one same none silent is op receives =
+    subst (λ (r : BothPartsData). TakesBytes bytes old due_work.Nothing r outs) (sym same) (takes_past old client timestamp bytes one op receives outs none silent is)
 
-pub request_again : (old : JoinedData) (client : ClientId) (timestamp : Timestamp) (bytes : List ℕ) (new : JoinedData) (outs : List Output) → AreOne old.orderer old.desk → new ≡ old
-    → Silent old client timestamp → IsWaitingAlready old.desk client.number timestamp.0 bytes → AllAgain old [] old outs → TakesRequest client timestamp bytes old touched.Nothing new outs
-request_again old client timestamp bytes new outs one same none is says op hears =
-    subst (λ (r : JoinedData). TakesBytes bytes old touched.Nothing r outs) (sym same) (takes_again old client timestamp bytes one op hears outs none is says)
+pub request_again : (old : BothPartsData) (client : ClientId) (timestamp : Timestamp) (bytes : List ℕ) (new : BothPartsData) (outs : List Output) → AreOne old.orderer old.desk → new ≡ old
+    → Silent old client timestamp → IsWaitingAlready old.desk client.number timestamp.0 bytes → AllAgain old [] old outs → TakesRequest client timestamp bytes old due_work.Nothing new outs
+request_again old client timestamp bytes new outs one same none is says op receives =
+    subst (λ (r : BothPartsData). TakesBytes bytes old due_work.Nothing r outs) (sym same) (takes_again old client timestamp bytes one op receives outs none is says)
 
-pub request_new : (old : JoinedData) (client : ClientId) (timestamp : Timestamp) (bytes : List ℕ) (desk : DeskData) (outs : List Output) → AreOne old.orderer old.desk
+pub request_new : (old : BothPartsData) (client : ClientId) (timestamp : Timestamp) (bytes : List ℕ) (desk : DeskData) (outs : List Output) → AreOne old.orderer old.desk
     → Silent old client timestamp → outs ≡ [] → IsNewer old.desk client.number timestamp.0 → RequestWaits client timestamp bytes old.desk desk
-    → TakesRequest client timestamp bytes old touched.Waiting (record old { desk = desk }) outs
-request_new old client timestamp bytes desk outs one none silent newer waits op hears = takes_new old client timestamp bytes one op hears outs desk none silent newer waits
+    → TakesRequest client timestamp bytes old due_work.Waiting (record old { desk = desk }) outs
+request_new old client timestamp bytes desk outs one none silent newer waits op receives = takes_new old client timestamp bytes one op receives outs desk none silent newer waits

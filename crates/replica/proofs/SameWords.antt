@@ -11,19 +11,19 @@ use Rattle.protocol.specs.System.Configuration.{Configuration, replicas}
 use Rattle.protocol.specs.System.Trace.{Entry}
 use Rattle.protocol.specs.System.Trace.Entry.{Got, Sent}
 use Rattle.protocol.specs.Replica.Selection.{is_quorum}
-use Rattle.protocol.specs.Replica.Certificates.{brought, view, view_after, target, taken, is_later, is_active_in, new_view_in, change_sent, checkpoint_in, installed_at, count_checkpoints, says_checkpoint, is_stable, stable_at, started_at, low, is_in_marks, counts_at, checkpoints_of, with_checkpoint, batch_begun, batch_from, begun_proposal, entry_proposal, proposal, logged, prepare_from, prepare_of, commit_from, commit_of, vote_in, change_taken, change_at, latest_change}
+use Rattle.protocol.specs.Replica.Certificates.{brought, view, view_after, target, taken, is_later, is_active_in, new_view_in, change_sent, checkpoint_in, installed_at, count_checkpoints, lists_checkpoint, is_stable, stable_at, started_at, low, is_in_marks, counts_at, checkpoints_of, with_checkpoint, batch_begun, batch_from, begun_proposal, entry_proposal, proposal, logged, prepare_from, prepare_of, commit_from, commit_of, vote_in, change_taken, change_at, latest_change}
 use Rattle.protocol.specs.Replica.Transfers.{fetch_sent, fetching, asked_last}
 use Rattle.protocol.proofs.Words.Options.{or_else_alone}
 use Rattle.replica.specs.Idle.{BringsNothing, CertifySame, WordsStay}
 use Rattle.replica.specs.Idle.LeavesOut.{none, both, beside}
 
 pub count_checkpoints_same : (c : Configuration) (g h : List Entry) → ((s : ℕ) → checkpoints_of c h s ≡ checkpoints_of c g s) → (mark : CheckpointEntry) → count_checkpoints c h mark ≡ count_checkpoints c g mark
-count_checkpoints_same c g h same mark = count_same (λ s. says_checkpoint mark (checkpoints_of c h s)) (λ s. says_checkpoint mark (checkpoints_of c g s)) (λ s. ap (says_checkpoint mark) (same s)) (replicas c)
+count_checkpoints_same c g h same mark = count_same (λ s. lists_checkpoint mark (checkpoints_of c h s)) (λ s. lists_checkpoint mark (checkpoints_of c g s)) (λ s. ap (lists_checkpoint mark) (same s)) (replicas c)
 
 pub stable_same : (c : Configuration) (me : ℕ) (g h : List Entry) → ((s : ℕ) → checkpoints_of c h s ≡ checkpoints_of c g s) → (mark : CheckpointEntry) → is_stable c me h mark ≡ is_stable c me g mark
 stable_same c me g h same mark =
-    ap (λ (n : ℕ). is_quorum c n && says_checkpoint mark (checkpoints_of c h me)) (count_checkpoints_same c g h same mark)
-    ∙ ap (λ (ms : List CheckpointEntry). is_quorum c (count_checkpoints c g mark) && says_checkpoint mark ms) (same me)
+    ap (λ (n : ℕ). is_quorum c n && lists_checkpoint mark (checkpoints_of c h me)) (count_checkpoints_same c g h same mark)
+    ∙ ap (λ (ms : List CheckpointEntry). is_quorum c (count_checkpoints c g mark) && lists_checkpoint mark ms) (same me)
 
 -- ---- an entry of both
 

@@ -14,9 +14,9 @@ use Rattle.replica_histories.proofs.NewViews.{starts_may_ask}
 use Rattle.orderer.specs.State.{OrdererData}
 use Rattle.desk.specs.State.{DeskData}
 use Rattle.desk.specs.Waiting.{WaitingData}
-use Rattle.desk.specs.Fetching.{aimed_at, aiming, fetch_of}
+use Rattle.desk.specs.Fetching.{target_number, with_target, fetch_of}
 use Rattle.desk.specs.DeskOf.{desk_of}
-use Rattle.orderer.specs.Saying.{SaysToOthers}
+use Rattle.orderer.specs.Multicasting.{Multicasts}
 use Rattle.replica.proofs.Following.{aim_of, aimed_same, opened_same, asks_root}
 use Rattle.orderer.specs.Fitting.{given, FitsEvent}
 use Rattle.orderer.proofs.Voting.{asks_due}
@@ -25,7 +25,7 @@ module _ (c : Configuration) (s : Start) (o : OrdererData) (d : DeskData) (w : W
   abbrev pub start_of : CheckpointEntry
   start_of = record { number = new.start; digest = new.root }
 
-  start_may_ask : (due : List Message) → Once (λ past e. taken c past e ≡ Some new) (after_outputs s (given o.endpoint.me before)) → aimed_at d < new.start → FitsEvent c o.endpoint.me s o (desk_of c d) w due before
+  start_may_ask : (due : List Message) → Once (λ past e. taken c past e ≡ Some new) (after_outputs s (given o.endpoint.me before)) → target_number d < new.start → FitsEvent c o.endpoint.me s o (desk_of c d) w due before
       → TransferMayAsk c o.endpoint.me (aim_of start_of d).transfer d.executed.state.number (after_outputs s (given o.endpoint.me before))
       × AsksNext c o.endpoint.me (aim_of start_of d).transfer d.executed.state (after_outputs s (given o.endpoint.me before))
   start_may_ask due once ahead f =
@@ -35,9 +35,9 @@ module _ (c : Configuration) (s : Start) (o : OrdererData) (d : DeskData) (w : W
       (subst (λ (n : ℕ). n < new.start) (sym (aimed_same d.executed.state.number d.transfer)) ahead) f.fits)
 
   -- The due fetch is sent, and the transfer is open after it.
-  pub start_aims : (rest : List Message) → members c ≡ o.endpoint.membership → Once (λ past e. taken c past e ≡ Some new) (after_outputs s (given o.endpoint.me before)) → aimed_at d < new.start
-      → SaysToOthers o (fetch_of (aim_of start_of d).transfer) before after → FitsEvent c o.endpoint.me s o (desk_of c d) w (Fetch new.start levels.Root 0 ∷ rest) before
-      → FitsEvent c o.endpoint.me s o (desk_of c (aiming start_of d)) w rest after
+  pub start_aims : (rest : List Message) → members c ≡ o.endpoint.membership → Once (λ past e. taken c past e ≡ Some new) (after_outputs s (given o.endpoint.me before)) → target_number d < new.start
+      → Multicasts o (fetch_of (aim_of start_of d).transfer) before after → FitsEvent c o.endpoint.me s o (desk_of c d) w (Fetch new.start levels.Root 0 ∷ rest) before
+      → FitsEvent c o.endpoint.me s o (desk_of c (with_target start_of d)) w rest after
   start_aims rest known once ahead says f =
       let asking = start_may_ask (Fetch new.start levels.Root 0 ∷ rest) once ahead f in
       asks_due c s o (desk_of c d) w before after (aim_of start_of d).transfer known says rest asking.0 asking.1

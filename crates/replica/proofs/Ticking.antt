@@ -10,7 +10,7 @@ use Rattle.protocol.specs.Replica.Certificates.{view, target}
 use Rattle.protocol.specs.Replica.RightReplica.{Point, kept_states, sought_view}
 use Rattle.protocol.specs.Replica.Owed.{HasToMove}
 use Rattle.protocol.proofs.Words.Options.{some_injective}
-use Rattle.posting.specs.Endpoint.{EndpointState}
+use Rattle.frame_endpoint.specs.Endpoint.{EndpointState}
 use Rattle.view_change.specs.Laws.{ChangesAreJudged}
 use Rattle.replica_histories.specs.Changes.{FitsChanges, LogPassesEntry}
 use Rattle.replica_histories.specs.Desk.{snapshot_of}
@@ -26,21 +26,21 @@ use Rattle.replica_histories.proofs.Entering.{ticks_fit}
 use Rattle.replica_histories.proofs.Leaves.{all_are_spent}
 use Rattle.replica_histories.proofs.Questions.{others_owe_no_part}
 use Rattle.replica_histories.proofs.Transfers.{ticks_may_ask}
-use Rattle.replica.specs.declared.taking.Touched.{Touched}
-use Rattle.replica.specs.declared.taking.Touched.TheVariants as touched
+use Rattle.replica.specs.declared.taking.DueWork.{DueWork}
+use Rattle.replica.specs.declared.taking.DueWork.TheVariants as due_work
 use Rattle.state_transfer.specs.Transfer.{TransferData}
 use Rattle.orderer.specs.State.{OrdererData}
-use Rattle.replica.specs.State.{JoinedData, AreOne}
+use Rattle.replica.specs.State.{BothPartsData, AreOne}
 use Rattle.desk.specs.State.{OpenData}
 use Rattle.desk.specs.DeskOf.{waiting_calls, desk_of}
 use Rattle.replica.specs.Beginning.{MayBegin, HasNoView}
 use Rattle.replica.specs.Changing.{ChangesView, HasReason, IsDue, IsNotDue, LeavesView}
 use Rattle.replica.specs.Desks.{PartsFitEvent}
-use Rattle.orderer.specs.Changing.{IsUnsayable, aimed_view, change_for}
+use Rattle.orderer.specs.ViewChangeOut.{IsUnsendable, target_view, change_for}
 use Rattle.orderer.specs.Fitting.{given, FitsEvent, changes_held}
 use Rattle.replica.specs.Entering.{event_with, IsLeftToDo, TakesTick}
-use Rattle.replica.specs.Fetching.{SaysFetch}
-use Rattle.replica.specs.Joined.{JoinedMatchesHistory, me_of}
+use Rattle.replica.specs.Fetching.{MulticastsFetch}
+use Rattle.replica.specs.BothParts.{BothPartsMatchHistory, me_of}
 use Rattle.replica.specs.Going.{NothingIsLeft}
 use Rattle.replica.specs.Numbering.{IsAllNumbered}
 use Rattle.orderer.specs.Receiving.{JudgesAlike}
@@ -51,7 +51,7 @@ use Rattle.orderer.proofs.ChangingViews.{unsaid_spent}
 use Rattle.replica.proofs.Parties.{one_self, ones_twice}
 use Rattle.orderer.proofs.Staying.{numbers_beside, said_on}
 
-module _ (r : JoinedData) (one : AreOne r.orderer r.desk) where
+module _ (r : BothPartsData) (one : AreOne r.orderer r.desk) where
   abbrev me : ℕ
   me = me_of r
 
@@ -63,7 +63,7 @@ module _ (r : JoinedData) (one : AreOne r.orderer r.desk) where
 
   -- ---- the event begins
 
-  module _ (c : Configuration) (past : List Entry) (runs : JoinedMatchesHistory c r past) where
+  module _ (c : Configuration) (past : List Entry) (runs : BothPartsMatchHistory c r past) where
     abbrev start : Start
     start = event_with c r past runs tick
 
@@ -91,7 +91,7 @@ module _ (r : JoinedData) (one : AreOne r.orderer r.desk) where
     open_is x there = ap (option_map (λ (y : OpenData). y.transfer)) there
 
     -- an open transfer asks again
-    goes_on : (outs : List Output) → members c ≡ o.endpoint.membership → SaysFetch r [] outs
+    goes_on : (outs : List Output) → members c ≡ o.endpoint.membership → MulticastsFetch r [] outs
         → FitsEvent c me start o (desk_of c r.desk) r.desk.waiting [] outs
     goes_on outs known (inl (none, same)) =
         let closed : (desk_of c r.desk).transfer ≡ None = ap (option_map (λ (y : OpenData). y.transfer)) none in
@@ -104,7 +104,7 @@ module _ (r : JoinedData) (one : AreOne r.orderer r.desk) where
         asks_again c start o (desk_of c r.desk) r.desk.waiting [] outs x.transfer known says [] (open_is x there) again.0 again.1
         (subst (λ (t : Option TransferData). FitsEvent c me start o (desk_of c r.desk) r.desk.waiting (again_due t) []) (open_is x there) begins)
 
-    stands : (outs : List Output) → members c ≡ r.desk.membership → SaysFetch r [] outs
+    stands : (outs : List Output) → members c ≡ r.desk.membership → MulticastsFetch r [] outs
         → PartsFitEvent c start o r.desk [] outs
     stands outs known says = record {
       is = runs.is_desk;
@@ -120,7 +120,7 @@ module _ (r : JoinedData) (one : AreOne r.orderer r.desk) where
     waits_none : r.desk.waiting.requests ≡ [] → point.waiting ≡ []
     waits_none none = ap (λ (p : Point). p.waiting) runs.holds.of_desk.is ∙ ap (waiting_calls c) none
 
-    sought_is : sought_view c past ≡ aimed_view o
+    sought_is : sought_view c past ≡ target_view o
     sought_is = ap₂ (λ (a b : ℕ). max a b) runs.holds.of_log.fits.view runs.changes.target
 
     -- why it is, and for which view
@@ -150,7 +150,7 @@ module _ (r : JoinedData) (one : AreOne r.orderer r.desk) where
     view_due v w due reason = let next = (times w reason).1 in let is = sought_is in let due_is = due.1 in omega (arith, next, is, due_is)
 
     -- nor if it can't be sent
-    unsaid_move : (v : ℕ) → JudgesAlike o → ChangesAreJudged → members c ≡ r.desk.membership → IsDue r v → IsUnsayable o (change_for v (entries_of r.desk.snapshots) o) → (outputs : List Entry)
+    unsaid_move : (v : ℕ) → JudgesAlike o → ChangesAreJudged → members c ≡ r.desk.membership → IsDue r v → IsUnsendable o (change_for v (entries_of r.desk.snapshots) o) → (outputs : List Entry)
         → OwesViewChange c me past tick outputs point
     unsaid_move v alike judge known due unsaid outputs vc bytes reason may within says = inr (all_are_spent c me o.log (changes_held o) past spent runs.changes)
       where
@@ -171,43 +171,43 @@ module _ (r : JoinedData) (one : AreOne r.orderer r.desk) where
     answers outputs executed moves = let parts = others_owe_no_part c me past tick outputs point executed refl in (parts.0, parts.1, parts.2, parts.3, parts.4, moves)
 
     -- if nothing more is to be done
-    leaves : (new : JoinedData) (outs : List Output) → NothingIsLeft new → IsAllNumbered new
+    leaves : (new : BothPartsData) (outs : List Output) → NothingIsLeft new → IsAllNumbered new
         → AnswersInput c (me_of new) past tick (given (me_of new) outs) point new.desk.executed.state.number
-        → IsLeftToDo c start touched.Nothing new outs
+        → IsLeftToDo c start due_work.Nothing new outs
     leaves new outs rest all answered = (rest, all, answered, inr tt)
 
   -- ---- what a timeout does
 
-  pub ticks_nothing : (new : JoinedData) (outs : List Output) → new ≡ r → IsNotDue new → SaysFetch r [] outs
-      → TakesTick r touched.Nothing new outs
+  pub ticks_nothing : (new : BothPartsData) (outs : List Output) → new ≡ r → IsNotDue new → MulticastsFetch r [] outs
+      → TakesTick r due_work.Nothing new outs
   ticks_nothing new outs same none says =
-      subst (λ (d : JoinedData). TakesTick r touched.Nothing d outs) (sym same) (record {
+      subst (λ (d : BothPartsData). TakesTick r due_work.Nothing d outs) (sym same) (record {
         party = one_self r;
         begins = λ c past runs known. (
           stands c past runs outs known says,
           leaves c past runs r outs (rests c r past runs) runs.all
-              (answers c past runs (given me outs) r.desk.executed.state.number (no_move c past runs (subst (λ (d : JoinedData). IsNotDue d) same none) (given me outs))),
+              (answers c past runs (given me outs) r.desk.executed.state.number (no_move c past runs (subst (λ (d : BothPartsData). IsNotDue d) same none) (given me outs))),
           runs.begun,
         );
       })
 
   -- the view stays, since no view change can be sent
-  pub ticks_in_place : (v : ℕ) (mid new : JoinedData) (x outs : List Output) → JudgesAlike o → ChangesAreJudged → mid ≡ r
-      → SaysFetch r [] x → IsDue mid v → ChangesView v mid x new outs false → TakesTick r touched.Nothing new outs
+  pub ticks_in_place : (v : ℕ) (mid new : BothPartsData) (x outs : List Output) → JudgesAlike o → ChangesAreJudged → mid ≡ r
+      → MulticastsFetch r [] x → IsDue mid v → ChangesView v mid x new outs false → TakesTick r due_work.Nothing new outs
   ticks_in_place v mid new x outs alike judge same says due stays =
-      subst (λ (d : JoinedData). TakesTick r touched.Nothing d outs) (sym (stays.0 ∙ same)) (record {
+      subst (λ (d : BothPartsData). TakesTick r due_work.Nothing d outs) (sym (stays.0 ∙ same)) (record {
         party = one_self r;
         begins = λ c past runs known. (
-          stands c past runs outs known (subst (SaysFetch r []) (sym stays.1) says),
+          stands c past runs outs known (subst (MulticastsFetch r []) (sym stays.1) says),
           leaves c past runs r outs (rests c r past runs) runs.all
-              (answers c past runs (given me outs) r.desk.executed.state.number (unsaid_move c past runs v alike judge known (subst (λ (d : JoinedData). IsDue d v) same due)
-              (subst (λ (d : JoinedData). IsUnsayable d.orderer (change_for v (entries_of d.desk.snapshots) d.orderer)) same stays.2) (given me outs))),
+              (answers c past runs (given me outs) r.desk.executed.state.number (unsaid_move c past runs v alike judge known (subst (λ (d : BothPartsData). IsDue d v) same due)
+              (subst (λ (d : BothPartsData). IsUnsendable d.orderer (change_for v (entries_of d.desk.snapshots) d.orderer)) same stays.2) (given me outs))),
           runs.begun,
         );
       })
 
   -- it has a reason to leave the view, if it is due to
-  has_reason : (v : ℕ) → IsDue r v → (c : Configuration) (past : List Entry) (runs : JoinedMatchesHistory c r past) → HasReason c (start c past runs) r v
+  has_reason : (v : ℕ) → IsDue r v → (c : Configuration) (past : List Entry) (runs : BothPartsMatchHistory c r past) → HasReason c (start c past runs) r v
   has_reason v due c past runs = inl (refl, either due.0, next)
     where
       target_is : target past ≡ o.target
@@ -226,21 +226,21 @@ module _ (r : JoinedData) (one : AreOne r.orderer r.desk) where
           one_more : (n : ℕ) → n + 1 ≡ suc n
           one_more n = omega arith
 
-  module _ (v : ℕ) (due : IsDue r v) (mid : JoinedData) (x y : List Output) (says : SaysFetch r [] x) (left : LeavesView v r x mid y) where
+  module _ (v : ℕ) (due : IsDue r v) (mid : BothPartsData) (x y : List Output) (says : MulticastsFetch r [] x) (left : LeavesView v r x mid y) where
     -- no message is left to send and no batch to execute, and a replica that isn't active assigns no number
-    at_rest : (c : Configuration) (past : List Entry) → JoinedMatchesHistory c r past → NothingIsLeft mid
+    at_rest : (c : Configuration) (past : List Entry) → BothPartsMatchHistory c r past → NothingIsLeft mid
     at_rest c past runs = let rest = rests c r past runs in (left.voted, left.executed rest.1)
 
     none_numbered : IsAllNumbered mid
     none_numbered next = absurd (let active = next.3 in let inactive = left.inactive in cc)
 
-    stands_left : (c : Configuration) (past : List Entry) (runs : JoinedMatchesHistory c r past) → members c ≡ r.desk.membership
+    stands_left : (c : Configuration) (past : List Entry) (runs : BothPartsMatchHistory c r past) → members c ≡ r.desk.membership
         → PartsFitEvent c (start c past runs) mid.orderer mid.desk [] y
     stands_left c past runs known =
         left.stands c (start c past runs) known (rests c r past runs).0 (has_reason v due c past runs) (stands c past runs x known says)
 
     -- the replica left it by a view change for the due view
-    moved : (c : Configuration) (past : List Entry) (runs : JoinedMatchesHistory c r past) (outputs : List Entry) (executed : ℕ)
+    moved : (c : Configuration) (past : List Entry) (runs : BothPartsMatchHistory c r past) (outputs : List Entry) (executed : ℕ)
         → target (after_outputs (start c past runs) outputs) ≡ v → AnswersInput c me past tick outputs runs.holds.of_desk.point executed
     moved c past runs outputs executed at = answers c past runs outputs executed (λ vc bytes reason may within says_it.
         let same = view_due c past runs v vc.view due reason in inl (omega (arith, same, at)))
@@ -248,12 +248,12 @@ module _ (r : JoinedData) (one : AreOne r.orderer r.desk) where
     mine : mid.desk.me ≡ me
     mine = left.party.me ∙ one.0
 
-    target_left : (c : Configuration) (past : List Entry) (runs : JoinedMatchesHistory c r past) → members c ≡ r.desk.membership → target (after_outputs (start c past runs) (given me y)) ≡ v
+    target_left : (c : Configuration) (past : List Entry) (runs : BothPartsMatchHistory c r past) → members c ≡ r.desk.membership → target (after_outputs (start c past runs) (given me y)) ≡ v
     target_left c past runs known =
         subst (λ (m : ℕ). target (after_outputs (start c past runs) (given m y)) ≡ mid.orderer.target) mine (stands_left c past runs known).fits.changes.target ∙ left.target
 
     -- the replica leaves the view, and no view begins
-    ticks_left : HasNoView mid → TakesTick r touched.Nothing mid y
+    ticks_left : HasNoView mid → TakesTick r due_work.Nothing mid y
     ticks_left none = record {
       party = left.party;
       begins = λ c past runs known. (
@@ -266,12 +266,12 @@ module _ (r : JoinedData) (one : AreOne r.orderer r.desk) where
     }
 
     -- or the next one begins
-    begins_then : (what : Touched) (new : JoinedData) (outs : List Output) → MayBegin mid y what new outs
+    begins_then : (what : DueWork) (new : BothPartsData) (outs : List Output) → MayBegin mid y what new outs
         → TakesTick r what new outs
-    begins_then touched.Nothing new outs (same, still, none) =
-        subst (λ (d : JoinedData). TakesTick r touched.Nothing d outs) (sym same)
-        (subst (λ (os : List Output). TakesTick r touched.Nothing mid os) (sym still) (ticks_left none))
-    begins_then touched.View new outs b = record {
+    begins_then due_work.Nothing new outs (same, still, none) =
+        subst (λ (d : BothPartsData). TakesTick r due_work.Nothing d outs) (sym same)
+        (subst (λ (os : List Output). TakesTick r due_work.Nothing mid os) (sym still) (ticks_left none))
+    begins_then due_work.View new outs b = record {
       party = ones_twice r mid new left.party b.party;
       begins = λ c past runs known. (
         b.stands c (start c past runs) (known ∙ sym left.party.membership) (at_rest c past runs)
@@ -289,10 +289,10 @@ module _ (r : JoinedData) (one : AreOne r.orderer r.desk) where
     }
     begins_then _ new outs h = absurd h
 
-  pub ticks_on : {E : Type 0} (result : Result Touched E) (v : ℕ) (fetched mid new : JoinedData) (x y outs : List Output)
-      → fetched ≡ r → SaysFetch r [] x → IsDue fetched v → ChangesView v fetched x mid y true
+  pub ticks_on : {E : Type 0} (result : Result DueWork E) (v : ℕ) (fetched mid new : BothPartsData) (x y outs : List Output)
+      → fetched ≡ r → MulticastsFetch r [] x → IsDue fetched v → ChangesView v fetched x mid y true
       → IfOk result (λ what. MayBegin mid y what new outs) → IfOk result (λ what. TakesTick r what new outs)
   ticks_on (Err e) v fetched mid new x y outs same says due left h = h
   ticks_on (Ok what) v fetched mid new x y outs same says due left h =
-      begins_then v (subst (λ (d : JoinedData). IsDue d v) same due) mid x y says
-      (subst (λ (d : JoinedData). LeavesView v d x mid y) same left) what new outs h
+      begins_then v (subst (λ (d : BothPartsData). IsDue d v) same due) mid x y says
+      (subst (λ (d : BothPartsData). LeavesView v d x mid y) same left) what new outs h

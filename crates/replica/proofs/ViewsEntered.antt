@@ -32,20 +32,20 @@ use Rattle.replica_histories.proofs.Cutting.{cut_same}
 use Rattle.replica_histories.proofs.NumbersBegun.{logs_are_of_no_later_view}
 use Rattle.replica_histories.proofs.Words.{given_not}
 use Rattle.desk.specs.declared.waiting.BegunCall.{BegunCall}
-use Rattle.replica.specs.State.{JoinedData, AreOne}
+use Rattle.replica.specs.State.{BothPartsData, AreOne}
 use Rattle.orderer.specs.State.{OrdererData}
 use Rattle.desk.specs.State.{OpenData, DeskData}
 use Rattle.desk.specs.Waiting.{WaitingData, with_view}
 use Rattle.orderer.specs.Flags.{FitsFlags}
 use Rattle.replica.specs.Desks.{PartsFitEvent}
-use Rattle.orderer.specs.Fitting.{FitsEvent, FitsWaiting, WasSaid, changes_held, given}
+use Rattle.orderer.specs.Fitting.{FitsEvent, FitsWaiting, WasSent, changes_held, given}
 use Rattle.desk.specs.Desking.{desk_above}
-use Rattle.replica.specs.Fetching.{SaysFetch}
-use Rattle.desk.specs.Fetching.{aimed_at, aiming, fetch_of}
+use Rattle.replica.specs.Fetching.{MulticastsFetch}
+use Rattle.desk.specs.Fetching.{target_number, with_target, fetch_of}
 use Rattle.orderer.specs.Going.{NoVoteIsDue, IsVotedAll}
 use Rattle.replica.specs.Going.{IsOneParty}
-use Rattle.orderer.specs.Saying.{SaysToOthers}
-use Rattle.orderer.specs.EnteringViews.{SaysVotesOf, entering}
+use Rattle.orderer.specs.Multicasting.{Multicasts}
+use Rattle.orderer.specs.EnterView.{MulticastsVotesOf, entering}
 use Rattle.replica.specs.EnteringViews.{EntersView, FetchesStart}
 use Rattle.desk.specs.Begun.{AreBegun}
 use Rattle.desk.specs.DeskOf.{desk_of, IsDeskOf}
@@ -71,26 +71,26 @@ begun_orderer new own claims o = record o {
 }
 
 -- and the desk, whose calls alone have numbers
-abbrev pub begun_parts : NewViewData → Option (List ℕ) → ClaimsData → List BegunCall → JoinedData → JoinedData
+abbrev pub begun_parts : NewViewData → Option (List ℕ) → ClaimsData → List BegunCall → BothPartsData → BothPartsData
 begun_parts new own claims calls r = record r {
   orderer = begun_orderer new own claims r.orderer;
   desk = desk_above (logs.cut_to (logs.entered r.orderer.log new.view) new.start).low (record r.desk { waiting = with_view calls r.desk.waiting });
 }
 
 -- the entered view: the parts, and then the fetches and votes
-pub record Entered (new : NewViewData) (own : Option (List ℕ)) (r : JoinedData) (before : List Output) (n : JoinedData) (after : List Output) : Type 0 where
+pub record Entered (new : NewViewData) (own : Option (List ℕ)) (r : BothPartsData) (before : List Output) (n : BothPartsData) (after : List Output) : Type 0 where
   pub calls : List BegunCall
   pub are : AreBegun r.desk.executed.clients new.batches calls
   pub claims : ClaimsData
   pub begins : BeginsClaims r.orderer.log new r.orderer.claims claims
-  pub fetched : JoinedData
+  pub fetched : BothPartsData
   pub said : List Output
   pub fetches : FetchesStart (start_in new) (begun_parts new own claims calls r) before fetched said
   pub orderer : OrdererData
-  pub votes : SaysVotesOf new.start (new.start + length new.batches) fetched.orderer said orderer after
+  pub votes : MulticastsVotesOf new.start (new.start + length new.batches) fetched.orderer said orderer after
   pub new_is : n ≡ record fetched { orderer = orderer }
 
-pub entered : (new : NewViewData) (own : Option (List ℕ)) (r : JoinedData) (before : List Output) (n : JoinedData) (after : List Output) → EntersView new.view (start_in new) new.batches own r before n after → Entered new own r before n after
+pub entered : (new : NewViewData) (own : Option (List ℕ)) (r : BothPartsData) (before : List Output) (n : BothPartsData) (after : List Output) → EntersView new.view (start_in new) new.batches own r before n after → Entered new own r before n after
 entered new own r before n after x = record {
   calls = x.noted.calls;
   are = x.noted.are;
@@ -98,7 +98,7 @@ entered new own r before n after x = record {
   begins = record { mid = x.cuts.1.0; cuts = x.cuts.1.1; adds = adds };
   fetched = x.fetched;
   said = x.said;
-  fetches = subst (λ (y : JoinedData). FetchesStart (start_in new) y before x.fetched x.said) whole x.fetches;
+  fetches = subst (λ (y : BothPartsData). FetchesStart (start_in new) y before x.fetched x.said) whole x.fetches;
   orderer = x.orderer;
   votes = x.votes;
   new_is = x.new_is;
@@ -111,7 +111,7 @@ entered new own r before n after x = record {
     cut_orderer = record (entering new.view (new.start + length new.batches) own r.orderer) { log = logs.cut_to in_view new.start; claims = x.cuts.1.0 }
 
     cut_is : x.cut.orderer ≡ cut_orderer
-    cut_is = ap (λ (y : JoinedData). y.orderer) x.cuts.2 ∙ x.cuts.1.2
+    cut_is = ap (λ (y : BothPartsData). y.orderer) x.cuts.2 ∙ x.cuts.1.2
 
     adds : AddsBatches (logs.cut_to in_view new.start) new.view (suc new.start) new.batches x.cuts.1.0 x.logs.0
     adds =
@@ -123,74 +123,74 @@ entered new own r before n after x = record {
 
     whole : record x.cut { orderer = x.logged } ≡ begun_parts new own x.logs.0 x.noted.calls r
     whole =
-        ap (λ (o : OrdererData). let k : JoinedData = record x.cut { orderer = o } in k) logged_is
-        ∙ ap (λ (y : JoinedData). let k : JoinedData = record y { orderer = begun_orderer new own x.logs.0 r.orderer } in k) x.cuts.2
-        ∙ ap (λ (d : DeskData). let k : JoinedData = record r { orderer = begun_orderer new own x.logs.0 r.orderer; desk = desk_above (logs.cut_to in_view new.start).low d } in k) x.noted.new_is
+        ap (λ (o : OrdererData). let k : BothPartsData = record x.cut { orderer = o } in k) logged_is
+        ∙ ap (λ (y : BothPartsData). let k : BothPartsData = record y { orderer = begun_orderer new own x.logs.0 r.orderer } in k) x.cuts.2
+        ∙ ap (λ (d : DeskData). let k : BothPartsData = record r { orderer = begun_orderer new own x.logs.0 r.orderer; desk = desk_above (logs.cut_to in_view new.start).low d } in k) x.noted.new_is
 
 -- ---- the party, and the fetch
 
 -- the orderer stays, and so does the party
-pub record FetchedSo (r n : JoinedData) : Type 0 where
+pub record FetchedSo (r n : BothPartsData) : Type 0 where
   pub orderer : n.orderer ≡ r.orderer
   pub me : n.desk.me ≡ r.desk.me
   pub membership : n.desk.membership ≡ r.desk.membership
 
-fetched_so : (entry : CheckpointEntry) (r n : JoinedData) (before after : List Output) → FetchesStart entry r before n after → FetchedSo r n
+fetched_so : (entry : CheckpointEntry) (r n : BothPartsData) (before after : List Output) → FetchesStart entry r before n after → FetchedSo r n
 fetched_so entry r n before after (inl (d, aims, same, says)) = record {
-  orderer = ap (λ (y : JoinedData). y.orderer) same;
-  me = ap (λ (y : JoinedData). y.desk.me) same ∙ ap (λ (k : DeskData). k.me) aims.1;
-  membership = ap (λ (y : JoinedData). y.desk.membership) same ∙ ap (λ (k : DeskData). k.membership) aims.1;
+  orderer = ap (λ (y : BothPartsData). y.orderer) same;
+  me = ap (λ (y : BothPartsData). y.desk.me) same ∙ ap (λ (k : DeskData). k.me) aims.1;
+  membership = ap (λ (y : BothPartsData). y.desk.membership) same ∙ ap (λ (k : DeskData). k.membership) aims.1;
 }
 fetched_so entry r n before after (inr (behind_it, same, none)) = record {
-  orderer = ap (λ (y : JoinedData). y.orderer) same;
-  me = ap (λ (y : JoinedData). y.desk.me) same;
-  membership = ap (λ (y : JoinedData). y.desk.membership) same;
+  orderer = ap (λ (y : BothPartsData). y.orderer) same;
+  me = ap (λ (y : BothPartsData). y.desk.me) same;
+  membership = ap (λ (y : BothPartsData). y.desk.membership) same;
 }
 
-pub entered_party : (new : NewViewData) (own : Option (List ℕ)) (r : JoinedData) (before : List Output) (n : JoinedData) (after : List Output) → Entered new own r before n after → IsOneParty r n
+pub entered_party : (new : NewViewData) (own : Option (List ℕ)) (r : BothPartsData) (before : List Output) (n : BothPartsData) (after : List Output) → Entered new own r before n after → IsOneParty r n
 entered_party new own r before n after x = record {
-  endpoint = ap (λ (y : JoinedData). y.orderer.endpoint) x.new_is ∙ x.votes.same.endpoint ∙ ap (λ (o : OrdererData). o.endpoint) so.orderer;
-  me = ap (λ (y : JoinedData). y.desk.me) x.new_is ∙ so.me;
-  membership = ap (λ (y : JoinedData). y.desk.membership) x.new_is ∙ so.membership;
+  endpoint = ap (λ (y : BothPartsData). y.orderer.endpoint) x.new_is ∙ x.votes.same.endpoint ∙ ap (λ (o : OrdererData). o.endpoint) so.orderer;
+  me = ap (λ (y : BothPartsData). y.desk.me) x.new_is ∙ so.me;
+  membership = ap (λ (y : BothPartsData). y.desk.membership) x.new_is ∙ so.membership;
 }
   where
     so : FetchedSo (begun_parts new own x.claims x.calls r) x.fetched
     so = fetched_so (start_in new) (begun_parts new own x.claims x.calls r) x.fetched before x.said x.fetches
 
-module _ (c : Configuration) (s : Start) (r n : JoinedData) (new : NewViewData) (before after : List Output) (known : members c ≡ r.orderer.endpoint.membership) (mine : r.desk.me ≡ r.orderer.endpoint.me)
+module _ (c : Configuration) (s : Start) (r n : BothPartsData) (new : NewViewData) (before after : List Output) (known : members c ≡ r.orderer.endpoint.membership) (mine : r.desk.me ≡ r.orderer.endpoint.me)
     (is : IsDeskOf c r.desk) (once : Once (λ past e. taken c past e ≡ Some new) (after_outputs s (given r.orderer.endpoint.me before)))
     (f : FitsEvent c r.orderer.endpoint.me s r.orderer (desk_of c r.desk) r.desk.waiting (start_due (desk_of c r.desk) new) before) where
-  -- the fetch is due, if the start is above what is fetched
-  with_due : (b : Bool) → nat_lt (aimed_at r.desk) new.start ≡ b
+  -- the fetch is due, if the start is above the fetched number
+  with_due : (b : Bool) → nat_lt (target_number r.desk) new.start ≡ b
       → FitsEvent c r.orderer.endpoint.me s r.orderer (desk_of c r.desk) r.desk.waiting (cond b (Fetch new.start levels.Root 0 ∷ []) []) before
   with_due b e =
       subst (λ (due : List Message). FitsEvent c r.orderer.endpoint.me s r.orderer (desk_of c r.desk) r.desk.waiting due before)
       (ap (λ (t : Bool). cond t (Fetch new.start levels.Root 0 ∷ []) []) (ap (λ (m : ℕ). nat_lt m new.start) (aimed_same r.desk.executed.state.number r.desk.transfer) ∙ e)) f
 
-  abbrev aimed : JoinedData
-  aimed = record r { desk = aiming (start_in new) r.desk }
+  abbrev aimed : BothPartsData
+  aimed = record r { desk = with_target (start_in new) r.desk }
 
-  aimed_stands : aimed_at r.desk < new.start → SaysFetch aimed before after → PartsFitEvent c s r.orderer (aiming (start_in new) r.desk) [] after
+  aimed_stands : target_number r.desk < new.start → MulticastsFetch aimed before after → PartsFitEvent c s r.orderer (with_target (start_in new) r.desk) [] after
   aimed_stands ahead (inl (none, unsaid)) = absurd (given_not (Some (aim_of (start_in new) r.desk)) (aim_of (start_in new) r.desk) refl none)
   aimed_stands ahead (inr (o, there, says)) = record {
     is = aims_desk c s r.orderer r.desk r.desk.waiting (start_in new) before after is;
     fits = subst (λ (m : ℕ). FitsEvent c m s r.orderer (desk_of c aimed.desk) r.desk.waiting [] after) (sym mine)
         (start_aims c s r.orderer r.desk r.desk.waiting new before after [] known once ahead
-        (subst (λ (k : OpenData). SaysToOthers r.orderer (fetch_of k.transfer) before after) (sym (some_injective (aim_of (start_in new) r.desk) o there)) says)
-        (with_due true (lt-ltb (aimed_at r.desk) new.start ahead)));
+        (subst (λ (k : OpenData). Multicasts r.orderer (fetch_of k.transfer) before after) (sym (some_injective (aim_of (start_in new) r.desk) o there)) says)
+        (with_due true (lt-ltb (target_number r.desk) new.start ahead)));
   }
 
   pub fetched_stands : FetchesStart (start_in new) r before n after → PartsFitEvent c s n.orderer n.desk [] after
   fetched_stands (inl (d, aims, same, says)) =
-      subst (λ (y : JoinedData). PartsFitEvent c s y.orderer y.desk [] after) (sym at) (aimed_stands aims.0 (subst (λ (y : JoinedData). SaysFetch y before after) at says))
+      subst (λ (y : BothPartsData). PartsFitEvent c s y.orderer y.desk [] after) (sym at) (aimed_stands aims.0 (subst (λ (y : BothPartsData). MulticastsFetch y before after) at says))
     where
       at : n ≡ aimed
-      at = same ∙ ap (λ (k : DeskData). let y : JoinedData = record r { desk = k } in y) aims.1
+      at = same ∙ ap (λ (k : DeskData). let y : BothPartsData = record r { desk = k } in y) aims.1
   fetched_stands (inr (behind_it, same, none)) =
-      subst (λ (y : JoinedData). PartsFitEvent c s y.orderer y.desk [] after) (sym same)
+      subst (λ (y : BothPartsData). PartsFitEvent c s y.orderer y.desk [] after) (sym same)
       (subst (λ (outs : List Output). PartsFitEvent c s r.orderer r.desk [] outs) (sym none) (record {
         is = is;
-        fits = subst (λ (m : ℕ). FitsEvent c m s r.orderer (desk_of c r.desk) r.desk.waiting [] before) (sym mine) (with_due false (le-ltb (aimed_at r.desk) new.start behind_it));
+        fits = subst (λ (m : ℕ). FitsEvent c m s r.orderer (desk_of c r.desk) r.desk.waiting [] before) (sym mine) (with_due false (le-ltb (target_number r.desk) new.start behind_it));
       }))
 
 -- ---- no vote is left
@@ -230,8 +230,8 @@ begun_votes log new i is small = go (nat_lt new.start i) (nat_le i (new.start + 
     go true false h k = inr (none (λ above. leb-false i (new.start + length new.batches) k))
     go false b h k = inr (none (λ above. let under = ltb-false new.start i h in absurd (omega (arith, above, under))))
 
-pub entered_voted : (new : NewViewData) (own : Option (List ℕ)) (r : JoinedData) (before : List Output) (n : JoinedData) (after : List Output) → IsLog r.orderer.log → new.start < 2 ^ 48 → Entered new own r before n after → IsVotedAll n.orderer.log
-entered_voted new own r before n after is small x i = subst (λ (y : JoinedData). NoVoteIsDue y.orderer.log i) (sym x.new_is) (x.votes.voted i (pick (begun_votes r.orderer.log new i is small)))
+pub entered_voted : (new : NewViewData) (own : Option (List ℕ)) (r : BothPartsData) (before : List Output) (n : BothPartsData) (after : List Output) → IsLog r.orderer.log → new.start < 2 ^ 48 → Entered new own r before n after → IsVotedAll n.orderer.log
+entered_voted new own r before n after is small x i = subst (λ (y : BothPartsData). NoVoteIsDue y.orderer.log i) (sym x.new_is) (x.votes.voted i (pick (begun_votes r.orderer.log new i is small)))
   where
     pick : ((new.start < i) × (i ≤ new.start + length new.batches)) ⊎ NoVoteIsDue (begun_log r.orderer.log new) i → ((new.start < i) × (i ≤ new.start + length new.batches)) ⊎ NoVoteIsDue x.fetched.orderer.log i
     pick (inl within) = inl within
@@ -240,21 +240,21 @@ entered_voted new own r before n after is small x i = subst (λ (y : JoinedData)
         (sym (fetched_so (start_in new) (begun_parts new own x.claims x.calls r) x.fetched before x.said x.fetches).orderer) voted)
 
 -- and the replica is active
-pub entered_active : (new : NewViewData) (own : Option (List ℕ)) (r : JoinedData) (before : List Output) (n : JoinedData) (after : List Output) → IsLog r.orderer.log → new.start < 2 ^ 48 → Entered new own r before n after → n.orderer.log.active ≡ true
+pub entered_active : (new : NewViewData) (own : Option (List ℕ)) (r : BothPartsData) (before : List Output) (n : BothPartsData) (after : List Output) → IsLog r.orderer.log → new.start < 2 ^ 48 → Entered new own r before n after → n.orderer.log.active ≡ true
 entered_active new own r before n after is small x =
-    ap (λ (y : JoinedData). y.orderer.log.active) x.new_is ∙ x.votes.same.log.active
+    ap (λ (y : BothPartsData). y.orderer.log.active) x.new_is ∙ x.votes.same.log.active
     ∙ ap (λ (o : OrdererData). o.log.active) (fetched_so (start_in new) (begun_parts new own x.claims x.calls r) x.fetched before x.said x.fetches).orderer
     ∙ begun_active r.orderer.log new is small
 
 -- ---- the view begins
 
 -- What fits after the new view, before any fetch: the numbers are those of its calls, and its batches are claimed.
-module _ (c : Configuration) (s : Start) (r : JoinedData) (new : NewViewData) (own : Option (List ℕ)) (before : List Output) (past : List Entry) (e : Entry) (sender : ℕ)
+module _ (c : Configuration) (s : Start) (r : BothPartsData) (new : NewViewData) (own : Option (List ℕ)) (before : List Output) (past : List Entry) (e : Entry) (sender : ℕ)
     (one : AreOne r.orderer r.desk) (clients : r.desk.executed.clients ≡ r.desk.membership.clients) (is : IsDeskOf c r.desk)
     (at : after_outputs s (given r.orderer.endpoint.me before) ≡ e ∷ past) (meant : AreSentAsMeant c r.orderer.endpoint.me before)
     (fits : histories.BothFitWithinEvent c r.orderer.endpoint.me s (desk_from (begun_log r.orderer.log new).low (desk_of c r.desk)) (begun_log r.orderer.log new) (start_due (desk_of c r.desk) new) (given r.orderer.endpoint.me before))
     (passes : LogPassesEntry c r.orderer.endpoint.me past e r.orderer.log (begun_log r.orderer.log new)) (t : taken c past e ≡ Some new) (brings : brought c e ≡ Some (record { sender = sender; message = NewView new }))
-    (frame : IsOwnFrame c r.orderer.endpoint.me e new own) (spends : SpendsLeaves r.orderer.spent r.orderer.spent past e) (was_said : WasSaid r.orderer.endpoint.me r.orderer.last_checkpoint past)
+    (frame : IsOwnFrame c r.orderer.endpoint.me e new own) (spends : SpendsLeaves r.orderer.spent r.orderer.spent past e) (was_said : WasSent r.orderer.endpoint.me r.orderer.last_checkpoint past)
     (changes : FitsChanges c r.orderer.endpoint.me r.orderer.log (changes_held r.orderer) past) where
   abbrev me : ℕ
   me = r.orderer.endpoint.me
@@ -268,7 +268,7 @@ module _ (c : Configuration) (s : Start) (r : JoinedData) (new : NewViewData) (o
   small : new.start < 2 ^ 48
   small = start_small c new (selected_in c e new (takes c me past e new t).brought)
 
-  module _ (n : JoinedData) (after : List Output) (x : Entered new own r before n after) where
+  module _ (n : BothPartsData) (after : List Output) (x : Entered new own r before n after) where
     abbrev o : OrdererData
     o = begun_orderer new own x.claims r.orderer
 
@@ -285,13 +285,13 @@ module _ (c : Configuration) (s : Start) (r : JoinedData) (new : NewViewData) (o
     fits_event = record {
       fits = fits;
       numbers = subst (FitsWaiting c me o w later) (sym at) numbers;
-      said = subst (WasSaid me o.last_checkpoint) (sym at) (said_on me r.orderer.last_checkpoint past e was_said);
+      said = subst (WasSent me o.last_checkpoint) (sym at) (said_on me r.orderer.last_checkpoint past e was_said);
       changes = subst (FitsChanges c me o.log (changes_held o)) (sym at)
           (views_are_begun c me past e log (changes_held r.orderer) new own x.claims sender r.orderer.spent passes t brings x.begins frame spends changes);
       meant = meant;
     }
 
-    abbrev begun : JoinedData
+    abbrev begun : BothPartsData
     begun = begun_parts new own x.claims x.calls r
 
     abbrev low : ℕ
@@ -315,7 +315,7 @@ module _ (c : Configuration) (s : Start) (r : JoinedData) (new : NewViewData) (o
     known = is.members_are ∙ one.1 ∙ ap (λ (k : OrdererData). k.endpoint.membership) (sym same.orderer)
 
     pub entered_stands : PartsFitEvent c s n.orderer n.desk [] after
-    entered_stands = subst (λ (y : JoinedData). PartsFitEvent c s y.orderer y.desk [] after) (sym x.new_is) (record {
+    entered_stands = subst (λ (y : BothPartsData). PartsFitEvent c s y.orderer y.desk [] after) (sym x.new_is) (record {
       is = fetched.is;
       fits = subst (λ (m : ℕ). FitsEvent c m s x.orderer (desk_of c x.fetched.desk) x.fetched.desk.waiting [] after) (sym mine)
           (x.votes.goes c s (desk_of c x.fetched.desk) x.fetched.desk.waiting [] known (subst (λ (m : ℕ). FitsEvent c m s x.fetched.orderer (desk_of c x.fetched.desk) x.fetched.desk.waiting [] x.said) mine fetched.fits));

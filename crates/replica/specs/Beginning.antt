@@ -5,10 +5,10 @@ use Rattle.protocol.specs.System.Configuration.{Configuration, members}
 use Rattle.ordering.specs.Log as logs
 use Rattle.replica_histories.specs.Events.{Start}
 use Rattle.replica_histories.specs.Primaries.{SelectsNothing}
-use Rattle.replica.specs.declared.taking.Touched.{Touched}
-use Rattle.replica.specs.declared.taking.Touched.TheVariants as touched
+use Rattle.replica.specs.declared.taking.DueWork.{DueWork}
+use Rattle.replica.specs.declared.taking.DueWork.TheVariants as due_work
 use Rattle.orderer.specs.State.{OrdererData}
-use Rattle.replica.specs.State.{JoinedData}
+use Rattle.replica.specs.State.{BothPartsData}
 use Rattle.replica.specs.Desks.{PartsFitEvent}
 use Rattle.orderer.specs.Going.{IsVotedAll}
 use Rattle.replica.specs.Going.{IsOneParty, NothingIsLeft}
@@ -20,11 +20,11 @@ CannotBegin c o = o.log.active ≡ false → logs.primary o.log o.target ≡ o.l
     → SelectsNothing c o.target o.received.held o.claims ⊎ (o.spent ≡ 64)
 
 -- It can't in any configuration with the replica's members and its period of checkpoints.
-abbrev pub HasNoView : JoinedData → Type 0
+abbrev pub HasNoView : BothPartsData → Type 0
 HasNoView r = (c : Configuration) → members c ≡ r.desk.membership → c.period ≡ r.desk.period → CannotBegin c r.orderer
 
 -- The replica begins a view by its own new view. What stood still stands, and all votes that its log asks for are sent.
-pub record BeginsView (old : JoinedData) (before : List Output) (new : JoinedData) (after : List Output) : Type 0
+pub record BeginsView (old : BothPartsData) (before : List Output) (new : BothPartsData) (after : List Output) : Type 0
   where
     pub stands : (c : Configuration) (s : Start) → members c ≡ old.desk.membership → NothingIsLeft old
         → PartsFitEvent c s old.orderer old.desk [] before → PartsFitEvent c s new.orderer new.desk [] after
@@ -34,7 +34,7 @@ pub record BeginsView (old : JoinedData) (before : List Output) (new : JoinedDat
     pub voted : NothingIsLeft old → IsVotedAll new.orderer.log
 
 -- It begins the view and touches it; or it can't, and nothing changes.
-abbrev pub MayBegin : JoinedData → List Output → Touched → JoinedData → List Output → Type 0
-MayBegin old before touched.View new after = BeginsView old before new after
-MayBegin old before touched.Nothing new after = (new ≡ old) × (after ≡ before) × HasNoView old
+abbrev pub MayBegin : BothPartsData → List Output → DueWork → BothPartsData → List Output → Type 0
+MayBegin old before due_work.View new after = BeginsView old before new after
+MayBegin old before due_work.Nothing new after = (new ≡ old) × (after ≡ before) × HasNoView old
 MayBegin old before _ new after = ⊥

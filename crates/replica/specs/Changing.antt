@@ -7,25 +7,25 @@ use Rattle.protocol.specs.Replica.Certificates.{view, target}
 use Rattle.protocol.specs.Replica.RightReplica.{sought_view}
 use Rattle.replica_histories.specs.Events.{Start}
 use Rattle.replica_histories.specs.Views.{entries_of}
-use Rattle.replica.specs.State.{JoinedData}
+use Rattle.replica.specs.State.{BothPartsData}
 use Rattle.replica.specs.Desks.{PartsFitEvent}
-use Rattle.orderer.specs.Changing.{IsJoinedBy, IsUnsayable, aimed_view, change_for}
+use Rattle.orderer.specs.ViewChangeOut.{IsJoinedBy, IsUnsendable, target_view, change_for}
 use Rattle.orderer.specs.Going.{IsVotedAll}
 use Rattle.replica.specs.Going.{AllIsExecuted, IsOneParty}
 
 -- ---- why the replica leaves a view
 
 -- A timeout moves the replica to the next view if a request waits or it is inactive.
-abbrev pub IsDue : JoinedData → ℕ → Type 0
-IsDue r v = ((r.desk.waiting.requests ≢ []) ⊎ (r.orderer.log.active ≡ false)) × (v ≡ aimed_view r.orderer + 1)
+abbrev pub IsDue : BothPartsData → ℕ → Type 0
+IsDue r v = ((r.desk.waiting.requests ≢ []) ⊎ (r.orderer.log.active ≡ false)) × (v ≡ target_view r.orderer + 1)
 
 -- It does not, if no request waits and the replica is active, or no view is left.
-abbrev pub IsNotDue : JoinedData → Type 0
+abbrev pub IsNotDue : BothPartsData → Type 0
 IsNotDue r =
-    ((r.desk.waiting.requests ≡ []) × (r.orderer.log.active ≡ true)) ⊎ (2 ^ 48 ≤ aimed_view r.orderer + 1)
+    ((r.desk.waiting.requests ≡ []) × (r.orderer.log.active ≡ true)) ⊎ (2 ^ 48 ≤ target_view r.orderer + 1)
 
 -- In an event with this start the replica has a reason to move to the view.
-abbrev pub HasReason : Configuration → Start → JoinedData → ℕ → Type 0
+abbrev pub HasReason : Configuration → Start → BothPartsData → ℕ → Type 0
 HasReason c s old v =
     ((s.input ≡ Tick old.orderer.endpoint.me)
     × ((old.desk.waiting.requests ≢ []) ⊎ (view c s.before < target s.before))
@@ -36,7 +36,7 @@ HasReason c s old v =
 
 -- The replica leaves its view and multicasts a view change for this one. If it has a reason, what stood still stands,
 -- and the log asks for nothing more.
-pub record LeavesView (v : ℕ) (old : JoinedData) (before : List Output) (new : JoinedData) (after : List Output)
+pub record LeavesView (v : ℕ) (old : BothPartsData) (before : List Output) (new : BothPartsData) (after : List Output)
     : Type 0 where
   pub stands : (c : Configuration) (s : Start) → members c ≡ old.desk.membership → IsVotedAll old.orderer.log
       → HasReason c s old v → PartsFitEvent c s old.orderer old.desk [] before
@@ -48,8 +48,8 @@ pub record LeavesView (v : ℕ) (old : JoinedData) (before : List Output) (new :
   pub executed : AllIsExecuted old.orderer.log old.desk → AllIsExecuted new.orderer.log new.desk
 
 -- It does so, or the view change can't be sent, and nothing changes.
-abbrev pub ChangesView : ℕ → JoinedData → List Output → JoinedData → List Output → Bool → Type 0
+abbrev pub ChangesView : ℕ → BothPartsData → List Output → BothPartsData → List Output → Bool → Type 0
 ChangesView v old before new after true = LeavesView v old before new after
 ChangesView v old before new after false =
     (new ≡ old) × (after ≡ before)
-    × IsUnsayable old.orderer (change_for v (entries_of old.desk.snapshots) old.orderer)
+    × IsUnsendable old.orderer (change_for v (entries_of old.desk.snapshots) old.orderer)

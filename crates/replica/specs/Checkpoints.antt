@@ -9,20 +9,20 @@ use Rattle.protocol.specs.System.Configuration.{Configuration, members}
 use Rattle.protocol.specs.Replica.State.{root_of}
 use Rattle.replica_histories.specs.Events.{Start}
 use Rattle.replica_histories.specs.Outputs.{checkpoint_due}
-use Rattle.replica.specs.State.{JoinedData}
+use Rattle.replica.specs.State.{BothPartsData}
 use Rattle.desk.specs.State.{DeskData}
 use Rattle.replica.specs.Desks.{PartsFitEvent}
 use Rattle.desk.specs.Desking.{checkpoint_is_due, newest_entry}
 use Rattle.replica.specs.Marking.{MovesMarks}
-use Rattle.desk.specs.Fetching.{aimed_at, aiming}
+use Rattle.desk.specs.Fetching.{target_number, with_target}
 use Rattle.orderer.specs.Going.{CommitsNoMore, IsVotedAll}
 use Rattle.replica.specs.Going.{IsSameParty}
-use Rattle.orderer.specs.Saying.{SaysToOthers}
+use Rattle.orderer.specs.Multicasting.{Multicasts}
 
 -- The marks move to a checkpoint if it is stable; else nothing changes.
-abbrev pub SettlesMarks : CheckpointEntry → JoinedData → JoinedData → Bool → Type 0
-SettlesMarks entry old new true = (logs.is_stable old.orderer.log entry ≡ true) × MovesMarks entry.number old new
-SettlesMarks entry old new false = (logs.is_stable old.orderer.log entry ≡ false) × (new ≡ old)
+abbrev pub StabilizesMarks : CheckpointEntry → BothPartsData → BothPartsData → Bool → Type 0
+StabilizesMarks entry old new true = (logs.is_stable old.orderer.log entry ≡ true) × MovesMarks entry.number old new
+StabilizesMarks entry old new false = (logs.is_stable old.orderer.log entry ≡ false) × (new ≡ old)
 
 -- if the executed state is to have a checkpoint, it is the newest kept state
 abbrev pub IsDueKept : DeskData → Type 0
@@ -31,7 +31,8 @@ IsDueKept d = checkpoint_is_due d ≡ true
     ≡ Some (record { number = d.executed.state.number; digest = root_of d.executed.state })
 
 -- The replica multicasts the checkpoint that is due, if the log asks for no vote. The marks may move.
-pub record SaysDueCheckpoint (old : JoinedData) (before : List Output) (new : JoinedData) (after : List Output)
+pub record MulticastsDueCheckpoint (old : BothPartsData) (before : List Output) (new : BothPartsData)
+    (after : List Output)
     : Type 0 where
   pub stands : (c : Configuration) (s : Start) → members c ≡ old.desk.membership → IsVotedAll old.orderer.log
       → PartsFitEvent c s old.orderer old.desk (checkpoint_due c old.desk.executed.state) before
@@ -44,10 +45,10 @@ pub record SaysDueCheckpoint (old : JoinedData) (before : List Output) (new : Jo
 
 -- A transfer starts to a quorum's checkpoint above the executed and the fetched state, and its root is asked for. Else
 -- nothing changes.
-abbrev pub StartsTransferIfBehind : CheckpointEntry → JoinedData → List Output → JoinedData → List Output → Type 0
+abbrev pub StartsTransferIfBehind : CheckpointEntry → BothPartsData → List Output → BothPartsData → List Output → Type 0
 StartsTransferIfBehind entry old before new after =
     (((nat_le (2 * old.orderer.log.faults + 1) (logs.count_checkpoints old.orderer.log entry) ≡ false)
-    ⊎ (entry.number ≤ aimed_at old.desk)) × (new ≡ old) × (after ≡ before))
+    ⊎ (entry.number ≤ target_number old.desk)) × (new ≡ old) × (after ≡ before))
     ⊎ ((nat_le (2 * old.orderer.log.faults + 1) (logs.count_checkpoints old.orderer.log entry) ≡ true)
-    × (aimed_at old.desk < entry.number) × (new ≡ record old { desk = aiming entry old.desk })
-    × SaysToOthers old.orderer (FetchMessage entry.number levels.Root 0) before after)
+    × (target_number old.desk < entry.number) × (new ≡ record old { desk = with_target entry old.desk })
+    × Multicasts old.orderer (FetchMessage entry.number levels.Root 0) before after)

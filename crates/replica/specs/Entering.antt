@@ -7,7 +7,7 @@ use Rattle.terms.specs.declared.parties.ReplicaId.{ReplicaId}
 use Rattle.terms.specs.declared.order.Mode.TheVariants as modes
 use Rattle.terms.specs.declared.order.Timestamp.{Timestamp}
 use Rattle.wire_format.specs.Messages.{MessageData as Message, request as Request}
-use Rattle.signing.specs.Heard.{heard}
+use Rattle.signing.specs.AuthenticBody.{authentic}
 use Rattle.events.specs.declared.output.Output.{Output}
 use Rattle.protocol.specs.System.Configuration.{Configuration, members}
 use Rattle.protocol.specs.System.Trace.{Entry}
@@ -17,25 +17,25 @@ use Rattle.replica_histories.specs.Questions.{AnswersInput, brings_question}
 use Rattle.replica_histories.specs.Events as histories
 use Rattle.replica_histories.specs.Events.{Start, after_outputs, IsTaken}
 use Rattle.desk.specs.DeskOf.{desk_of}
-use Rattle.replica.specs.declared.taking.Touched.{Touched}
-use Rattle.replica.specs.declared.taking.Touched.TheVariants as touched
-use Rattle.replica.specs.State.{JoinedData}
+use Rattle.replica.specs.declared.taking.DueWork.{DueWork}
+use Rattle.replica.specs.declared.taking.DueWork.TheVariants as due_work
+use Rattle.replica.specs.State.{BothPartsData}
 use Rattle.replica.specs.Beginning.{CannotBegin}
 use Rattle.orderer.specs.Fitting.{given}
 use Rattle.replica.specs.Desks.{PartsFitEvent}
 use Rattle.orderer.specs.Going.{IsVotedBut, IsVotedAll}
 use Rattle.replica.specs.Going.{IsOneParty, NothingIsLeft}
 use Rattle.replica.specs.Numbering.{IsAllNumbered}
-use Rattle.replica.specs.Joined.{JoinedMatchesHistory, me_of}
+use Rattle.replica.specs.BothParts.{BothPartsMatchHistory, me_of}
 
 -- the event in which a running replica has this input
-abbrev pub event_with : (c : Configuration) (r : JoinedData) (past : List Entry)
-    → JoinedMatchesHistory c r past → Entry → Start
+abbrev pub event_with : (c : Configuration) (r : BothPartsData) (past : List Entry)
+    → BothPartsMatchHistory c r past → Entry → Start
 event_with c r past runs input = histories.start_at c (me_of r) (desk_of c r.desk) r.orderer.log past runs.holds input
 
 -- the event in which it gets the bytes
-abbrev pub event_of : (c : Configuration) (r : JoinedData) (past : List Entry)
-    → JoinedMatchesHistory c r past → List ℕ → Start
+abbrev pub event_of : (c : Configuration) (r : BothPartsData) (past : List Entry)
+    → BothPartsMatchHistory c r past → List ℕ → Start
 event_of c r past runs bytes = event_with c r past runs (Got (me_of r) bytes)
 
 -- a rule takes the input, which asks nothing and is no part of a fetched state
@@ -54,53 +54,53 @@ IsTakenAlone c me s = IsTaken c me s
     × ((outputs : List Entry) (executed : ℕ) → AnswersInput c me s.before s.input outputs s.old executed)
 
 -- A rule takes the input, and the event answers it, whatever its outputs, if the target is then the replica's.
-abbrev pub IsTakenAnswered : Configuration → JoinedData → Start → Type 0
+abbrev pub IsTakenAnswered : Configuration → BothPartsData → Start → Type 0
 IsTakenAnswered c r s = IsTaken c (me_of r) s
     × ((outputs : List Entry) (executed : ℕ) → target (after_outputs s outputs) ≡ r.orderer.target
     → AnswersInput c (me_of r) s.before s.input outputs s.old executed)
 
--- What is left to do, by what the event touched: nothing, since what was asked for is sent; numbers for waiting
+-- The work that is left, by the parts that the event touched: nothing, since the answer is sent; numbers for waiting
 -- requests; votes for one number, and what follows; or executions, after a state was installed or a view began. An
 -- input that touches anything, or has an output, is taken.
-abbrev pub IsLeftToDo : Configuration → Start → Touched → JoinedData → List Output → Type 0
-IsLeftToDo c s touched.Nothing r outs = NothingIsLeft r × IsAllNumbered r
+abbrev pub IsLeftToDo : Configuration → Start → DueWork → BothPartsData → List Output → Type 0
+IsLeftToDo c s due_work.Nothing r outs = NothingIsLeft r × IsAllNumbered r
     × AnswersInput c (me_of r) s.before s.input (given (me_of r) outs) s.old r.desk.executed.state.number
     × ((outs ≡ []) ⊎ IsTaken c (me_of r) s)
-IsLeftToDo c s touched.Waiting r outs = NothingIsLeft r × IsTakenAlone c (me_of r) s
-IsLeftToDo c s (touched.Row number) r outs = IsVotedBut number.0 r.orderer.log × IsTakenBeside c (me_of r) s
-IsLeftToDo c s touched.State r outs = IsVotedAll r.orderer.log × IsTaken c (me_of r) s
+IsLeftToDo c s due_work.Waiting r outs = NothingIsLeft r × IsTakenAlone c (me_of r) s
+IsLeftToDo c s (due_work.Row number) r outs = IsVotedBut number.0 r.orderer.log × IsTakenBeside c (me_of r) s
+IsLeftToDo c s due_work.State r outs = IsVotedAll r.orderer.log × IsTaken c (me_of r) s
     × InputIsAnswered c (me_of r) s r.desk.executed.state.number
-IsLeftToDo c s touched.View r outs = IsVotedAll r.orderer.log × IsTakenAnswered c r s
+IsLeftToDo c s due_work.View r outs = IsVotedAll r.orderer.log × IsTakenAnswered c r s
 
 -- In an event with this input, what fits the past fits the event with these outputs. No new view is left that the
 -- replica could send.
-pub record TakesInput (input : Entry) (old : JoinedData) (touched : Touched) (new : JoinedData)
+pub record TakesInput (input : Entry) (old : BothPartsData) (due_work : DueWork) (new : BothPartsData)
     (outs : List Output) : Type 0 where
   pub party : IsOneParty old new
-  pub begins : (c : Configuration) (past : List Entry) (runs : JoinedMatchesHistory c old past)
+  pub begins : (c : Configuration) (past : List Entry) (runs : BothPartsMatchHistory c old past)
       → members c ≡ old.desk.membership
       → PartsFitEvent c (event_with c old past runs input) new.orderer new.desk [] outs
-      × IsLeftToDo c (event_with c old past runs input) touched new outs × CannotBegin c new.orderer
+      × IsLeftToDo c (event_with c old past runs input) due_work new outs × CannotBegin c new.orderer
 
 -- the same of bytes, or of a timeout
-abbrev pub TakesBytes : List ℕ → JoinedData → Touched → JoinedData → List Output → Type 0
-TakesBytes bytes old touched new outs = TakesInput (Got (me_of old) bytes) old touched new outs
+abbrev pub TakesBytes : List ℕ → BothPartsData → DueWork → BothPartsData → List Output → Type 0
+TakesBytes bytes old due_work new outs = TakesInput (Got (me_of old) bytes) old due_work new outs
 
-abbrev pub TakesTick : JoinedData → Touched → JoinedData → List Output → Type 0
-TakesTick old touched new outs = TakesInput (Tick (me_of old)) old touched new outs
+abbrev pub TakesTick : BothPartsData → DueWork → BothPartsData → List Output → Type 0
+TakesTick old due_work new outs = TakesInput (Tick (me_of old)) old due_work new outs
 
 -- The same, if the bytes are the client's ordered request.
 abbrev pub TakesRequest :
-    ClientId → Timestamp → List ℕ → JoinedData → Touched → JoinedData → List Output → Type 0
-TakesRequest client timestamp bytes old touched new outs =
+    ClientId → Timestamp → List ℕ → BothPartsData → DueWork → BothPartsData → List Output → Type 0
+TakesRequest client timestamp bytes old due_work new outs =
     (op : Operation)
-    → heard old.desk.membership old.desk.me bytes
+    → authentic old.desk.membership old.desk.me bytes
     ≡ Some (record { sender = client_party client.number; message = Request timestamp.0 modes.Ordered op })
-    → TakesBytes bytes old touched new outs
+    → TakesBytes bytes old due_work new outs
 
 -- And if they are this message of the replica's.
-abbrev pub TakesMessage : ReplicaId → Message → JoinedData → Touched → JoinedData → List Output → Type 0
-TakesMessage sender message old touched new outs =
+abbrev pub TakesMessage : ReplicaId → Message → BothPartsData → DueWork → BothPartsData → List Output → Type 0
+TakesMessage sender message old due_work new outs =
     (bytes : List ℕ)
-    → heard old.desk.membership old.desk.me bytes ≡ Some (record { sender = sender.0; message = message })
-    → TakesBytes bytes old touched new outs
+    → authentic old.desk.membership old.desk.me bytes ≡ Some (record { sender = sender.0; message = message })
+    → TakesBytes bytes old due_work new outs

@@ -3,35 +3,35 @@ use Rattle.std.specs.Prelude.{◌≡◌, ◌⊎◌, true, false, ℕ, suc, ◌+�
 use Rattle.std.specs.Prelude.{List, length, ◌≡◌, ◌⊎◌, true, ℕ, suc, ◌+◌, ◌≤◌, Option}
 use Rattle.wire_format.specs.Messages.{CheckpointEntryData as CheckpointEntry}
 use Rattle.events.specs.declared.output.Output.{Output}
-use Rattle.orderer.specs.EnteringViews.{LogsBatches, SaysVotesOf, entering}
+use Rattle.orderer.specs.EnterView.{LogsBatches, MulticastsVotesOf, entering}
 use Rattle.orderer.specs.State.{OrdererData}
-use Rattle.replica.specs.State.{JoinedData}
+use Rattle.replica.specs.State.{BothPartsData}
 use Rattle.desk.specs.State.{DeskData}
 use Rattle.desk.specs.Begun.{NotesBegun}
-use Rattle.replica.specs.Fetching.{SaysFetch}
-use Rattle.desk.specs.Fetching.{AimsAt, aimed_at}
+use Rattle.replica.specs.Fetching.{MulticastsFetch}
+use Rattle.desk.specs.Fetching.{SetsTarget, target_number}
 use Rattle.replica.specs.Marking.{MovesMarks}
 
 -- The replica opens a transfer to the start if it is ahead, and multicasts its fetch.
-abbrev pub FetchesStart : CheckpointEntry → JoinedData → List Output → JoinedData → List Output → Type 0
+abbrev pub FetchesStart : CheckpointEntry → BothPartsData → List Output → BothPartsData → List Output → Type 0
 FetchesStart entry old before new after =
-    ((desk : DeskData) × AimsAt entry old.desk desk true × (new ≡ record old { desk = desk })
-    × SaysFetch new before after)
-    ⊎ ((entry.number ≤ aimed_at old.desk) × (new ≡ old) × (after ≡ before))
+    ((desk : DeskData) × SetsTarget entry old.desk desk true × (new ≡ record old { desk = desk })
+    × MulticastsFetch new before after)
+    ⊎ ((entry.number ≤ target_number old.desk) × (new ≡ old) × (after ≡ before))
 
 -- The replica enters the view by a new view with this start and these batches, step by step.
 pub record EntersView (view : ℕ) (start : CheckpointEntry) (texts : List (List ℕ)) (own : Option (List ℕ))
-    (old : JoinedData) (before : List Output) (new : JoinedData) (after : List Output) : Type 0 where
+    (old : BothPartsData) (before : List Output) (new : BothPartsData) (after : List Output) : Type 0 where
   pub desk : DeskData
   pub noted : NotesBegun texts old.desk desk
-  pub cut : JoinedData
+  pub cut : BothPartsData
   pub cuts : MovesMarks start.number
       (record old { orderer = entering view (start.number + length texts) own old.orderer; desk = desk }) cut
   pub logged : OrdererData
   pub logs : LogsBatches (suc start.number) texts cut.orderer logged
-  pub fetched : JoinedData
+  pub fetched : BothPartsData
   pub said : List Output
   pub fetches : FetchesStart start (record cut { orderer = logged }) before fetched said
   pub orderer : OrdererData
-  pub votes : SaysVotesOf start.number (start.number + length texts) fetched.orderer said orderer after
+  pub votes : MulticastsVotesOf start.number (start.number + length texts) fetched.orderer said orderer after
   pub new_is : new ≡ record fetched { orderer = orderer }

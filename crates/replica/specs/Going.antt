@@ -6,25 +6,25 @@ use Rattle.ordering.specs.Log.{LogData}
 use Rattle.protocol.specs.System.Configuration.{Configuration, members}
 use Rattle.replica_histories.specs.Events.{Start}
 use Rattle.orderer.specs.Going.{IsVotedAll, IsVotedBut, CommitsNoMore, IsSameOrderer}
-use Rattle.replica.specs.State.{JoinedData}
+use Rattle.replica.specs.State.{BothPartsData}
 use Rattle.desk.specs.State.{DeskData}
 use Rattle.desk.specs.Waiting.{count_unnumbered}
 use Rattle.replica.specs.Desks.{PartsFitEvent}
 
 -- both are the same party
-pub record IsOneParty (old new : JoinedData) : Type 0 where
+pub record IsOneParty (old new : BothPartsData) : Type 0 where
   pub endpoint : new.orderer.endpoint ≡ old.orderer.endpoint
   pub me : new.desk.me ≡ old.desk.me
   pub membership : new.desk.membership ≡ old.desk.membership
 
 -- and in the same view
-pub record IsSameParty (old new : JoinedData) : Type 0 where
+pub record IsSameParty (old new : BothPartsData) : Type 0 where
   pub orderer : IsSameOrderer old.orderer new.orderer
   pub me : new.desk.me ≡ old.desk.me
   pub membership : new.desk.membership ≡ old.desk.membership
 
 -- what stands with the earlier outputs, stands with the later ones
-abbrev pub FitIsKept : JoinedData → List Output → JoinedData → List Output → Type 0
+abbrev pub FitIsKept : BothPartsData → List Output → BothPartsData → List Output → Type 0
 FitIsKept old before new after =
     (c : Configuration) (s : Start) → members c ≡ old.desk.membership → PartsFitEvent c s old.orderer old.desk [] before
     → PartsFitEvent c s new.orderer new.desk [] after
@@ -34,12 +34,13 @@ abbrev pub AllIsExecuted : LogData → DeskData → Type 0
 AllIsExecuted log d = logs.committed_batch log (suc d.executed.state.number) ≡ None
 
 -- no message is left to send, and no batch to execute
-abbrev pub NothingIsLeft : JoinedData → Type 0
+abbrev pub NothingIsLeft : BothPartsData → Type 0
 NothingIsLeft r = IsVotedAll r.orderer.log × AllIsExecuted r.orderer.log r.desk
 
 -- If the log asks for no vote, the replica executes the next batch and sends its checkpoint; or no batch is committed,
 -- and nothing changes.
-pub record ExecutesNextBatch (old : JoinedData) (before : List Output) (new : JoinedData) (after : List Output) : Type 0
+pub record ExecutesNextBatch (old : BothPartsData) (before : List Output) (new : BothPartsData)
+    (after : List Output) : Type 0
   where
     pub proceeds : IsVotedAll old.orderer.log → FitIsKept old before new after
     pub party : IsSameParty old new
@@ -50,12 +51,12 @@ pub record ExecutesNextBatch (old : JoinedData) (before : List Output) (new : Jo
     pub commits : CommitsNoMore old.orderer.log new.orderer.log
     pub waiting : count_unnumbered new.desk.waiting ≤ count_unnumbered old.desk.waiting
 
-abbrev pub ExecutesTurn : JoinedData → List Output → JoinedData → List Output → Bool → Type 0
+abbrev pub ExecutesTurn : BothPartsData → List Output → BothPartsData → List Output → Bool → Type 0
 ExecutesTurn old before new after true = ExecutesNextBatch old before new after
 ExecutesTurn old before new after false = (new ≡ old) × (after ≡ before) × AllIsExecuted old.orderer.log old.desk
 
 -- If the log asks for no vote, the replica executes the committed batches, one after another.
-pub record ExecutesAll (old : JoinedData) (before : List Output) (new : JoinedData) (after : List Output) : Type 0
+pub record ExecutesAll (old : BothPartsData) (before : List Output) (new : BothPartsData) (after : List Output) : Type 0
   where
     pub proceeds : IsVotedAll old.orderer.log → FitIsKept old before new after
     pub party : IsSameParty old new
@@ -64,8 +65,8 @@ pub record ExecutesAll (old : JoinedData) (before : List Output) (new : JoinedDa
     pub waiting : count_unnumbered new.desk.waiting ≤ count_unnumbered old.desk.waiting
     pub rests : IsVotedAll old.orderer.log → NothingIsLeft new
 
--- The replica sends all votes that the log asks for, for one number, and executes what is committed then.
-pub record GoesOnWith (number : ℕ) (old : JoinedData) (before : List Output) (new : JoinedData)
+-- The replica sends all votes that the log asks for, for one number, and executes the batches that are committed then.
+pub record GoesOnWith (number : ℕ) (old : BothPartsData) (before : List Output) (new : BothPartsData)
     (after : List Output) : Type 0 where
   pub proceeds : IsVotedBut number old.orderer.log → FitIsKept old before new after
   pub party : IsSameParty old new

@@ -7,7 +7,7 @@ use Rattle.protocol.specs.System.Configuration.{Configuration}
 use Rattle.protocol.specs.System.Trace.{Entry}
 use Rattle.protocol.specs.Replica.Certificates.{view, target, low, logged, prepare_of, commit_of, checkpoints_of, brought, new_view_in, change_sent, checkpoint_in, installed_at, batch_from, prepare_from, commit_from, change_at, latest_change}
 use Rattle.protocol.specs.Replica.Transfers.{fetch_sent, fetching, asked_last}
-use Rattle.protocol.specs.Replica.Owed.{IsSaying}
+use Rattle.protocol.specs.Replica.Owed.{IsSending}
 use Rattle.protocol.specs.System.Reads.{without_reads}
 
 -- requests and replies order nothing
@@ -26,7 +26,7 @@ pub record BringsNothing (c : Configuration) (me : ℕ) (e : Entry) : Type 0 whe
   pub fetch : fetch_sent e ≡ 0
   pub asked : (past : List Entry) → asked_last (e ∷ past) ≡ asked_last past
   pub latest : (past : List Entry) (s : ℕ) → change_at c past e s ≡ 0
-  pub says : (message : Message) → IsSaying me message e → OrdersNothing message
+  pub says : (message : Message) → IsSending me message e → OrdersNothing message
   pub seen : (past : List Entry) (frame : List ℕ) (body : Body) → HasSeen frame past e → said frame ≡ Some body
       → OrdersNothing body.message
 

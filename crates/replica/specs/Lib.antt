@@ -6,8 +6,8 @@ pub mod Marking
 pub mod Fetching
 pub mod Checkpoints
 pub mod Inputs
-pub mod Joined
-pub mod JoinedView
+pub mod BothParts
+pub mod BothPartsView
 pub mod NumbersNext
 pub mod FollowingUp
 pub mod Entering

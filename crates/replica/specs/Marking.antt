@@ -2,12 +2,12 @@
 use Rattle.std.specs.Prelude.{◌≡◌, ℕ}
 use Rattle.ordering.specs.Log as logs
 use Rattle.orderer.specs.State.{OrdererData}
-use Rattle.replica.specs.State.{JoinedData}
+use Rattle.replica.specs.State.{BothPartsData}
 use Rattle.orderer.specs.Claiming.{CutsLog}
 use Rattle.desk.specs.Desking.{desk_above}
 
 -- The low mark moves up to a number: the log is cut there, and the claims and kept states below it are dropped.
-abbrev pub MovesMarks : ℕ → JoinedData → JoinedData → Type 0
+abbrev pub MovesMarks : ℕ → BothPartsData → BothPartsData → Type 0
 MovesMarks low old new =
     (o : OrdererData) × CutsLog low old.orderer o
     × (new ≡ record old { orderer = o; desk = desk_above (logs.cut_to old.orderer.log low).low old.desk })

@@ -3,16 +3,17 @@ use Rattle.std.specs.Prelude.{◌≡◌, ℕ, ◌<◌, ◌≤◌, Bool, true, fa
 use Rattle.wire_format.specs.Lists.{Each}
 use Rattle.wire_format.specs.Spelling.{IsCarried, is_ordered_request, pieces_spelling}
 use Rattle.events.specs.declared.output.Output.{Output}
-use Rattle.replica.specs.State.{JoinedData}
+use Rattle.replica.specs.State.{BothPartsData}
 use Rattle.desk.specs.Waiting.{texts, unnumbered, with_numbered, count_unnumbered}
-use Rattle.orderer.specs.Saying.{SaysOwnBatch}
+use Rattle.orderer.specs.Multicasting.{MulticastsOwnBatch}
 use Rattle.replica.specs.Going.{IsSameParty, FitIsKept, NothingIsLeft}
 use Rattle.replica.specs.Numbering.{IsAllNumbered}
 
 -- The primary assigns this number to the oldest requests without one, in a batch that it multicasts.
-pub record NumbersNext (number : ℕ) (old : JoinedData) (before : List Output) (new : JoinedData)
+pub record NumbersNext (number : ℕ) (old : BothPartsData) (before : List Output) (new : BothPartsData)
     (after : List Output) : Type 0 where
-  pub says : SaysOwnBatch number (pieces_spelling (texts (unnumbered old.desk.waiting))) old.orderer before new.orderer
+  pub says : MulticastsOwnBatch number (pieces_spelling (texts (unnumbered old.desk.waiting)))
+      old.orderer before new.orderer
       after
   pub waits : new.desk ≡ record old.desk {
     waiting = with_numbered (length (unnumbered old.desk.waiting)) old.desk.waiting;
@@ -20,7 +21,8 @@ pub record NumbersNext (number : ℕ) (old : JoinedData) (before : List Output) 
   pub carried : Each (IsCarried is_ordered_request) (texts (unnumbered old.desk.waiting))
 
 -- The primary assigns the next number, and goes on with it. Fewer requests are left without one.
-pub record GivesNumber (old : JoinedData) (before : List Output) (new : JoinedData) (after : List Output) : Type 0
+pub record AssignsNumber (old : BothPartsData) (before : List Output) (new : BothPartsData)
+    (after : List Output) : Type 0
   where
     pub proceeds : NothingIsLeft old → FitIsKept old before new after
     pub party : IsSameParty old new
@@ -29,13 +31,13 @@ pub record GivesNumber (old : JoinedData) (before : List Output) (new : JoinedDa
     pub fewer : count_unnumbered new.desk.waiting < count_unnumbered old.desk.waiting
 
 -- The primary assigns one number; or there is no free number, or no request without one, and nothing changes.
-abbrev pub NumbersTurn : JoinedData → List Output → JoinedData → List Output → Bool → Type 0
-NumbersTurn old before new after true = GivesNumber old before new after
+abbrev pub NumbersTurn : BothPartsData → List Output → BothPartsData → List Output → Bool → Type 0
+NumbersTurn old before new after true = AssignsNumber old before new after
 NumbersTurn old before new after false = (new ≡ old) × (after ≡ before) × IsAllNumbered old
 
 -- The primary assigns the free numbers to waiting requests, and goes on with each. Nothing is left to send, to execute
 -- or to assign.
-pub record NumbersWaitingRequests (old : JoinedData) (before : List Output) (new : JoinedData)
+pub record NumbersWaitingRequests (old : BothPartsData) (before : List Output) (new : BothPartsData)
     (after : List Output) : Type 0 where
   pub proceeds : NothingIsLeft old → FitIsKept old before new after
   pub party : IsSameParty old new

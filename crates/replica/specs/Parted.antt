@@ -19,10 +19,10 @@ use Rattle.orderer.specs.State.{OrdererData}
 use Rattle.desk.specs.State.{DeskData}
 use Rattle.orderer.specs.Flags.{FitsFlags}
 use Rattle.replica.specs.Beginning.{CannotBegin}
-use Rattle.orderer.specs.Fitting.{WasSaid, changes_held}
+use Rattle.orderer.specs.Fitting.{WasSent, changes_held}
 use Rattle.replica.specs.Inputs.{input_of}
-use Rattle.replica.specs.Joined.{JoinedEventLeads, joined}
-use Rattle.orderer.specs.Changing.{AreChanges}
+use Rattle.replica.specs.BothParts.{BothPartsEventLead, both_parts}
+use Rattle.orderer.specs.ViewChangeOut.{AreChanges}
 
 -- ---- what a running part holds
 
@@ -48,7 +48,7 @@ pub record IsUsed (c : Configuration) (me v used : ℕ) (history : List Entry) :
 pub record OrdererMatchesHistory (c : Configuration) (me : ℕ) (o : OrdererData) (history : List Entry) : Type 0 where
   pub holds : histories.LogFitsBetweenEvents c me o.log history
   pub used : primary c (view c history) ≡ me → IsUsed c me (view c history) o.used history
-  pub said : WasSaid me o.last_checkpoint history
+  pub said : WasSent me o.last_checkpoint history
   pub changes : FitsChanges c me o.log (changes_held o) history
   pub period : c.period ≡ o.received.sizes.period
   pub begun : CannotBegin c o
@@ -125,7 +125,7 @@ OrdererStops o stopped =
 -- the outputs of both in an event, when they are joined
 pub record PartsReact (o : OrdererData) (d : DeskData) (event : Event) (outs : List Output) (later_o : OrdererData)
     (later_d : DeskData) : Type 0 where
-  pub leads : JoinedEventLeads (joined o d) event outs (joined later_o later_d)
+  pub leads : BothPartsEventLead (both_parts o d) event outs (both_parts later_o later_d)
   pub one : AreOne later_o later_d
   pub changes : AreChanges later_o.received.held
   pub endpoint : later_o.endpoint ≡ o.endpoint

@@ -5,11 +5,11 @@ use Rattle.protocol.specs.System.Reads.{without_reads}
 use Rattle.protocol.specs.System.Trace.{Entry}
 use Rattle.protocol.specs.Replica.Owed.{IsPromptReplica}
 use Rattle.orderer.specs.State.{OrdererData}
-use Rattle.replica.specs.State.{DeskPart, JoinedData, ReplicaData, AreOne, has_stopped}
+use Rattle.replica.specs.State.{DeskPart, BothPartsData, ReplicaData, AreOne, has_stopped}
 use Rattle.desk.specs.State.{DeskData}
-use Rattle.replica.specs.Joined.{JoinedMatchesHistory, joined, me_of}
+use Rattle.replica.specs.BothParts.{BothPartsMatchHistory, both_parts, me_of}
 use Rattle.replica.specs.Parted.{DeskMatchesHistory, OrdererMatchesHistory, DeskFitsHistory}
-use Rattle.orderer.specs.Changing.{AreChanges}
+use Rattle.orderer.specs.ViewChangeOut.{AreChanges}
 use Rattle.replica.specs.Fits as replica_fits
 
 -- Together they hold the whole history.
@@ -17,13 +17,13 @@ abbrev pub PartsJoin : Type 0
 PartsJoin =
     (c : Configuration) (o : OrdererData) (d : DeskData) (history : List Entry) → AreOne o d
     → DeskMatchesHistory c o.endpoint.me d history → OrdererMatchesHistory c o.endpoint.me o (without_reads history)
-    → JoinedMatchesHistory c (joined o d) history
+    → BothPartsMatchHistory c (both_parts o d) history
 
 -- And what holds the whole history parts into both.
 abbrev pub HoldsPart : Type 0
 HoldsPart =
-    (c : Configuration) (r : JoinedData) (history : List Entry) → AreOne r.orderer r.desk
-    → AreChanges r.orderer.received.held → JoinedMatchesHistory c r history
+    (c : Configuration) (r : BothPartsData) (history : List Entry) → AreOne r.orderer r.desk
+    → AreChanges r.orderer.received.held → BothPartsMatchHistory c r history
     → DeskMatchesHistory c (me_of r) r.desk history
     × OrdererMatchesHistory c (me_of r) r.orderer (without_reads history)
 

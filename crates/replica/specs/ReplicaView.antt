@@ -1,11 +1,11 @@
 -- The model of a replica's fields. While it runs, its parts are joined.
 use Rattle.std.specs.Prelude.{Option, option_map}
 use Rattle.replica.specs.declared.replica.Replica.TheInside.{Inside}
-use Rattle.replica.specs.State.{JoinedData, MemberData, ReplicaData, IsOrdererPart}
+use Rattle.replica.specs.State.{BothPartsData, MemberData, ReplicaData, IsOrdererPart}
 use Rattle.replica.specs.MemberView.{member_data}
 
 -- the member's parts, as they are joined, or both stopped
-abbrev pub both_of : MemberData → Option JoinedData → ReplicaData
+abbrev pub both_of : MemberData → Option BothPartsData → ReplicaData
 both_of m holds =
     record {
       orderer = record { member = m; holds = option_map (λ r. r.orderer) holds };

@@ -6,7 +6,7 @@ use Rattle.orderer.specs.State.{OrdererData}
 use Rattle.desk.specs.State.{DeskData}
 
 -- both parts, joined within an event
-pub record JoinedData : Type 0 where
+pub record BothPartsData : Type 0 where
   pub orderer : OrdererData
   pub desk : DeskData
 

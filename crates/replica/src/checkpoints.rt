@@ -4,19 +4,19 @@ ghost use Rattle.std.specs.Prelude.{◌≡◌, ◌^◌, ◌<◌, [], IfOk, OnOk}
 ghost use Rattle.wire_format.specs.Messages.{checkpoint};
 ghost use Rattle.wire_format.specs.Views.{checkpoint_entry_data};
 ghost use Rattle.replica.specs.Going.{IsOneParty};
-ghost use Rattle.replica.specs.Checkpoints.{StartsTransferIfBehind, IsDueKept, SaysDueCheckpoint, SettlesMarks};
+ghost use Rattle.replica.specs.Checkpoints.{StartsTransferIfBehind, IsDueKept, MulticastsDueCheckpoint, StabilizesMarks};
 ghost use Rattle.replica.specs.Marking.{MovesMarks};
 ghost use Rattle.replica.specs.Entering.{TakesMessage};
 
-use crate::joined::Joined;
-use crate::taking::Touched;
+use crate::both_parts::BothParts;
+use crate::taking::DueWork;
 use events::{Outputs, Stop};
 use orderer::entry_in;
 use std::alloc::Global;
 use terms::{Number, ReplicaId};
 use wire::{Checkpoint, CheckpointEntry};
 
-impl Joined {
+impl BothParts {
     /// Takes a checkpoint of another replica. If it completes a quorum that has the replica's own, the marks move. If
     /// the quorum lacks the replica's own and is ahead of the executed state, the replica fetches that state.
     pub(crate) fn on_checkpoint(
@@ -25,27 +25,27 @@ impl Joined {
         sender: ReplicaId,
         message: &Checkpoint,
         outputs: &mut Outputs,
-    ) -> Result<Touched, Stop>
+    ) -> Result<DueWork, Stop>
         requires first { outputs.old.items ≡ [] }
-        ensures ok { IfOk result (λ touched. TakesMessage sender
+        ensures ok { IfOk result (λ due_work. TakesMessage sender
             (checkpoint message.now.number.0 message.now.root)
-            self.old touched self.new outputs.new.items) }
+            self.old due_work self.new outputs.new.items) }
         ensures party { IsOneParty self.old self.new }
     {
         self.are_one();
         if !self.orderer.take_checkpoint(sender, message) {
-            return Ok(Touched::Nothing);
+            return Ok(DueWork::Nothing);
         }
         let entry = entry_in(message);
         if self.try_stabilize(&entry) {
-            return Ok(Touched::Waiting);
+            return Ok(DueWork::Waiting);
         }
         self.start_transfer_if_behind(alloc, &entry, outputs)?;
-        Ok(Touched::Nothing)
+        Ok(DueWork::Nothing)
     }
 
     /// Multicasts the checkpoint of the executed state, if one is due. That state is then the newest kept one.
-    pub(crate) fn say_due_checkpoint(
+    pub(crate) fn multicast_due_checkpoint(
         &mut self,
         alloc: Global,
         outputs: &mut Outputs,
@@ -53,13 +53,13 @@ impl Joined {
         requires fits { self.old.desk.executed.state.number < 2 ^ 48 }
         requires kept { IsDueKept self.old.desk }
         ensures ok { OnOk result
-            (SaysDueCheckpoint self.old outputs.old.items self.new outputs.new.items) }
+            (MulticastsDueCheckpoint self.old outputs.old.items self.new outputs.new.items) }
         ensures party { IsOneParty self.old self.new }
     {
         let Some(entry) = self.desk.due_checkpoint() else {
             return Ok(());
         };
-        self.orderer.say_checkpoint(alloc, entry, outputs)?;
+        self.orderer.multicast_checkpoint(alloc, entry, outputs)?;
         self.orderer.keeps();
         self.try_stabilize(&entry);
         Ok(())
@@ -69,7 +69,7 @@ impl Joined {
     // counted last can have become stable.
     fn try_stabilize(&mut self, entry: &CheckpointEntry) -> bool
         requires { entry.now.number.0 < 2 ^ 48 }
-        ensures settles { SettlesMarks (checkpoint_entry_data entry.now) self.old self.new result }
+        ensures settles { StabilizesMarks (checkpoint_entry_data entry.now) self.old self.new result }
         ensures party { IsOneParty self.old self.new }
     {
         if !self.orderer.is_stable(entry) {
@@ -104,6 +104,6 @@ impl Joined {
         if !self.orderer.has_quorum(entry) || !self.desk.set_target(alloc, entry)? {
             return Ok(());
         }
-        self.say_fetch(alloc, outputs)
+        self.multicast_fetch(alloc, outputs)
     }
 }

@@ -3,13 +3,13 @@
 ghost use Rattle.std.specs.Prelude.{IfOk, OnOk};
 ghost use Rattle.replica.specs.Going.{ExecutesAll, ExecutesTurn, GoesOnWith, IsOneParty};
 
-use crate::joined::Joined;
+use crate::both_parts::BothParts;
 use events::{Outputs, Stop};
 use std::alloc::Global;
 use std::sync::Arc;
 use terms::Number;
 
-impl Joined {
+impl BothParts {
     /// Multicasts the votes that the log asks for, for one number, and executes all that is committed then.
     pub(crate) fn advance(
         &mut self,
@@ -21,7 +21,7 @@ impl Joined {
             (GoesOnWith number.0 self.old outputs.old.items self.new outputs.new.items) }
         ensures party { IsOneParty self.old self.new }
     {
-        self.orderer.say_votes(alloc, number, outputs)?;
+        self.orderer.multicast_votes(alloc, number, outputs)?;
         self.execute_committed(alloc, outputs)
     }
 
@@ -57,7 +57,7 @@ impl Joined {
         };
         let batch = Arc::try_clone(batch)?;
         self.desk.execute(alloc, batch.text(), outputs)?;
-        self.say_due_checkpoint(alloc, outputs)?;
+        self.multicast_due_checkpoint(alloc, outputs)?;
         Ok(true)
     }
 }

@@ -57,10 +57,10 @@
 //!
 //! `docs/architecture.md` has the way of an event. These points are beside it:
 //!
-//! - **A request that comes again** (`say_all_again`). An active replica sends its own new view again. Then it sends
-//!   its batch, prepare and commit of each number above the executed one, and last its latest checkpoint. An inactive
-//!   one sends its view change. By contract all of it is among the outputs (`PostsAll`, `PostsChange` in
-//!   `orderer/specs/Saying.antt`), as `Owes.says_again` asks.
+//! - **A request that comes again** (`multicast_all_again`). An active replica sends its own new view again. Then it
+//!   sends its batch, prepare and commit of each number above the executed one, and last its latest checkpoint. An
+//!   inactive one sends its view change. By contract all of it is among the outputs (`OutputsHaveAll`,
+//!   `OutputsHaveViewChange` in `orderer/specs/Saying.antt`), as `Owes.says_again` asks.
 //! - **A part that completes a state** (`install`, `Touched::State`). The marks move, and committed batches are
 //!   executed. A page that completes no state is given back.
 //! - **A tick** (`on_timeout`, `change_view`). The replica sends the open fetch again, as `Owes.fetches_again` asks. A
@@ -93,14 +93,12 @@
 //!   request that waits for it (`IsAllNumbered`).
 #![tactic(auto)]
 
-mod changing;
+mod both_parts;
 mod checkpoints;
-mod entering_views;
+mod enter_view;
 mod executing;
-mod joined;
-mod joining;
 mod member;
-mod new_views;
+mod new_view;
 mod numbering;
 mod parted;
 mod parted_laws;
@@ -108,6 +106,8 @@ mod reading;
 mod replica;
 mod taking;
 mod transfers;
+mod view_change_in;
+mod view_change_out;
 
 pub use parted::{Desk, Orderer};
 pub use parted_laws::{

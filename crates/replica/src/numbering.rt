@@ -10,8 +10,8 @@ ghost use Rattle.replica.specs.Numbering.{AllAgain, IsNextFree};
 ghost use Rattle.orderer.specs.Numbering.{next_number};
 ghost use Rattle.replica.specs.NumbersNext.{NumbersNext, NumbersTurn, NumbersWaitingRequests};
 
-use crate::joined::Joined;
-use crate::taking::Touched;
+use crate::both_parts::BothParts;
+use crate::taking::DueWork;
 use desk::Arrival;
 use events::{Outputs, Stop};
 use std::alloc::Global;
@@ -20,7 +20,7 @@ use terms::{ClientId, Number, Timestamp};
 /// A primary assigns numbers at most so far above the executed one.
 const AHEAD: u64 = 2;
 
-impl Joined {
+impl BothParts {
     /// Takes a client's ordered request. The replica answers the last executed one again, and makes a newer one wait.
     /// If the request waits already, the replica multicasts again what it sent for numbers that aren't executed.
     pub(crate) fn on_request(
@@ -30,39 +30,39 @@ impl Joined {
         timestamp: Timestamp,
         frame: &[u8],
         outputs: &mut Outputs,
-    ) -> Result<Touched, Stop>
+    ) -> Result<DueWork, Stop>
         requires carried { IsCarried is_ordered_request frame.now }
         requires first { outputs.old.items ≡ [] }
-        ensures ok { IfOk result (λ touched. TakesRequest client timestamp frame.now self.old
-            touched self.new outputs.new.items) }
+        ensures ok { IfOk result (λ due_work. TakesRequest client timestamp frame.now self.old
+            due_work self.new outputs.new.items) }
         ensures party { IsOneParty self.old self.new }
     {
         if self.desk.reply_again(alloc, client, timestamp, outputs)? {
-            return Ok(Touched::Nothing);
+            return Ok(DueWork::Nothing);
         }
         match self.desk.arrival_of(client, timestamp, frame) {
-            Arrival::Past => Ok(Touched::Nothing),
+            Arrival::Past => Ok(DueWork::Nothing),
             Arrival::Waiting => {
-                self.say_all_again(alloc, outputs)?;
-                Ok(Touched::Nothing)
+                self.multicast_all_again(alloc, outputs)?;
+                Ok(DueWork::Nothing)
             }
             Arrival::New => {
                 self.desk.wait(alloc, client, timestamp, frame)?;
-                Ok(Touched::Waiting)
+                Ok(DueWork::Waiting)
             }
         }
     }
 
     // Multicasts again, while active, what the replica sent for numbers that aren't executed; else its view change.
-    fn say_all_again(&mut self, alloc: Global, outputs: &mut Outputs) -> Result<(), Stop>
+    fn multicast_all_again(&mut self, alloc: Global, outputs: &mut Outputs) -> Result<(), Stop>
         ensures ok { OnOk result (AllAgain self.old outputs.old.items self.new outputs.new.items) }
         ensures same { self.new ≡ self.old }
     {
         if !self.orderer.is_active() {
-            return self.orderer.say_change_again(alloc, outputs);
+            return self.orderer.multicast_view_change_again(alloc, outputs);
         }
         let executed = self.desk.number();
-        self.orderer.say_again(alloc, executed, outputs)
+        self.orderer.multicast_again(alloc, executed, outputs)
     }
 
     /// Assigns the free numbers to waiting requests, if the replica is the primary. Each turn leaves fewer requests
@@ -115,7 +115,8 @@ impl Joined {
         ensures party { IsOneParty self.old self.new }
     {
         let frames = self.desk.unnumbered_frames(alloc)?;
-        self.orderer.say_batch(alloc, number, &frames, outputs)?;
+        self.orderer
+            .multicast_batch(alloc, number, &frames, outputs)?;
         self.desk.note_numbered(frames.len());
         Ok(())
     }

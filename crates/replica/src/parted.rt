@@ -9,7 +9,7 @@ ghost use Rattle.replica.specs.MemberView.{member_data};
 ghost use Rattle.replica.specs.Parted.{AreTogether, BothLead, BothSendAsMeant, DeskStops, OrdererStops, ReadLeads, ReadSendsAsMeant};
 ghost use Rattle.wire.specs.Marks.{asks_read};
 
-use crate::joined::Joined;
+use crate::both_parts::BothParts;
 use crate::member::Member;
 use crate::replica::Event;
 use bumpalo::Bump;
@@ -166,17 +166,17 @@ impl Orderer {
     {
         let orderer = take_orderer(&mut self.holds);
         let state = take_desk(&mut desk.holds);
-        let mut joined = Joined {
+        let mut both_parts = BothParts {
             orderer,
             desk: state,
         };
-        let Ok(outputs) = joined.step(alloc, event) else {
+        let Ok(outputs) = both_parts.step(alloc, event) else {
             return Err(Stop::NoMemory);
         };
-        let Joined {
+        let BothParts {
             orderer: later_orderer,
             desk: later_state,
-        } = joined;
+        } = both_parts;
         self.holds = Some(later_orderer);
         desk.holds = Some(later_state);
         Ok(outputs)

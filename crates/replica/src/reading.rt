@@ -5,13 +5,13 @@ ghost use Rattle.wire.specs.Marks.{asks_read};
 ghost use Rattle.replica.specs.Going.{IsOneParty};
 ghost use Rattle.replica.specs.Entering.{TakesBytes};
 
-use crate::joined::Joined;
-use crate::taking::Touched;
+use crate::both_parts::BothParts;
+use crate::taking::DueWork;
 use bumpalo::Bump;
 use events::{Outputs, Stop};
 use std::alloc::Global;
 
-impl Joined {
+impl BothParts {
     /// Answers the read that bytes with its marks ask for, if they are an authentic read. The arena for its template
     /// lasts for this call.
     pub(crate) fn on_read(
@@ -19,16 +19,16 @@ impl Joined {
         alloc: Global,
         bytes: &[u8],
         outputs: &mut Outputs,
-    ) -> Result<Touched, Stop>
+    ) -> Result<DueWork, Stop>
         requires first { outputs.old.items ≡ [] }
         requires marks { asks_read bytes.now ≡ true }
-        ensures ok { IfOk result (λ touched. TakesBytes bytes.now self.old
-            touched self.new outputs.new.items) }
+        ensures ok { IfOk result (λ due_work. TakesBytes bytes.now self.old
+            due_work self.new outputs.new.items) }
         ensures party { IsOneParty self.old self.new }
     {
         self.are_one();
         let mut arena = Bump::new(alloc);
         self.desk.read(alloc, bytes, &mut arena, outputs)?;
-        Ok(Touched::Nothing)
+        Ok(DueWork::Nothing)
     }
 }

@@ -5,7 +5,7 @@ ghost use Rattle.events.specs.declared.output.Stop.TheVariants as Stop;
 ghost use Rattle.replica.specs.State.{IsReplicaData, has_stopped};
 ghost use Rattle.replica.specs.Fits.{EventLeads, Fits, SendsAsMeant, me_of};
 
-use crate::joined::Joined;
+use crate::both_parts::BothParts;
 use crate::member::Member;
 use crate::parted::{Desk, Orderer};
 use desk::Desk as DeskState;
@@ -29,7 +29,7 @@ pub enum Event<'a> {
 #[derive(Drop)]
 pub struct Replica {
     member: Member,
-    holds: Option<Joined>,
+    holds: Option<BothParts>,
 }
 
 impl Model for Replica {
@@ -72,7 +72,7 @@ impl Replica {
         let desk = DeskState::new(alloc, config, me)?;
         Ok(Replica {
             member,
-            holds: Some(Joined { orderer, desk }),
+            holds: Some(BothParts { orderer, desk }),
         })
     }
 
@@ -98,10 +98,10 @@ impl Replica {
         ensures before { (result ≡ Err Stop.Stopped) ↔ (has_stopped self.old ≡ true) }
         ensures number { me_of self.new ≡ me_of self.old }
     {
-        let Some(joined) = &mut self.holds else {
+        let Some(both_parts) = &mut self.holds else {
             return Err(Stop::Stopped);
         };
-        let Ok(outputs) = joined.step(alloc, event) else {
+        let Ok(outputs) = both_parts.step(alloc, event) else {
             self.holds = None;
             return Err(Stop::NoMemory);
         };
@@ -115,7 +115,7 @@ impl Replica {
     {
         let Replica { member, holds } = self;
         match holds {
-            Some(Joined { orderer, desk }) => (
+            Some(BothParts { orderer, desk }) => (
                 Orderer::new(member, orderer),
                 Desk::new(member, desk),
             ),

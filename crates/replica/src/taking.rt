@@ -7,12 +7,12 @@ ghost use Rattle.wire.specs.Marks.{has_type_of_requests};
 ghost use Rattle.wire_format.specs.Messages.{pre_prepare, prepare, commit};
 ghost use Rattle.wire_format.specs.Spelling.{IsBatch};
 ghost use Rattle.wire_format.specs.Views.{message_data};
-ghost use Rattle.signing.specs.Heard.{heard};
-ghost use Rattle.read_only.specs.Hearing.{NobodyHearsRead};
+ghost use Rattle.signing.specs.AuthenticBody.{authentic};
+ghost use Rattle.read_only.specs.Receiving.{NobodyReceivesRead};
 ghost use Rattle.replica.specs.Going.{IsOneParty};
 ghost use Rattle.replica.specs.Entering.{TakesBytes, TakesMessage};
 
-use crate::joined::Joined;
+use crate::both_parts::BothParts;
 use events::{Outputs, Stop};
 use read_only::asks_read;
 use std::alloc::Global;
@@ -21,7 +21,7 @@ use wire::{Body, Commit, Message, PrePrepare, Prepare, has_type_of_requests};
 
 /// What a message touched, and so what may follow.
 #[derive(Clone, Copy, Drop)]
-pub(crate) enum Touched {
+pub(crate) enum DueWork {
     /// Nothing follows: the message was dropped, or answered.
     Nothing,
     /// The waiting requests or the marks, and so the numbers that are free for them.
@@ -34,17 +34,17 @@ pub(crate) enum Touched {
     View,
 }
 
-impl Joined {
+impl BothParts {
     /// Takes the message in the bytes, if it is authentic and has no fault.
     pub(crate) fn take(
         &mut self,
         alloc: Global,
         bytes: &[u8],
         outputs: &mut Outputs,
-    ) -> Result<Touched, Stop>
+    ) -> Result<DueWork, Stop>
         requires first { outputs.old.items ≡ [] }
-        ensures ok { IfOk result (λ touched. TakesBytes bytes.now self.old
-            touched self.new outputs.new.items) }
+        ensures ok { IfOk result (λ due_work. TakesBytes bytes.now self.old
+            due_work self.new outputs.new.items) }
         ensures party { IsOneParty self.old self.new }
     {
         self.are_one();
@@ -57,10 +57,10 @@ impl Joined {
         // A stored view change isn't verified again.
         if has_type_of_view_changes(bytes) && self.orderer.has_frame(bytes) {
             self.orderer.judges();
-            return Ok(Touched::Nothing);
+            return Ok(DueWork::Nothing);
         }
-        let Some(Body { sender, message }) = self.orderer.hear(alloc, bytes)? else {
-            return Ok(Touched::Nothing);
+        let Some(Body { sender, message }) = self.orderer.authenticate(alloc, bytes)? else {
+            return Ok(DueWork::Nothing);
         };
         match sender {
             Party::Client(client) => Ok(self.on_client(client, message, bytes)),
@@ -74,35 +74,35 @@ impl Joined {
         alloc: Global,
         bytes: &[u8],
         outputs: &mut Outputs,
-    ) -> Result<Touched, Stop>
+    ) -> Result<DueWork, Stop>
         requires first { outputs.old.items ≡ [] }
         requires kind { has_type_of_requests bytes.now ≡ true }
-        requires unmarked { NobodyHearsRead bytes.now }
-        ensures ok { IfOk result (λ touched. TakesBytes bytes.now self.old
-            touched self.new outputs.new.items) }
+        requires unmarked { NobodyReceivesRead bytes.now }
+        ensures ok { IfOk result (λ due_work. TakesBytes bytes.now self.old
+            due_work self.new outputs.new.items) }
         ensures party { IsOneParty self.old self.new }
     {
         self.are_one();
-        let Some(request) = self.orderer.hear_request(bytes) else {
-            return Ok(Touched::Nothing);
+        let Some(request) = self.orderer.authenticate_request(bytes) else {
+            return Ok(DueWork::Nothing);
         };
         match request.mode {
             Mode::Ordered => {
                 self.on_request(alloc, request.client, request.timestamp, bytes, outputs)
             }
-            Mode::ReadOnly => Ok(Touched::Nothing),
+            Mode::ReadOnly => Ok(DueWork::Nothing),
         }
     }
 
     // Drops a client's message, which arrived in this frame: clients send requests alone.
-    fn on_client(&self, client: ClientId, message: Message, frame: &[u8]) -> Touched
-        requires heard { heard self.now.desk.membership self.now.desk.me frame.now
+    fn on_client(&self, client: ClientId, message: Message, frame: &[u8]) -> DueWork
+        requires authentic { authentic self.now.desk.membership self.now.desk.me frame.now
             ≡ Some (record { sender = client_party client.number; message = message_data message }) }
         requires other { has_type_of_requests frame.now ≡ false }
         ensures { TakesBytes frame.now self.now result self.now [] }
     {
         self.are_one();
-        Touched::Nothing
+        DueWork::Nothing
     }
 
     // Takes another replica's message, which arrived in this frame.
@@ -113,12 +113,12 @@ impl Joined {
         message: Message,
         frame: &[u8],
         outputs: &mut Outputs,
-    ) -> Result<Touched, Stop>
+    ) -> Result<DueWork, Stop>
         requires first { outputs.old.items ≡ [] }
-        requires heard { heard self.old.desk.membership self.old.desk.me frame.now
+        requires authentic { authentic self.old.desk.membership self.old.desk.me frame.now
             ≡ Some (record { sender = sender.0; message = message_data message }) }
-        ensures ok { IfOk result (λ touched. TakesBytes frame.now self.old
-            touched self.new outputs.new.items) }
+        ensures ok { IfOk result (λ due_work. TakesBytes frame.now self.old
+            due_work self.new outputs.new.items) }
         ensures party { IsOneParty self.old self.new }
     {
         self.are_one();
@@ -136,7 +136,7 @@ impl Joined {
             Message::NewView(message) => self.on_new_view(alloc, sender, message, outputs),
             _ => {
                 note_replica(sender);
-                Ok(Touched::Nothing)
+                Ok(DueWork::Nothing)
             }
         }
     }
@@ -146,40 +146,40 @@ impl Joined {
         alloc: Global,
         sender: ReplicaId,
         message: PrePrepare,
-    ) -> Result<Touched, Stop>
+    ) -> Result<DueWork, Stop>
         requires batch { IsBatch 1 message.batch.text.items }
-        ensures ok { IfOk result (λ touched. TakesMessage sender
+        ensures ok { IfOk result (λ due_work. TakesMessage sender
             (pre_prepare message.view.0 message.number.0 message.batch.text.items)
-            self.old touched self.new []) }
+            self.old due_work self.new []) }
         ensures party { IsOneParty self.old self.new }
     {
         let number = message.number;
         if !self.orderer.take_batch(alloc, sender, message)? {
-            return Ok(Touched::Nothing);
+            return Ok(DueWork::Nothing);
         }
-        Ok(Touched::Row(number))
+        Ok(DueWork::Row(number))
     }
 
-    fn on_prepare(&mut self, sender: ReplicaId, message: &Prepare) -> Touched
+    fn on_prepare(&mut self, sender: ReplicaId, message: &Prepare) -> DueWork
         ensures ok { TakesMessage sender (prepare message.now.view.0 message.now.number.0 message.now.digest)
             self.old result self.new [] }
         ensures party { IsOneParty self.old self.new }
     {
         if !self.orderer.take_prepare(sender, message) {
-            return Touched::Nothing;
+            return DueWork::Nothing;
         }
-        Touched::Row(message.number)
+        DueWork::Row(message.number)
     }
 
-    fn on_commit(&mut self, sender: ReplicaId, message: &Commit) -> Touched
+    fn on_commit(&mut self, sender: ReplicaId, message: &Commit) -> DueWork
         ensures ok { TakesMessage sender (commit message.now.view.0 message.now.number.0 message.now.digest)
             self.old result self.new [] }
         ensures party { IsOneParty self.old self.new }
     {
         if !self.orderer.take_commit(sender, message) {
-            return Touched::Nothing;
+            return DueWork::Nothing;
         }
-        Touched::Row(message.number)
+        DueWork::Row(message.number)
     }
 }
 

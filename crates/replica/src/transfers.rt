@@ -5,24 +5,28 @@ ghost use Rattle.wire_format.specs.Messages.{fetch, meta, page};
 ghost use Rattle.wire_format.specs.Spelling.{last_index};
 ghost use Rattle.replica.specs.Going.{IsOneParty};
 ghost use Rattle.replica.specs.Entering.{TakesMessage};
-ghost use Rattle.replica.specs.Fetching.{FetchesNextPart, InstallsFetchedState, SaysFetch};
-ghost use Rattle.desk.specs.Transferring.{MayBeSaid};
+ghost use Rattle.replica.specs.Fetching.{FetchesNextPart, InstallsFetchedState, MulticastsFetch};
+ghost use Rattle.desk.specs.Transferring.{MayBeSent};
 
-use crate::joined::Joined;
-use crate::taking::Touched;
-use events::{Output, Outputs, Stop, give};
+use crate::both_parts::BothParts;
+use crate::taking::DueWork;
+use events::{Output, Outputs, Stop, emit};
 use std::alloc::Global;
 use terms::ReplicaId;
 use wire::{Fetch, Meta, Page};
 
-impl Joined {
+impl BothParts {
     /// Asks all other replicas for the part that the open transfer awaits.
-    pub(crate) fn say_fetch(&mut self, alloc: Global, outputs: &mut Outputs) -> Result<(), Stop>
-        ensures ok { OnOk result (SaysFetch self.old outputs.old.items outputs.new.items) }
+    pub(crate) fn multicast_fetch(
+        &mut self,
+        alloc: Global,
+        outputs: &mut Outputs,
+    ) -> Result<(), Stop>
+        ensures ok { OnOk result (MulticastsFetch self.old outputs.old.items outputs.new.items) }
         ensures same { self.new ≡ self.old }
     {
         match self.desk.asked() {
-            Some((number, place)) => self.orderer.say_fetch(alloc, number, place, outputs),
+            Some((number, place)) => self.orderer.multicast_fetch(alloc, number, place, outputs),
             None => Ok(()),
         }
     }
@@ -34,17 +38,17 @@ impl Joined {
         sender: ReplicaId,
         message: &Fetch,
         outputs: &mut Outputs,
-    ) -> Result<Touched, Stop>
+    ) -> Result<DueWork, Stop>
         requires first { outputs.old.items ≡ [] }
         requires place { message.now.index ≤ last_index message.now.level }
-        ensures ok { IfOk result (λ touched. TakesMessage sender
+        ensures ok { IfOk result (λ due_work. TakesMessage sender
             (fetch message.now.number.0 message.now.level message.now.index)
-            self.old touched self.new outputs.new.items) }
+            self.old due_work self.new outputs.new.items) }
         ensures party { IsOneParty self.old self.new }
     {
         self.are_one();
-        self.desk.give_part(alloc, sender, message, outputs)?;
-        Ok(Touched::Nothing)
+        self.desk.send_part(alloc, sender, message, outputs)?;
+        Ok(DueWork::Nothing)
     }
 
     /// Takes the digests below a place, and goes on with the parts that differ.
@@ -54,25 +58,25 @@ impl Joined {
         sender: ReplicaId,
         message: &Meta,
         outputs: &mut Outputs,
-    ) -> Result<Touched, Stop>
+    ) -> Result<DueWork, Stop>
         requires first { outputs.old.items ≡ [] }
-        requires said { MayBeSaid message.now }
-        ensures ok { IfOk result (λ touched. TakesMessage sender
+        requires said { MayBeSent message.now }
+        ensures ok { IfOk result (λ due_work. TakesMessage sender
             (meta message.now.number.0 message.now.level message.now.index message.now.digests.items)
-            self.old touched self.new outputs.new.items) }
+            self.old due_work self.new outputs.new.items) }
         ensures party { IsOneParty self.old self.new }
     {
         self.are_one();
         if !self.desk.take_digests(message) {
-            return Ok(Touched::Nothing);
+            return Ok(DueWork::Nothing);
         }
         if self.ask_next(alloc, outputs)? {
-            return Ok(Touched::Nothing);
+            return Ok(DueWork::Nothing);
         }
         if self.install(outputs)? {
-            return Ok(Touched::State);
+            return Ok(DueWork::State);
         }
-        Ok(Touched::Nothing)
+        Ok(DueWork::Nothing)
     }
 
     /// Takes the text of a page, and goes on with the parts that differ. If the pages are then complete and no state,
@@ -83,25 +87,25 @@ impl Joined {
         sender: ReplicaId,
         message: &Page,
         outputs: &mut Outputs,
-    ) -> Result<Touched, Stop>
+    ) -> Result<DueWork, Stop>
         requires first { outputs.old.items ≡ [] }
-        ensures ok { IfOk result (λ touched. TakesMessage sender
+        ensures ok { IfOk result (λ due_work. TakesMessage sender
             (page message.now.number.0 message.now.index message.now.text.items)
-            self.old touched self.new outputs.new.items) }
+            self.old due_work self.new outputs.new.items) }
         ensures party { IsOneParty self.old self.new }
     {
         self.are_one();
         let Some(taken) = self.desk.take_page(message)? else {
-            return Ok(Touched::Nothing);
+            return Ok(DueWork::Nothing);
         };
         if self.ask_next(alloc, outputs)? {
-            return Ok(Touched::Nothing);
+            return Ok(DueWork::Nothing);
         }
         if self.install(outputs)? {
-            return Ok(Touched::State);
+            return Ok(DueWork::State);
         }
-        self.desk.give_back(taken);
-        Ok(Touched::Nothing)
+        self.desk.put_back(taken);
+        Ok(DueWork::Nothing)
     }
 
     // Asks for the next part, if one is still to be fetched. Returns whether.
@@ -112,7 +116,7 @@ impl Joined {
         if !self.desk.has_next_part()? {
             return Ok(false);
         }
-        self.say_fetch(alloc, outputs)?;
+        self.multicast_fetch(alloc, outputs)?;
         Ok(true)
     }
 
@@ -125,7 +129,7 @@ impl Joined {
         let Some(entry) = self.desk.install()? else {
             return Ok(false);
         };
-        give(outputs, Output::Installed(entry.number, entry.digest))?;
+        emit(outputs, Output::Installed(entry.number, entry.digest))?;
         self.move_marks(entry.number);
         Ok(true)
     }

@@ -32,7 +32,7 @@ use Rattle.replica_histories.proofs.Taking.{takes_nothing, none_there}
 use Rattle.replica_histories.proofs.Ending.{steps_leave}
 use Rattle.replica_histories.proofs.TransfersQuorums.{no_root, own_root}
 use Rattle.replica_histories.proofs.Logging.{beside_placed}
-use Rattle.replica_histories.proofs.SaidOnce.{unsent, pays_none, pays_alone, no_reply}
+use Rattle.replica_histories.proofs.SentOnce.{unsent, pays_none, pays_alone, no_reply}
 use Rattle.replica_histories.proofs.Giving.{sent_fits, no_proposal, placed, never_rests, prepare_placed, commit_placed}
 
 leaves_now : (c : Configuration) (me : ℕ) (s : Start) (desk : Desk) (log : LogData) (due : List Message) (outputs : List Entry) (f : BothFitWithinEvent c me s desk log due outputs)

@@ -8,8 +8,8 @@ use Rattle.wire_format.specs.Messages.{BodyData as Body, MessageData as Message,
 use Rattle.wire_format.specs.Spelling.{authenticator_is_signed, is_signed}
 use Rattle.wire_format.specs.Words.{said}
 use Rattle.wire_format.proofs.Saying.{reads_frames, says_what_is_spelled}
-use Rattle.signing.specs.Heard.{heard, has_signature, signed_body}
-use Rattle.signing.proofs.Heard.{heard_was_signed, signed_is_heard}
+use Rattle.signing.specs.AuthenticBody.{authentic, has_signature, signed_body}
+use Rattle.signing.proofs.AuthenticBody.{authentic_was_signed, signed_is_authentic}
 use Rattle.ordering.specs.Log as logs
 use Rattle.protocol.specs.System.Configuration.{Configuration, replicas, primary, members}
 use Rattle.protocol.specs.System.Frames.{IsSealed}
@@ -23,7 +23,7 @@ use Rattle.protocol.proofs.Agreement.Executing.{commit_stays}
 use Rattle.protocol.proofs.Agreement.Commits.{commit_source}
 use Rattle.protocol.proofs.Agreement.Offers.{entry_batch}
 use Rattle.view_change.proofs.Opening.{spelled_tells, is_change, signed_is}
-use Rattle.replica_histories.specs.Changes.{KeepsViews, KeepsChanges, IsNoNews, CheckpointsAreNoted, IsNoBatch, IsNoChange, SentKeep, SilentKeep, GotKeep, HeardKeep, OthersBringNone, HeardAreSigned, OwnAreSigned}
+use Rattle.replica_histories.specs.Changes.{KeepsViews, KeepsChanges, IsNoNews, CheckpointsAreNoted, IsNoBatch, IsNoChange, SentKeep, SilentKeep, GotKeep, ReceivedKeep, OthersBringNone, ReceivedAreSigned, OwnAreSigned}
 use Rattle.replica_histories.proofs.Words.{given_not, marks_are}
 use Rattle.replica_histories.proofs.Certified.{active_view}
 use Rattle.replica_histories.proofs.Logging.{none_taken, proposal_quiet}
@@ -155,7 +155,7 @@ not_own : (me v i sender : ℕ) (message : Message) → sender ≢ me → commit
 not_own me v i sender (Commit w j digest) other = rw (ne_eqb sender me other) refl
 not_own me v i sender _ other = refl
 
-no_own : (c : Configuration) (me v i : ℕ) (bytes : List ℕ) (o : Option Body) → heard (members c) me bytes ≡ o → option_and_then (commit_from me v i) o ≡ None
+no_own : (c : Configuration) (me v i : ℕ) (bytes : List ℕ) (o : Option Body) → authentic (members c) me bytes ≡ o → option_and_then (commit_from me v i) o ≡ None
 no_own c me v i bytes None h = refl
 no_own c me v i bytes (Some body) h = not_own me v i body.sender body.message (heard_other c me bytes body h)
 
@@ -165,7 +165,7 @@ got_keep c me past bytes log after p same none batches changes = record {
     none = none;
     target = omega arith;
     logged = λ v i. logged_same c me v i past e (λ batch h free. fresh v i batch h free);
-    commits = λ v i. commit_quiet c me past e v i (no_own c me v i bytes (heard (members c) me bytes) refl);
+    commits = λ v i. commit_quiet c me past e v i (no_own c me v i bytes (authentic (members c) me bytes) refl);
     changes = changes;
     leaves = λ sent leaf is now. absurd now;
   };
@@ -190,8 +190,8 @@ got_keep c me past bytes log after p same none batches changes = record {
         given_not (logged c me (e ∷ past) v i) batch (logged_new c me v i batch past e free h)
         (ap (λ (w : ℕ). logged c me (e ∷ past) w i) at ∙ stays ∙ ap (λ (w : ℕ). logged c me past w i) (sym at) ∙ free)
 
-pub heard_keep : HeardKeep
-heard_keep c me past bytes none no_batch changes = record {
+pub received_keep : ReceivedKeep
+received_keep c me past bytes none no_batch changes = record {
   views = record {
     none = none;
     target = omega arith;
@@ -199,7 +199,7 @@ heard_keep c me past bytes none no_batch changes = record {
         (λ batch h free.
         let s = proposal_said c me v i batch past (Got me bytes) none h in
         subst (λ (m : Message). IsNoBatch (Some (record { sender = s.0.sender; message = m }))) s.2 (subst IsNoBatch s.1 no_batch));
-    commits = λ v i. commit_quiet c me past (Got me bytes) v i (no_own c me v i bytes (heard (members c) me bytes) refl);
+    commits = λ v i. commit_quiet c me past (Got me bytes) v i (no_own c me v i bytes (authentic (members c) me bytes) refl);
     changes = changes;
     leaves = λ sent leaf is now. absurd now;
   };
@@ -221,8 +221,8 @@ others_bring_none c me s past bytes silent other = go (signed_change c bytes) re
     none x is true e =
         let b = and_then_some change_in (signed_body (members c) bytes) x is in
         let k = change_is b.0.sender b.0.message x b.2 in
-        let hears : heard (members c) me bytes ≡ Some b.0 = signed_is_heard (members c) me bytes b.0 b.1 (λ own. other (sym (eqb-true x.0 s e) ∙ sym k.0 ∙ own)) in
-        absurd (subst (λ (m : Message). IsNoChange (Some (record { sender = b.0.sender; message = m }))) k.1 (subst IsNoChange hears silent))
+        let receives : authentic (members c) me bytes ≡ Some b.0 = signed_is_authentic (members c) me bytes b.0 b.1 (λ own. other (sym (eqb-true x.0 s e) ∙ sym k.0 ∙ own)) in
+        absurd (subst (λ (m : Message). IsNoChange (Some (record { sender = b.0.sender; message = m }))) k.1 (subst IsNoChange receives silent))
     none x is false e =
         let nothing : change_taken c (view c past) s bytes ≡ 0 = taken_is c (view c past) s bytes x is ∙ rw e refl in
         omega arith
@@ -231,11 +231,11 @@ others_bring_none c me s past bytes silent other = go (signed_change c bytes) re
     go None is = unsigned_bring_none c me s bytes past is
     go (Some x) is = none x is (x.0 == s) refl
 
-pub heard_are_signed : HeardAreSigned
-heard_are_signed c me s vc bytes h = (signed, heard_other c me bytes (record { sender = s; message = ViewChange vc }) h, (signed_is c bytes (s, vc) signed).known)
+pub received_are_signed : ReceivedAreSigned
+received_are_signed c me s vc bytes h = (signed, heard_other c me bytes (record { sender = s; message = ViewChange vc }) h, (signed_is c bytes (s, vc) signed).known)
   where
     signed : signed_change c bytes ≡ Some (s, vc)
-    signed = ap (option_and_then change_in) (heard_was_signed (members c) me bytes (record { sender = s; message = ViewChange vc }) h refl)
+    signed = ap (option_and_then change_in) (authentic_was_signed (members c) me bytes (record { sender = s; message = ViewChange vc }) h refl)
 
 -- a frame that is sealed as it has to be, and signed, has its sender's signature
 sealed_signed : (c : Configuration) (body : Body) (a : Authenticator) → authenticator_is_signed a ≡ true → IsSealed c (record { body = body; authenticator = a }) → has_signature c.seed (record { body = body; authenticator = a }) ≡ true

@@ -6,7 +6,7 @@ use Rattle.std.proofs.lemmas.Bool.{eqb-false}
 use Rattle.std.proofs.lemmas.List.{length-set}
 use Rattle.wire_format.specs.Messages.{BodyData as Body, BatchEntryData as Claim, NewViewData, view_change as ViewChange, new_view as NewView}
 use Rattle.wire_format.specs.Lists.{Each}
-use Rattle.signing.specs.Heard.{heard}
+use Rattle.signing.specs.AuthenticBody.{authentic}
 use Rattle.ordering.specs.Log as logs
 use Rattle.ordering.specs.Log.{LogData}
 use Rattle.ordering.proofs.Reading.{above_low}
@@ -38,7 +38,7 @@ use Rattle.replica_histories.proofs.ClaimsAdding.{no_batch_adds, no_commit_adds}
 use Rattle.replica_histories.proofs.Leaves.{leaves_stay, leaves_remain, leaves_sent, leaves_spent}
 use Rattle.replica_histories.proofs.Received.{put_there, put_elsewhere, received_stays, received_takes, received_own}
 use Rattle.replica_histories.proofs.ChangesPassing.{claims_are_above, claims_pass, begun_before, begun_by_stays, own_stays, own_view_stays, changes_nothing, sends_none}
-use Rattle.replica_histories.proofs.ChangesKept.{heard_are_signed}
+use Rattle.replica_histories.proofs.ChangesKept.{received_are_signed}
 
 -- ---- a view change is sent
 
@@ -84,7 +84,7 @@ changes_are_sent c me spent past log x own p known mine posted above spends f = 
 -- ---- a view change is taken
 
 pub changes_are_taken : ChangesAreTaken
-changes_are_taken c me past log x s vc bytes p hears refused f = record {
+changes_are_taken c me past log x s vc bytes p receives refused f = record {
   leaves = leaves_stay x.spent past e (λ sent leaf is now. absurd now) f.leaves;
   signed = leaves_remain x.spent past e f.signed;
   own_latest = λ own is. f.own_latest own (sym (put_elsewhere x.held s me (Some h) (λ same. signed.1 (sym same))) ∙ is);
@@ -96,7 +96,7 @@ changes_are_taken c me past log x s vc bytes p hears refused f = record {
   begun = λ new once at. f.begun new (begun_before c past e new none once) at;
   begun_by = begun_by_stays c past e log.view log.view x.begun refl f.begun_by;
   own_begins = f.own_begins;
-  latest = none_later c me past e (ap (option_and_then checkpoint_from) hears) ∙ f.latest;
+  latest = none_later c me past e (ap (option_and_then checkpoint_from) receives) ∙ f.latest;
   own_change = λ rests. own_stays c me past e x (record x { held = with_held h x.held }) refl (put_elsewhere x.held s me (Some h) (λ same. signed.1 (sym same))) (f.own_change rests);
   own_view = λ frame is. own_view_stays c me past e log.view log.view frame refl (f.own_view frame is);
 }
@@ -108,13 +108,13 @@ changes_are_taken c me past log x s vc bytes p hears refused f = record {
     h = record { sender = s; change = vc; frame = bytes }
 
     signed : (signed_change c bytes ≡ Some (s, vc)) × (s ≢ me) × (s < replicas c)
-    signed = heard_are_signed c me s vc bytes hears
+    signed = received_are_signed c me s vc bytes receives
 
     q : Still c me past e
-    q = still_brings c me past e s (ViewChange vc) tt hears
+    q = still_brings c me past e s (ViewChange vc) tt receives
 
     none : taken c past e ≡ None
-    none = none_taken c past e (ap (option_and_then (new_view_from c)) hears)
+    none = none_taken c past e (ap (option_and_then (new_view_from c)) receives)
 
     cuts : CutsClaims log.low x.claims x.claims
     cuts = claims_are_above c me log past x.claims p.fits f.claims
@@ -300,7 +300,7 @@ views_are_begun c me past e log x new frame claims s spent p t brings begins own
     own_begins (Some text) k mine = inr (text, refl)
 
 -- a received new view is of another primary
-pub not_mine : (c : Configuration) (me : ℕ) (past : List Entry) (s : ℕ) (new : NewViewData) (bytes : List ℕ) → heard (members c) me bytes ≡ Some (record { sender = s; message = NewView new }) → taken c past (Got me bytes) ≡ Some new
+pub not_mine : (c : Configuration) (me : ℕ) (past : List Entry) (s : ℕ) (new : NewViewData) (bytes : List ℕ) → authentic (members c) me bytes ≡ Some (record { sender = s; message = NewView new }) → taken c past (Got me bytes) ≡ Some new
     → primary c new.view ≢ me
 not_mine c me past s new bytes h t mine = go (s == primary c new.view) refl
   where

@@ -7,7 +7,7 @@ use Rattle.std.proofs.lemmas.Bool.{and_parts, ne_eqb}
 use Rattle.wire_format.specs.Messages.{BodyData as Body, MessageData as Message, BatchEntryData as Claim, NewViewData, CheckpointEntryData as CheckpointEntry, pre_prepare as PrePrepare, commit as Commit}
 use Rattle.wire_format.specs.Words.{said}
 use Rattle.wire.proofs.Skipping.{none_chosen}
-use Rattle.signing.specs.Heard.{signed_body}
+use Rattle.signing.specs.AuthenticBody.{signed_body}
 use Rattle.ordering.specs.Log as logs
 use Rattle.ordering.specs.Log.{LogData}
 use Rattle.ordering.proofs.Reading.{batches_are_logged}
@@ -27,7 +27,7 @@ use Rattle.view_change.specs.ReceivedData.{HeldData, held_of}
 use Rattle.protocol.proofs.Words.Reacting.{proceeds_leaves}
 use Rattle.replica_histories.specs.Desk.{point_of}
 use Rattle.replica_histories.specs.Events.{start_at}
-use Rattle.replica_histories.specs.Claims.{SaidCommit, WasLogged, FitsClaims}
+use Rattle.replica_histories.specs.Claims.{SentCommit, WasLogged, FitsClaims}
 use Rattle.replica_histories.specs.Numbers.{is_pre_prepare}
 use Rattle.replica_histories.specs.Changes.{Changes, HasOwnChange, IsOwnView, IsBegunUpTo, FitsChanges, IsSameView, KeepsViews, LogPassesEntry, CutsClaims, OutputsPass, InputsEnter, ClaimsAreAbove, ChangesBegin, ChangesStay, CommitsAreClaimed, BatchesAreClaimed}
 use Rattle.replica_histories.proofs.Words.{passed, given_not, marks_are}
@@ -88,7 +88,7 @@ claims_are_above c me log history claims f fits = record {
 
 -- claims grow at an entry
 pub claims_pass : (c : Configuration) (me : ℕ) (past : List Entry) (e : Entry) (log after : LogData) (claims new : ClaimsData) (commits batches : List Claim) → LogPassesEntry c me past e log after
-    → AddsClaims (SaidCommit c me past) (SaidCommit c me (e ∷ past)) (is_in_marks c (low c me (e ∷ past))) commits
+    → AddsClaims (SentCommit c me past) (SentCommit c me (e ∷ past)) (is_in_marks c (low c me (e ∷ past))) commits
     → AddsClaims (IsLoggedAs c me past) (IsLoggedAs c me (e ∷ past)) (is_in_marks c (low c me (e ∷ past))) batches
     → new.prepared ≡ with_all with_prepared commits (above_mark after.low claims.prepared)
     → new.logged ≡ with_all with_logged batches (above_mark after.low claims.logged)

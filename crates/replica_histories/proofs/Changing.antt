@@ -31,7 +31,7 @@ use Rattle.replica_histories.proofs.Certified.{active, prepared_there}
 use Rattle.replica_histories.proofs.Settling.{own_commit, voted_goes}
 use Rattle.replica_histories.proofs.Logging.{none_taken, view_quiet, proposal_quiet, begun_quiet}
 use Rattle.replica_histories.proofs.Giving.{no_proposal, signed_may_send, sent_goes}
-use Rattle.replica_histories.proofs.SaidOnce.{unsent, pays_none, change_is_new}
+use Rattle.replica_histories.proofs.SentOnce.{unsent, pays_none, change_is_new}
 use Rattle.replica_histories.proofs.Ending.{steps_leave}
 use Rattle.replica_histories.proofs.Transfers.{open_stays, asks_none}
 use Rattle.replica_histories.proofs.TransfersQuorums.{no_root}

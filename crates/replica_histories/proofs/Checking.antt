@@ -15,10 +15,10 @@ use Rattle.protocol.specs.System.Configuration.{Configuration, replicas, is_numb
 use Rattle.protocol.specs.System.Trace.{Entry, Once, Has}
 use Rattle.protocol.specs.System.Trace.Entry.{Invoke, Got, Executed, Installed, Sent, Accepted}
 use Rattle.protocol.specs.Replica.Selection.{is_quorum}
-use Rattle.protocol.specs.Replica.Certificates.{brought, checkpoint_from, checkpoint_in, with_checkpoint, checkpoints_of, says_checkpoint, count_checkpoints, is_stable, stable_at, low}
+use Rattle.protocol.specs.Replica.Certificates.{brought, checkpoint_from, checkpoint_in, with_checkpoint, checkpoints_of, lists_checkpoint, count_checkpoints, is_stable, stable_at, low}
 use Rattle.protocol.specs.Replica.State.{State, execute, root_of}
-use Rattle.protocol.specs.Replica.RightReplica.{Point, Executes, IsStep, HistoryReaches, May, MovesPoint, MaySay, MayCheckpoint}
-use Rattle.protocol.specs.Replica.Owed.{IsSaying}
+use Rattle.protocol.specs.Replica.RightReplica.{Point, Executes, IsStep, HistoryReaches, May, MovesPoint, MaySendMessage, MayCheckpoint}
+use Rattle.protocol.specs.Replica.Owed.{IsSending}
 use Rattle.protocol.proofs.Words.Options.{some_injective, and_then_some, then_some_gives}
 use Rattle.protocol.proofs.Words.Temporal.{once_weaker}
 use Rattle.protocol.proofs.Words.Leaving.{executed_number}
@@ -43,27 +43,27 @@ latest_of c (e ∷ past) s = behind_latest s (checkpoint_in c e) (checkpoints_of
 
 -- by the stored checkpoints of each sender
 abbrev pub is_stable_by : Configuration → ℕ → (ℕ → List CheckpointEntry) → CheckpointEntry → Bool
-is_stable_by c me held entry = is_quorum c (count_below (λ s. says_checkpoint entry (held s)) (replicas c)) && says_checkpoint entry (held me)
+is_stable_by c me held entry = is_quorum c (count_below (λ s. lists_checkpoint entry (held s)) (replicas c)) && lists_checkpoint entry (held me)
 
 -- if each sender's checkpoints say no less, it is stable too
-stable_more : (c : Configuration) (me : ℕ) (held more : ℕ → List CheckpointEntry) (m : CheckpointEntry) → ((s : ℕ) → says_checkpoint m (held s) ≡ true → says_checkpoint m (more s) ≡ true)
+stable_more : (c : Configuration) (me : ℕ) (held more : ℕ → List CheckpointEntry) (m : CheckpointEntry) → ((s : ℕ) → lists_checkpoint m (held s) ≡ true → lists_checkpoint m (more s) ≡ true)
     → is_stable_by c me held m ≡ true → is_stable_by c me more m ≡ true
 stable_more c me held more m grows h =
-    let p = and_parts (is_quorum c (count_below (λ s. says_checkpoint m (held s)) (replicas c))) (says_checkpoint m (held me)) h in
-    let enough = leb-true (2 * c.faults + 1) (count_below (λ s. says_checkpoint m (held s)) (replicas c)) p.0 in
-    let mono = count_mono (λ s. says_checkpoint m (held s)) (λ s. says_checkpoint m (more s)) (replicas c) (λ s l. grows s) in
-    and_from (is_quorum c (count_below (λ s. says_checkpoint m (more s)) (replicas c))) (says_checkpoint m (more me))
-    (le-leb (2 * c.faults + 1) (count_below (λ s. says_checkpoint m (more s)) (replicas c)) (omega arith)) (grows me p.1)
+    let p = and_parts (is_quorum c (count_below (λ s. lists_checkpoint m (held s)) (replicas c))) (lists_checkpoint m (held me)) h in
+    let enough = leb-true (2 * c.faults + 1) (count_below (λ s. lists_checkpoint m (held s)) (replicas c)) p.0 in
+    let mono = count_mono (λ s. lists_checkpoint m (held s)) (λ s. lists_checkpoint m (more s)) (replicas c) (λ s l. grows s) in
+    and_from (is_quorum c (count_below (λ s. lists_checkpoint m (more s)) (replicas c))) (lists_checkpoint m (more me))
+    (le-leb (2 * c.faults + 1) (count_below (λ s. lists_checkpoint m (more s)) (replicas c)) (omega arith)) (grows me p.1)
 
 -- for a number above the mark the checkpoints above the mark decide
 pub stable_above : (c : Configuration) (me low : ℕ) (held other : ℕ → List CheckpointEntry) (m : CheckpointEntry) → low < m.number → ((s : ℕ) → checkpoints_above low (held s) ≡ checkpoints_above low (other s))
     → is_stable_by c me held m ≡ is_stable_by c me other m
 stable_above c me low held other m l same =
-    ap (λ (n : ℕ). is_quorum c n && says_checkpoint m (held me)) (count_same (λ s. says_checkpoint m (held s)) (λ s. says_checkpoint m (other s)) says_same (replicas c))
-    ∙ ap (λ (b : Bool). is_quorum c (count_below (λ s. says_checkpoint m (other s)) (replicas c)) && b) (says_same me)
+    ap (λ (n : ℕ). is_quorum c n && lists_checkpoint m (held me)) (count_same (λ s. lists_checkpoint m (held s)) (λ s. lists_checkpoint m (other s)) says_same (replicas c))
+    ∙ ap (λ (b : Bool). is_quorum c (count_below (λ s. lists_checkpoint m (other s)) (replicas c)) && b) (says_same me)
   where
-    says_same : (s : ℕ) → says_checkpoint m (held s) ≡ says_checkpoint m (other s)
-    says_same s = sym (says_above low m (held s) l) ∙ ap (says_checkpoint m) (same s) ∙ says_above low m (other s) l
+    says_same : (s : ℕ) → lists_checkpoint m (held s) ≡ lists_checkpoint m (other s)
+    says_same s = sym (says_above low m (held s) l) ∙ ap (lists_checkpoint m) (same s) ∙ says_above low m (other s) l
 
 -- an entry that makes a checkpoint stable brings it
 abbrev is_this : CheckpointEntry → Option (ℕ × CheckpointEntry) → Bool
@@ -81,7 +81,7 @@ stable_before : (c : Configuration) (me : ℕ) (m : CheckpointEntry) (e : Entry)
 unfolding checkpoints_of
 stable_before c me m e past h = go (is_this m (checkpoint_in c e)) refl
   where
-    was : is_this m (checkpoint_in c e) ≡ false → (s : ℕ) → (says_checkpoint m (checkpoints_of c past s) ≡ true) ⊎ (checkpoint_in c e ≡ Some (s, m)) → says_checkpoint m (checkpoints_of c past s) ≡ true
+    was : is_this m (checkpoint_in c e) ≡ false → (s : ℕ) → (lists_checkpoint m (checkpoints_of c past s) ≡ true) ⊎ (checkpoint_in c e ≡ Some (s, m)) → lists_checkpoint m (checkpoints_of c past s) ≡ true
     was other s (inl k) = k
     was other s (inr k) = absurd (apart (is_this m (checkpoint_in c e)) (ap (is_this m) k ∙ itself m) other)
 
@@ -96,7 +96,7 @@ stable_at_most c me e past = omega arith
 
 pub stable_are_low : StableAreLow
 unfolding checkpoints_of
-stable_are_low c me [] m h = absurd (apart _ (and_parts (is_quorum c (count_checkpoints c [] m)) (says_checkpoint m (checkpoints_of c [] me)) h).1 refl)
+stable_are_low c me [] m h = absurd (apart _ (and_parts (is_quorum c (count_checkpoints c [] m)) (lists_checkpoint m (checkpoints_of c [] me)) h).1 refl)
 stable_are_low c me (e ∷ past) m h = go (stable_before c me m e past h) (stable_are_low c me past m)
   where
     go : (is_stable c me past m ≡ true) ⊎ ((s : ℕ) × (checkpoint_in c e ≡ Some (s, m))) → (is_stable c me past m ≡ true → m.number ≤ low c me past) → m.number ≤ low c me (e ∷ past)
@@ -115,17 +115,17 @@ pub log_stable : (c : Configuration) (me : ℕ) (log : LogData) (history : List 
 log_stable c me log history m faults own l same =
     stable_above c me log.low (checkpoints_of c history) (logs.checkpoints_of log) m l same
     ∙ ap (λ (x : ℕ). is_stable_by c x (logs.checkpoints_of log) m) (sym own)
-    ∙ ap (λ (f : ℕ). nat_le (2 * f + 1) (count_below (λ s. says_checkpoint m (logs.checkpoints_of log s)) (3 * f + 1)) && says_checkpoint m (logs.checkpoints_of log log.me)) (sym faults)
+    ∙ ap (λ (f : ℕ). nat_le (2 * f + 1) (count_below (λ s. lists_checkpoint m (logs.checkpoints_of log s)) (3 * f + 1)) && lists_checkpoint m (logs.checkpoints_of log log.me)) (sym faults)
 
 -- the log counts as the history does above the mark
 pub quorum_counted : (c : Configuration) (log : LogData) (history : List Entry) (m : CheckpointEntry) → log.faults ≡ c.faults → log.low < m.number
     → ((s : ℕ) → checkpoints_above log.low (checkpoints_of c history s) ≡ checkpoints_above log.low (logs.checkpoints_of log s)) → is_quorum c (count_checkpoints c history m) ≡ nat_le (2 * log.faults + 1) (logs.count_checkpoints log m)
 quorum_counted c log history m faults l same =
-    ap (is_quorum c) (count_same (λ s. says_checkpoint m (checkpoints_of c history s)) (λ s. says_checkpoint m (logs.checkpoints_of log s)) says_same (replicas c))
-    ∙ ap (λ (f : ℕ). nat_le (2 * f + 1) (count_below (λ s. says_checkpoint m (logs.checkpoints_of log s)) (3 * f + 1))) (sym faults)
+    ap (is_quorum c) (count_same (λ s. lists_checkpoint m (checkpoints_of c history s)) (λ s. lists_checkpoint m (logs.checkpoints_of log s)) says_same (replicas c))
+    ∙ ap (λ (f : ℕ). nat_le (2 * f + 1) (count_below (λ s. lists_checkpoint m (logs.checkpoints_of log s)) (3 * f + 1))) (sym faults)
   where
-    says_same : (s : ℕ) → says_checkpoint m (checkpoints_of c history s) ≡ says_checkpoint m (logs.checkpoints_of log s)
-    says_same s = sym (says_above log.low m (checkpoints_of c history s) l) ∙ ap (says_checkpoint m) (same s) ∙ says_above log.low m (logs.checkpoints_of log s) l
+    says_same : (s : ℕ) → lists_checkpoint m (checkpoints_of c history s) ≡ lists_checkpoint m (logs.checkpoints_of log s)
+    says_same s = sym (says_above log.low m (checkpoints_of c history s) l) ∙ ap (lists_checkpoint m) (same s) ∙ says_above log.low m (logs.checkpoints_of log s) l
 
 pub stable_are_cut : StableAreCut
 stable_are_cut c me log history m f h = go (nat_lt log.low m.number) refl
@@ -154,20 +154,20 @@ checkpoint_source c s m past e h =
     let r = and_then_some {B = ℕ × CheckpointEntry} checkpoint_from (brought c e) (s, m) h in
     r.1 ∙ ap Some (checkpoint_is s m r.0.sender r.0.message r.2)
 
-listed_brought : (c : Configuration) (s : ℕ) (m : CheckpointEntry) (history : List Entry) → says_checkpoint m (checkpoints_of c history s) ≡ true → Once (Brings c (checking s m.number m.digest)) history
+listed_brought : (c : Configuration) (s : ℕ) (m : CheckpointEntry) (history : List Entry) → lists_checkpoint m (checkpoints_of c history s) ≡ true → Once (Brings c (checking s m.number m.digest)) history
 unfolding checkpoints_of
 listed_brought c s m [] h = absurd cc
 listed_brought c s m (e ∷ past) h = go (behind_says m s (checkpoint_in c e) (checkpoints_of c past s) h) (listed_brought c s m past)
   where
-    go : (says_checkpoint m (checkpoints_of c past s) ≡ true) ⊎ (checkpoint_in c e ≡ Some (s, m)) → (says_checkpoint m (checkpoints_of c past s) ≡ true → Once (Brings c (checking s m.number m.digest)) past)
+    go : (lists_checkpoint m (checkpoints_of c past s) ≡ true) ⊎ (checkpoint_in c e ≡ Some (s, m)) → (lists_checkpoint m (checkpoints_of c past s) ≡ true → Once (Brings c (checking s m.number m.digest)) past)
         → Once (Brings c (checking s m.number m.digest)) (e ∷ past)
     go (inl k) below = inr (below k)
     go (inr k) below = inl (checkpoint_source c s m past e k)
 
-pub own_said : (c : Configuration) (me : ℕ) (m : CheckpointEntry) (history : List Entry) (point : Point) → HistoryReaches c me history point → says_checkpoint m (checkpoints_of c history me) ≡ true
-    → Once (λ earlier e. IsSaying me (Checkpoint m.number m.digest) e) history
+pub own_said : (c : Configuration) (me : ℕ) (m : CheckpointEntry) (history : List Entry) (point : Point) → HistoryReaches c me history point → lists_checkpoint m (checkpoints_of c history me) ≡ true
+    → Once (λ earlier e. IsSending me (Checkpoint m.number m.digest) e) history
 own_said c me m history point leaves h =
-    once_weaker (Speaks (checking me m.number m.digest)) (λ earlier e. IsSaying me (Checkpoint m.number m.digest) e) (λ earlier e k. says me (Checkpoint m.number m.digest) earlier e k) history
+    once_weaker (Speaks (checking me m.number m.digest)) (λ earlier e. IsSending me (Checkpoint m.number m.digest) e) (λ earlier e k. says me (Checkpoint m.number m.digest) earlier e k) history
     (own_spoken c me (checking me m.number m.digest) history point leaves refl (listed_brought c me m history h))
 
 -- ---- of executed states
@@ -189,14 +189,14 @@ pub checkpoint_stays : (c : Configuration) (me k : ℕ) (root : List ℕ) (past 
 checkpoint_stays c me k root past e old new step h =
     record { multiple = h.multiple; executed = inr h.executed; state = snapshots_stay c me (λ st. (st.number ≡ k) × (root_of st ≡ root)) past e old new step.may step.moves h.state }
 
-saying_may : (c : Configuration) (me k : ℕ) (root : List ℕ) (past : List Entry) (e : Entry) (old : Point) → May c me past old e → IsSaying me (Checkpoint k root) e → MayCheckpoint c past old k root
+saying_may : (c : Configuration) (me k : ℕ) (root : List ℕ) (past : List Entry) (e : Entry) (old : Point) → May c me past old e → IsSending me (Checkpoint k root) e → MayCheckpoint c past old k root
 saying_may c me k root past (Sent p bytes) old may h =
     let is : may.body ≡ checking me k root = some_injective may.body (checking me k root) (sym may.says ∙ h) in
-    subst (λ (b : Body). MaySay c me past old (Sent p bytes) bytes b.message) is may.say
+    subst (λ (b : Body). MaySendMessage c me past old (Sent p bytes) bytes b.message) is may.allowed
 saying_may c me k root past (Got p bytes) old may h = absurd h
 saying_may c me k root past _ old may h = absurd h
 
-pub said_may : (c : Configuration) (me k : ℕ) (root : List ℕ) (history : List Entry) (point : Point) → HistoryReaches c me history point → Once (λ earlier e. IsSaying me (Checkpoint k root) e) history
+pub said_may : (c : Configuration) (me k : ℕ) (root : List ℕ) (history : List Entry) (point : Point) → HistoryReaches c me history point → Once (λ earlier e. IsSending me (Checkpoint k root) e) history
     → MayCheckpoint c history point k root
 said_may c me k root [] point leaves h = absurd h
 said_may c me k root (e ∷ past) point leaves (inl h) = checkpoint_stays c me k root past e leaves.0 point leaves.2 (saying_may c me k root past e leaves.0 leaves.2.may h)
@@ -224,17 +224,17 @@ executed_at_most c me k (e ∷ past) point leaves (inr h) =
     omega arith
 
 -- the replica's own checkpoint is at most the state's number
-pub own_at_most : (c : Configuration) (me : ℕ) (m : CheckpointEntry) (history : List Entry) (point : Point) → HistoryReaches c me history point → says_checkpoint m (checkpoints_of c history me) ≡ true → m.number ≤ point.state.number
+pub own_at_most : (c : Configuration) (me : ℕ) (m : CheckpointEntry) (history : List Entry) (point : Point) → HistoryReaches c me history point → lists_checkpoint m (checkpoints_of c history me) ≡ true → m.number ≤ point.state.number
 own_at_most c me m history point leaves h =
     executed_at_most c me m.number history point leaves (said_may c me m.number m.digest history point leaves (own_said c me m history point leaves h)).executed
 
 -- ---- a checkpoint that was sent adds nothing
 
-pub said_listed : (c : Configuration) (me k : ℕ) (root : List ℕ) (e : Entry) → is_number k ≡ true → IsSaying me (Checkpoint k root) e → checkpoint_in c e ≡ Some (me, record { number = k; digest = root })
+pub said_listed : (c : Configuration) (me k : ℕ) (root : List ℕ) (e : Entry) → is_number k ≡ true → IsSending me (Checkpoint k root) e → checkpoint_in c e ≡ Some (me, record { number = k; digest = root })
 said_listed c me k root (Sent p bytes) n h = ap (option_and_then checkpoint_from) h ∙ ap (λ (b : Bool). then_some b (let y : ℕ × CheckpointEntry = (me, record { number = k; digest = root }) in y)) n
 said_listed c me k root _ n h = absurd h
 
-pub said_passed : (c : Configuration) (me k : ℕ) (root : List ℕ) (history : List Entry) → is_number k ≡ true → Once (λ earlier e. IsSaying me (Checkpoint k root) e) history → IsPassed 3 k (checkpoints_of c history me)
+pub said_passed : (c : Configuration) (me k : ℕ) (root : List ℕ) (history : List Entry) → is_number k ≡ true → Once (λ earlier e. IsSending me (Checkpoint k root) e) history → IsPassed 3 k (checkpoints_of c history me)
 unfolding checkpoints_of
 said_passed c me k root [] n h = absurd h
 said_passed c me k root (e ∷ past) n (inl h) =

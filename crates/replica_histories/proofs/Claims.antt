@@ -16,7 +16,7 @@ use Rattle.protocol.proofs.Agreement.Voting.{logged_stays}
 use Rattle.claims.specs.Recording.{IsPreparedAs, IsLoggedAs, AreDigests, MovesUp, IsLatest, IsEach, RecordsPrepared}
 use Rattle.claims.proofs.Keeping.{latest_is_recorded, each_is_recorded, records_are_lists, logged_digests}
 use Rattle.replica_histories.specs.Logs.{FitsLog}
-use Rattle.replica_histories.specs.Claims.{SaidCommit, WasLogged, ClaimsBegin, ClaimsGrow, ClaimsAreLists}
+use Rattle.replica_histories.specs.Claims.{SentCommit, WasLogged, ClaimsBegin, ClaimsGrow, ClaimsAreLists}
 use Rattle.replica_histories.proofs.Words.{marks_are}
 use Rattle.replica_histories.proofs.Certified.{prepared_there}
 use Rattle.replica_histories.proofs.Settling.{own_commit}
@@ -34,10 +34,10 @@ claims_begin c me = record {
 
 -- ---- a replica's commit was of a prepared batch
 
-certified : (c : Configuration) (me v i : ℕ) (digest : List ℕ) (history : List Entry) (point : Point) → HistoryReaches c me history point → SaidCommit c me history v i digest → Certified c me v i digest history
+certified : (c : Configuration) (me v i : ℕ) (digest : List ℕ) (history : List Entry) (point : Point) → HistoryReaches c me history point → SentCommit c me history v i digest → Certified c me v i digest history
 certified c me v i digest history point leaves said = spoken_certified c me v i digest history point leaves (commit_spoken c me v i digest history point leaves said)
 
-commit_digests : (c : Configuration) (me : ℕ) (history : List Entry) (point : Point) → HistoryReaches c me history point → AreDigests (SaidCommit c me history)
+commit_digests : (c : Configuration) (me : ℕ) (history : List Entry) (point : Point) → HistoryReaches c me history point → AreDigests (SentCommit c me history)
 commit_digests c me history point leaves v i digest said = let k = certified c me v i digest history point leaves said in ap length (sym k.digest_is) ∙ length-sha256 k.batch
 
 -- ---- the marks move up
@@ -67,10 +67,10 @@ module _ (c : Configuration) (me : ℕ) (log : LogData) (past : List Entry) (e :
 
 pub claims_grow : ClaimsGrow
 claims_grow c me log past e old new claims after commits batches f leaves later committed logs_it grows texts fits = record {
-  prepared = subst (IsLatest (SaidCommit c me (e ∷ past)) (is_in_marks c (low c me (e ∷ past)))) (sym grows.prepared)
-      (latest_is_recorded (SaidCommit c me past) (SaidCommit c me (e ∷ past)) (is_in_marks c (low c me past)) (is_in_marks c (low c me (e ∷ past))) (low c me (e ∷ past)) claims.prepared commits
+  prepared = subst (IsLatest (SentCommit c me (e ∷ past)) (is_in_marks c (low c me (e ∷ past)))) (sym grows.prepared)
+      (latest_is_recorded (SentCommit c me past) (SentCommit c me (e ∷ past)) (is_in_marks c (low c me past)) (is_in_marks c (low c me (e ∷ past))) (low c me (e ∷ past)) claims.prepared commits
       (commit_digests c me past old leaves) (commit_digests c me (e ∷ past) new later)
-      (moves c me log past e f (SaidCommit c me past) (λ v i digest h. let k = certified c me v i digest past old leaves h in (k.batch, k.prepared.logged))) fits.prepared committed);
+      (moves c me log past e f (SentCommit c me past) (λ v i digest h. let k = certified c me v i digest past old leaves h in (k.batch, k.prepared.logged))) fits.prepared committed);
   logged = subst (IsEach (IsLoggedAs c me (e ∷ past)) (is_in_marks c (low c me (e ∷ past)))) (sym grows.logged)
       (each_is_recorded (IsLoggedAs c me past) (IsLoggedAs c me (e ∷ past)) (is_in_marks c (low c me past)) (is_in_marks c (low c me (e ∷ past))) (low c me (e ∷ past)) claims.logged batches
       (logged_digests c me past) (logged_digests c me (e ∷ past)) (moves c me log past e f (IsLoggedAs c me past) (λ v i digest h. (h.0, h.1))) fits.logged logs_it);
@@ -84,26 +84,26 @@ claims_grow c me log past e old new claims after commits batches f leaves later 
 -- ---- a prepared batch has the replica's own commit, if the log asks for none
 
 pub prepared_said : (c : Configuration) (me : ℕ) (log : LogData) (history : List Entry) (v i : ℕ) (batch : List ℕ) → FitsLog c me log history → ((j : ℕ) → logs.due_commit log j ≡ None) → logs.is_in_marks log i ≡ true
-    → Prepared c me history v i batch → (digest : List ℕ) × SaidCommit c me history v i digest
+    → Prepared c me history v i batch → (digest : List ℕ) × SentCommit c me history v i digest
 prepared_said c me log history v i batch f none w p = go (nat_lt v log.view) refl
   where
-    own : v ≡ log.view → (b : Bool) → log.active ≡ b → (digest : List ℕ) × SaidCommit c me history v i digest
+    own : v ≡ log.view → (b : Bool) → log.active ≡ b → (digest : List ℕ) × SentCommit c me history v i digest
     own same true a =
-        subst (λ (x : ℕ). (digest : List ℕ) × SaidCommit c me history x i digest) (sym same)
+        subst (λ (x : ℕ). (digest : List ℕ) × SentCommit c me history x i digest) (sym same)
         (own_commit c me log history f i batch a (none i) (prepared_there c me log history i batch f (above_low log i w) (subst (λ (x : ℕ). Prepared c me history x i batch) same p)))
     own same false a = f.views.voted v i batch w (inr a) p
 
-    go : (b : Bool) → nat_lt v log.view ≡ b → (digest : List ℕ) × SaidCommit c me history v i digest
+    go : (b : Bool) → nat_lt v log.view ≡ b → (digest : List ℕ) × SentCommit c me history v i digest
     go true h = f.views.voted v i batch w (inl (ltb-true v log.view h)) p
     go false h = let most = (f.within v i batch p.logged).view in let least = ltb-false v log.view h in own (omega arith) log.active refl
 
 pub claims_are_lists : ClaimsAreLists
 claims_are_lists c me log history point claims f leaves none fits = records_are_lists c me history claims.prepared claims.logged prepared fits.logged
   where
-    said : (v i : ℕ) (digest : List ℕ) → is_in_marks c (low c me history) i ≡ true → IsPreparedAs c me history v i digest → (d : List ℕ) × SaidCommit c me history v i d
+    said : (v i : ℕ) (digest : List ℕ) → is_in_marks c (low c me history) i ≡ true → IsPreparedAs c me history v i digest → (d : List ℕ) × SentCommit c me history v i d
     said v i digest w h = prepared_said c me log history v i h.0 f none (sym (marks_are c me log history i f) ∙ w) h.1
 
-    as_prepared : (v i : ℕ) (digest : List ℕ) → SaidCommit c me history v i digest → IsPreparedAs c me history v i digest
+    as_prepared : (v i : ℕ) (digest : List ℕ) → SentCommit c me history v i digest → IsPreparedAs c me history v i digest
     as_prepared v i digest h = let k = certified c me v i digest history point leaves h in (k.batch, k.prepared, k.digest_is)
 
     prepared : RecordsPrepared c me history claims.prepared

@@ -12,7 +12,7 @@ use Rattle.protocol.proofs.Agreement.Executing.{commit_stays}
 use Rattle.wire_format.specs.Messages.{BatchEntryData as Claim}
 use Rattle.claims.specs.ClaimsView.{claim_of}
 use Rattle.claims.specs.Recording.{IsLoggedAs}
-use Rattle.replica_histories.specs.Claims.{SaidCommit, NoBatchAdds, NoCommitAdds, BatchAdds, CommitAdds}
+use Rattle.replica_histories.specs.Claims.{SentCommit, NoBatchAdds, NoCommitAdds, BatchAdds, CommitAdds}
 
 logged_on : (c : Configuration) (me : ℕ) (past : List Entry) (e : Entry) (v i : ℕ) (digest : List ℕ) → IsLoggedAs c me past v i digest → IsLoggedAs c me (e ∷ past) v i digest
 logged_on c me past e v i digest h = (h.0, logged_stays c me v i h.0 e past h.1, h.2)
@@ -61,8 +61,8 @@ commit_adds c me past e v i digest w is elsewhere = record {
   only = λ x j d k h. only x j d h (placed x v j i);
 }
   where
-    only : (x j : ℕ) (d : List ℕ) → SaidCommit c me (e ∷ past) x j d → ((x ≡ v) × (j ≡ i)) ⊎ ((x ≢ v) ⊎ (j ≢ i))
-        → SaidCommit c me past x j d ⊎ Has (λ claim. (claim.view ≡ x) × (claim.number ≡ j) × (claim.digest ≡ d)) ((let one : Claim = record { number = i; digest = digest; view = v } in one) ∷ [])
+    only : (x j : ℕ) (d : List ℕ) → SentCommit c me (e ∷ past) x j d → ((x ≡ v) × (j ≡ i)) ⊎ ((x ≢ v) ⊎ (j ≢ i))
+        → SentCommit c me past x j d ⊎ Has (λ claim. (claim.view ≡ x) × (claim.number ≡ j) × (claim.digest ≡ d)) ((let one : Claim = record { number = i; digest = digest; view = v } in one) ∷ [])
     only x j d h (inl same) =
         let here : commit_of c me (e ∷ past) v i me ≡ Some d = subst (λ (y : ℕ). commit_of c me (e ∷ past) v y me ≡ Some d) same.1 (subst (λ (y : ℕ). commit_of c me (e ∷ past) y j me ≡ Some d) same.0 h) in
         inr (inl (sym same.0, sym same.1, some_injective digest d (sym is ∙ here)))

@@ -9,8 +9,8 @@ use Rattle.sha2.specs.Sha256.{sha256}
 use Rattle.quorum.specs.Votes.{or_else}
 use Rattle.wire_format.specs.Messages.{BodyData as Body, MessageData as Message, CheckpointEntryData as CheckpointEntry, pre_prepare as PrePrepare, prepare as Prepare, commit as Commit, checkpoint as Checkpoint}
 use Rattle.authenticator.specs.Membership.{has_sender}
-use Rattle.signing.specs.Heard.{heard}
-use Rattle.signing.proofs.Heard.{heard_was_opened}
+use Rattle.signing.specs.AuthenticBody.{authentic}
+use Rattle.signing.proofs.AuthenticBody.{authentic_was_opened}
 use Rattle.reply_cache.specs.Replies.{Kept}
 use Rattle.ordering.specs.declared.dropped.Dropped.{Dropped}
 use Rattle.ordering.specs.declared.dropped.Dropped.TheVariants.{WrongView, OutOfMarks, UnknownSender}
@@ -22,7 +22,7 @@ use Rattle.ordering.specs.Taking.{fault_beside, ordering_fault, preprepare_fault
 use Rattle.protocol.specs.System.Configuration.{Configuration, primary, is_number, members}
 use Rattle.protocol.specs.System.Trace.{Entry}
 use Rattle.protocol.specs.System.Trace.Entry.{Got}
-use Rattle.protocol.specs.Replica.Certificates.{are_genuine, checkpoint_from, checkpoint_in, insert_checkpoint, with_checkpoint, checkpoints_of, says_checkpoint, batch_from, prepare_from, commit_from, entry_proposal, vote_in, logged, prepare_of, commit_of}
+use Rattle.protocol.specs.Replica.Certificates.{are_genuine, checkpoint_from, checkpoint_in, insert_checkpoint, with_checkpoint, checkpoints_of, lists_checkpoint, batch_from, prepare_from, commit_from, entry_proposal, vote_in, logged, prepare_of, commit_of}
 use Rattle.protocol.specs.Replica.State.{State, Call, kept_of, last_time}
 use Rattle.protocol.specs.Replica.RightReplica.{Point}
 use Rattle.protocol.specs.Replica.Owed.{IsNoOlder, has_number}
@@ -83,20 +83,20 @@ no_digest log i k h = let row : (logs.row_of log i).batch ≡ None = sym (batch_
 
 -- ---- the log's answers after a received message
 
-reads_it : (c : Configuration) (me : ℕ) (log : LogData) (past : List Entry) (bytes : List ℕ) (body : Body) (i : ℕ) (vote : Body → Option (List ℕ)) → FitsLog c me log past → heard (members c) me bytes ≡ Some body
+reads_it : (c : Configuration) (me : ℕ) (log : LogData) (past : List Entry) (bytes : List ℕ) (body : Body) (i : ℕ) (vote : Body → Option (List ℕ)) → FitsLog c me log past → authentic (members c) me bytes ≡ Some body
     → log.active ≡ true → logs.is_in_marks log i ≡ true → vote_in c me past (Got me bytes) vote log.view i ≡ vote body
 reads_it c me log past bytes body i vote f h active k =
-    got_reads c me log past bytes i vote f k ∙ ap (λ (b : Bool). cond b (option_and_then vote (heard (members c) me bytes)) None) active ∙ ap (option_and_then vote) h
+    got_reads c me log past bytes i vote f k ∙ ap (λ (b : Bool). cond b (option_and_then vote (authentic (members c) me bytes)) None) active ∙ ap (option_and_then vote) h
 
 -- ---- a batch
 
 pub batches_count : BatchesCount
 batches_count c me log past point s v i batch bytes f h none genuine = (
   subst (λ (x : ℕ). (entry_proposal c me past (Got me bytes) x i ≡ Some batch) × (logged c me past x i ≡ None)) (sym p.view) (
-    reads_it c me log past bytes (record { sender = s; message = PrePrepare log.view i batch }) i (batch_from c me log.view i) f hears p.active p.within ∙ given,
+    reads_it c me log past bytes (record { sender = s; message = PrePrepare log.view i batch }) i (batch_from c me log.view i) f receives p.active p.within ∙ given,
     f.batches i p.within ∙ free,
   ),
-  subst (λ (o : Option Body). LogTakesBody c me o log (logs.with_batch log i batch)) (sym hears) (batch_taken c me s i batch log f.is_log p.active p.within primary_is genuine free),
+  subst (λ (o : Option Body). LogTakesBody c me o log (logs.with_batch log i batch)) (sym receives) (batch_taken c me s i batch log f.is_log p.active p.within primary_is genuine free),
 )
   where
     faults : (ordering_fault log (s == logs.primary log v) v i ≡ None) × (fault_beside (logs.logged_digest log i) (sha256 batch) ≡ None)
@@ -105,8 +105,8 @@ batches_count c me log past point s v i batch bytes f h none genuine = (
     p : NoFault log (s == logs.primary log v) v i
     p = no_fault log (s == logs.primary log v) v i faults.0
 
-    hears : heard (members c) me bytes ≡ Some (record { sender = s; message = PrePrepare log.view i batch })
-    hears = subst (λ (x : ℕ). heard (members c) me bytes ≡ Some (record { sender = s; message = PrePrepare x i batch })) p.view h
+    receives : authentic (members c) me bytes ≡ Some (record { sender = s; message = PrePrepare log.view i batch })
+    receives = subst (λ (x : ℕ). authentic (members c) me bytes ≡ Some (record { sender = s; message = PrePrepare x i batch })) p.view h
 
     primary_is : (s == primary c log.view) ≡ true
     primary_is = ap (λ (x : ℕ). s == x) (sym (primary_same c log log.view f.faults)) ∙ ap (λ (x : ℕ). s == logs.primary log x) (sym p.view) ∙ p.sends
@@ -141,19 +141,19 @@ batches_drop c me log past s v i batch bytes f h faulty = subst (λ (o : Option 
 -- ---- votes
 
 -- the sender of a received vote is a replica
-known : (c : Configuration) (me : ℕ) (log : LogData) (past : List Entry) (bytes : List ℕ) (body : Body) → FitsLog c me log past → heard (members c) me bytes ≡ Some body
+known : (c : Configuration) (me : ℕ) (log : LogData) (past : List Entry) (bytes : List ℕ) (body : Body) → FitsLog c me log past → authentic (members c) me bytes ≡ Some body
     → has_sender (members c) body ≡ nat_lt body.sender (3 * c.faults + 1) → nat_lt body.sender (logs.replicas log) ≡ true
 known c me log past bytes body f h is =
-    let o = heard_was_opened (members c) me bytes body h in
+    let o = authentic_was_opened (members c) me bytes body h in
     ap (λ (n : ℕ). nat_lt body.sender (3 * n + 1)) f.faults ∙ sym is ∙ subst (λ (b : Body). has_sender (members c) b ≡ true) o.body_is o.opens.sender
 
 pub prepares_count : PreparesAreCounted
 prepares_count c me log past point s v i digest bytes vote f h none sender same = (
   subst (λ (x : ℕ). (vote_in c me past (Got me bytes) (prepare_from c s x i) x i ≡ Some digest) × (prepare_of c me past x i s ≡ None)) (sym p.view) (
-    reads_it c me log past bytes (record { sender = s; message = Prepare log.view i digest }) i (prepare_from c s log.view i) f hears p.active p.within ∙ given,
+    reads_it c me log past bytes (record { sender = s; message = Prepare log.view i digest }) i (prepare_from c s log.view i) f receives p.active p.within ∙ given,
     f.prepares i s p.within ∙ beside_none (logs.prepare_of log i s) digest faults.1,
   ),
-  subst (λ (o : Option Body). LogTakesBody c me o log (logs.with_prepare log i vote)) (sym hears) (prepare_taken c me s i digest vote log f.is_log p.active p.within (ltb-true s (logs.replicas log) sends.0) backup sender same),
+  subst (λ (o : Option Body). LogTakesBody c me o log (logs.with_prepare log i vote)) (sym receives) (prepare_taken c me s i digest vote log f.is_log p.active p.within (ltb-true s (logs.replicas log) sends.0) backup sender same),
 )
   where
     faults : (ordering_fault log (nat_lt s (logs.replicas log) && not (s == logs.primary log v)) v i ≡ None) × (fault_beside (logs.prepare_of log i s) digest ≡ None)
@@ -162,8 +162,8 @@ prepares_count c me log past point s v i digest bytes vote f h none sender same 
     p : NoFault log (nat_lt s (logs.replicas log) && not (s == logs.primary log v)) v i
     p = no_fault log (nat_lt s (logs.replicas log) && not (s == logs.primary log v)) v i faults.0
 
-    hears : heard (members c) me bytes ≡ Some (record { sender = s; message = Prepare log.view i digest })
-    hears = subst (λ (x : ℕ). heard (members c) me bytes ≡ Some (record { sender = s; message = Prepare x i digest })) p.view h
+    receives : authentic (members c) me bytes ≡ Some (record { sender = s; message = Prepare log.view i digest })
+    receives = subst (λ (x : ℕ). authentic (members c) me bytes ≡ Some (record { sender = s; message = Prepare x i digest })) p.view h
 
     sends : (nat_lt s (logs.replicas log) ≡ true) × (not (s == logs.primary log v) ≡ true)
     sends = and_parts (nat_lt s (logs.replicas log)) (not (s == logs.primary log v)) p.sends
@@ -199,10 +199,10 @@ prepares_drop c me log past s v i digest bytes fault f h faulty = subst (λ (o :
 pub commits_count : CommitsAreCounted
 commits_count c me log past point s v i digest bytes vote f h none sender same = (
   subst (λ (x : ℕ). (vote_in c me past (Got me bytes) (commit_from s x i) x i ≡ Some digest) × (commit_of c me past x i s ≡ None)) (sym p.view) (
-    reads_it c me log past bytes (record { sender = s; message = Commit log.view i digest }) i (commit_from s log.view i) f hears p.active p.within ∙ given,
+    reads_it c me log past bytes (record { sender = s; message = Commit log.view i digest }) i (commit_from s log.view i) f receives p.active p.within ∙ given,
     f.commits i s p.within ∙ beside_none (logs.commit_of log i s) digest faults.1,
   ),
-  subst (λ (o : Option Body). LogTakesBody c me o log (logs.with_commit log i vote)) (sym hears) (commit_taken c me s i digest vote log f.is_log p.active p.within (ltb-true s (logs.replicas log) p.sends) sender same),
+  subst (λ (o : Option Body). LogTakesBody c me o log (logs.with_commit log i vote)) (sym receives) (commit_taken c me s i digest vote log f.is_log p.active p.within (ltb-true s (logs.replicas log) p.sends) sender same),
 )
   where
     faults : (ordering_fault log (nat_lt s (logs.replicas log)) v i ≡ None) × (fault_beside (logs.commit_of log i s) digest ≡ None)
@@ -211,8 +211,8 @@ commits_count c me log past point s v i digest bytes vote f h none sender same =
     p : NoFault log (nat_lt s (logs.replicas log)) v i
     p = no_fault log (nat_lt s (logs.replicas log)) v i faults.0
 
-    hears : heard (members c) me bytes ≡ Some (record { sender = s; message = Commit log.view i digest })
-    hears = subst (λ (x : ℕ). heard (members c) me bytes ≡ Some (record { sender = s; message = Commit x i digest })) p.view h
+    receives : authentic (members c) me bytes ≡ Some (record { sender = s; message = Commit log.view i digest })
+    receives = subst (λ (x : ℕ). authentic (members c) me bytes ≡ Some (record { sender = s; message = Commit x i digest })) p.view h
 
     given : commit_from s log.view i (record { sender = s; message = Commit log.view i digest }) ≡ Some digest
     given = rw (eq-eqb s s refl, eq-eqb log.view log.view refl, eq-eqb i i refl) refl
@@ -240,7 +240,7 @@ commits_drop c me log past s v i digest bytes fault f h faulty = subst (λ (o : 
 -- ---- others
 
 pub others_drop : OthersDrop
-others_drop c me log past bytes f beside = go (heard (members c) me bytes) beside
+others_drop c me log past bytes f beside = go (authentic (members c) me bytes) beside
   where
     no_proposal : (v j sender : ℕ) (message : Message) → IsBesideLog (Some (record { sender = sender; message = message })) → batch_from c me v j (record { sender = sender; message = message }) ≡ None
     no_proposal v j sender (PrePrepare w k batch) b = absurd b
@@ -315,10 +315,10 @@ checkpoints_count c me log past point s entry bytes f h none says = (
     marked : checkpoint_in c (Got me bytes) ≡ Some (s, entry)
     marked = ap (option_and_then checkpoint_from) h ∙ ap (λ (t : Bool). then_some t (let x : ℕ × CheckpointEntry = (s, entry) in x)) p.number
 
-    now : says_checkpoint entry (checkpoints_of c (Got me bytes ∷ past) s) ≡ true
+    now : lists_checkpoint entry (checkpoints_of c (Got me bytes ∷ past) s) ≡ true
     now =
         sym (says_above log.low entry (checkpoints_of c (Got me bytes ∷ past) s) p.above)
-        ∙ ap (says_checkpoint entry) (counts_alike c log past (Got me bytes) s s entry f.is_log p.known marked (f.checkpoints s) (f.latest s))
+        ∙ ap (lists_checkpoint entry) (counts_alike c log past (Got me bytes) s s entry f.is_log p.known marked (f.checkpoints s) (f.latest s))
         ∙ says_above log.low entry (logs.checkpoints_of (logs.with_checkpoint_of log s entry) s) p.above ∙ says
 
 -- a checkpoint that adds nothing above the mark
@@ -374,9 +374,9 @@ early_checkpoints_drop c me log past s entry bytes f h says = (
     same : take 3 (insert_checkpoint entry (logs.checkpoints_of log s)) ≡ logs.checkpoints_of log s
     same = go (put_or_passed 3 entry (logs.checkpoints_of log s) (f.latest s).few)
       where
-        go : (says_checkpoint entry (take 3 (insert_checkpoint entry (logs.checkpoints_of log s))) ≡ true) ⊎ (take 3 (insert_checkpoint entry (logs.checkpoints_of log s)) ≡ logs.checkpoints_of log s)
+        go : (lists_checkpoint entry (take 3 (insert_checkpoint entry (logs.checkpoints_of log s))) ≡ true) ⊎ (take 3 (insert_checkpoint entry (logs.checkpoints_of log s)) ≡ logs.checkpoints_of log s)
             → take 3 (insert_checkpoint entry (logs.checkpoints_of log s)) ≡ logs.checkpoints_of log s
-        go (inl k) = absurd (apart (says_checkpoint entry (logs.checkpoints_of (logs.with_checkpoint_of log s entry) s)) (ap (says_checkpoint entry) now ∙ k) says)
+        go (inl k) = absurd (apart (lists_checkpoint entry (logs.checkpoints_of (logs.with_checkpoint_of log s entry) s)) (ap (lists_checkpoint entry) now ∙ k) says)
         go (inr k) = k
 
 -- ---- requests

@@ -18,7 +18,7 @@ use Rattle.protocol.specs.System.Configuration.{Configuration}
 use Rattle.protocol.specs.System.Trace.{Entry, Has}
 use Rattle.protocol.specs.System.Trace.Entry.{Installed, Sent}
 use Rattle.protocol.specs.Replica.Certificates.{brought, taken, new_view_from, change_sent, change_from, installed_at, checkpoint_in, checkpoint_from, checkpoints_of, with_checkpoint, insert_checkpoint, is_stable, stable_at, started_at, low, counts_at, batch_from, entry_proposal, proposal, logged, prepare_from, prepare_of, commit_from, commit_of, vote_in}
-use Rattle.protocol.specs.Replica.Owed.{IsSaying}
+use Rattle.protocol.specs.Replica.Owed.{IsSending}
 use Rattle.protocol.proofs.Words.Options.{or_else_alone}
 use Rattle.protocol.proofs.Agreement.States.{checking}
 use Rattle.replica_histories.specs.Logs.{checkpoints_above, AreLatest, MayBeLogged, FitsViews, FitsLog, IsVoted}
@@ -416,7 +416,7 @@ module _ (c : Configuration) (me : ℕ) (log : LogData) (past : List Entry) (e :
   checked_up = let is = checked_low in let l = up in omega arith
 
   -- the low mark stays, or is at most the stable number; so it is reached if the stable state was executed
-  pub checked_reached : (number : ℕ) (due rest : List Message) → ((x : Message) → Has (λ y. y ≡ x) due → Has (λ y. y ≡ x) rest ⊎ IsSaying me x e) → LowMarkIsReached c me log.low number due past
+  pub checked_reached : (number : ℕ) (due rest : List Message) → ((x : Message) → Has (λ y. y ≡ x) due → Has (λ y. y ≡ x) rest ⊎ IsSending me x e) → LowMarkIsReached c me log.low number due past
       → (is_stable c me (e ∷ past) entry ≡ true → entry.number ≤ number) → LowMarkIsReached c me (checked_log log s entry).low number rest (e ∷ past)
   checked_reached number due rest paid was stable = subst (λ (x : ℕ). LowMarkIsReached c me x number rest (e ∷ past)) (sym checked_low) (go (logs.is_stable more entry) refl)
     where

@@ -10,13 +10,13 @@ use Rattle.wire_format.specs.Spelling.{has_children}
 use Rattle.ordering.specs.Log as logs
 use Rattle.ordering.specs.Log.{LogData}
 use Rattle.protocol.specs.System.Configuration.{Configuration, primary}
-use Rattle.protocol.specs.System.Trace.{Entry, is_output, Once, Has, either, Hears}
+use Rattle.protocol.specs.System.Trace.{Entry, is_output, Once, Has, either, Receives}
 use Rattle.protocol.specs.System.Trace.Entry.{Got}
 use Rattle.protocol.specs.Replica.Certificates.{is_active_in, logged, prepare_of, commit_of, Prepared, Committed}
 use Rattle.protocol.specs.Replica.State.{State, Call, root_of, page_text}
 use Rattle.protocol.specs.Replica.RightReplica.{Point, HistoryReaches, Executes, reply_of, KeptState, digests_at, IsFree}
 use Rattle.protocol.specs.Replica.Transfers.{fetch_sent, fetching}
-use Rattle.protocol.specs.Replica.Owed.{IsSaying, SendsMessage, GivesTo, AtOutputs, NumbersOnce, IsNumbered, IsDropped, TransferGoesOn, Owes, HistoryIsPrompt}
+use Rattle.protocol.specs.Replica.Owed.{IsSending, SendsMessage, SendsMessageTo, AtOutputs, NumbersOnce, IsNumbered, IsDropped, TransferGoesOn, Owes, HistoryIsPrompt}
 use Rattle.protocol.proofs.Words.Options.{some_injective}
 use Rattle.protocol.proofs.Words.Elements.{has_weaker, has_reverse, has_reversed}
 use Rattle.protocol.proofs.Words.Linking.{Speaks}
@@ -59,7 +59,7 @@ module _ (c : Configuration) (me : ℕ) (s : Start) (desk : Desk) (log : LogData
   leaves_now = steps_leave c me s outputs reached f.of_desk.leaves f.of_desk.steps
 
   given : (message : Message) → SendsMessage me message outputs → SendsMessage me message (reverse outputs)
-  given message h = has_reversed (IsSaying me message) outputs h
+  given message h = has_reversed (IsSending me message) outputs h
 
   -- nothing is due any more
   gave : (message : Message) → IsOnItsWay me [] outputs message → SendsMessage me message outputs
@@ -152,25 +152,25 @@ module _ (c : Configuration) (me : ℕ) (s : Start) (desk : Desk) (log : LogData
     executes = λ v batch k. executes v batch k f.low;
     replies = λ ran h. given (reply_of ran.call.client ran.kept) (gave (reply_of ran.call.client ran.kept) (f.of_desk.replies ran h));
     checkpoints = checkpoints;
-    again = λ k t op kept hears is same. given (reply_of k kept) (gave (reply_of k kept) (f.of_desk.asked k kept (t, op, hears, is, same)));
+    again = λ k t op kept receives is same. given (reply_of k kept) (gave (reply_of k kept) (f.of_desk.asked k kept (t, op, receives, is, same)));
     says_again = λ waits. sends_turned c me s.before s.old.state.number outputs (answered.4 waits);
-    reads = λ client t op hears is. given (read_reply s.old.state client t op) (answered.1 client t op hears is);
+    reads = λ client t op receives is. given (read_reply s.old.state client t op) (answered.1 client t op receives is);
     fetched_digests = parts.0;
     fetched_page = parts.1;
     fetches = λ k root h above fresh. given (Fetch k levels.Root 0) (fetched.1 k root (inl h) above fresh);
     fetches_start = λ k h above fresh. given (Fetch k levels.Root 0) (fetched.1 k [] (inr h) above fresh);
     fetches_again = λ k index level tick asked above. given (Fetch k level index) (gave (Fetch k level index) (f.of_desk.fetch_again k index level (tick, asked, above)));
-    goes_on_by_digests = λ p k index level digests hears awaited. goes_on k (answered.2 p k index level digests hears awaited);
-    goes_on_by_page = λ p k index text hears awaited. goes_on k (answered.3 p k index text hears awaited);
+    goes_on_by_digests = λ p k index level digests receives awaited. goes_on k (answered.2 p k index level digests receives awaited);
+    goes_on_by_page = λ p k index text receives awaited. goes_on k (answered.3 p k index text receives awaited);
     view_changes = answered.5;
     new_views = none_left;
     dropped = λ bytes got drops. dropped taken bytes got drops;
   }
     where
-      parts : ((p k index : ℕ) (level : Level) → has_children level ≡ true → Hears c me (record { sender = p; message = Fetch k level index }) s.before s.input → (st : State) → KeptState c me s.before s.old k (λ x. x ≡ st)
-          → GivesTo me p (Meta k level index (digests_at st level index)) (reverse outputs))
-          × ((p k index : ℕ) → Hears c me (record { sender = p; message = Fetch k levels.Page index }) s.before s.input → (st : State) → KeptState c me s.before s.old k (λ x. x ≡ st)
-          → GivesTo me p (Page k index (page_text st index)) (reverse outputs))
+      parts : ((p k index : ℕ) (level : Level) → has_children level ≡ true → Receives c me (record { sender = p; message = Fetch k level index }) s.before s.input → (st : State) → KeptState c me s.before s.old k (λ x. x ≡ st)
+          → SendsMessageTo me p (Meta k level index (digests_at st level index)) (reverse outputs))
+          × ((p k index : ℕ) → Receives c me (record { sender = p; message = Fetch k levels.Page index }) s.before s.input → (st : State) → KeptState c me s.before s.old k (λ x. x ≡ st)
+          → SendsMessageTo me p (Page k index (page_text st index)) (reverse outputs))
       parts = answers_in_parts c me s.before s.input (reverse outputs) s.old (answers_turn c me s.before s.input outputs s.old answered.0)
 
       goes_on : (k : ℕ) → TransferGoesOn c me (s.input ∷ s.before) s.old outputs desk.state.number k → TransferGoesOn c me (s.input ∷ s.before) s.old (reverse outputs) desk.state.number k

@@ -10,13 +10,13 @@ use Rattle.terms.specs.declared.order.Mode.TheVariants as modes
 use Rattle.terms.specs.declared.state.Level.{Level}
 use Rattle.terms.specs.declared.state.Level.TheVariants as levels
 use Rattle.wire_format.specs.Messages.{BodyData as Body, MessageData as Message, CheckpointEntryData as CheckpointEntry, request as Request, checkpoint as Checkpoint, fetch as Fetch}
-use Rattle.signing.specs.Heard.{heard}
+use Rattle.signing.specs.AuthenticBody.{authentic}
 use Rattle.reply_cache.specs.Replies.{Kept}
 use Rattle.protocol.specs.System.Configuration.{Configuration, members}
 use Rattle.protocol.specs.System.Trace.{Entry, Once, Has}
 use Rattle.protocol.specs.System.Trace.Entry.{Got, Tick}
 use Rattle.protocol.specs.Replica.Selection.{is_quorum}
-use Rattle.protocol.specs.Replica.Certificates.{new_view_from, count_checkpoints, says_checkpoint, checkpoints_of, is_stable}
+use Rattle.protocol.specs.Replica.Certificates.{new_view_from, count_checkpoints, lists_checkpoint, checkpoints_of, is_stable}
 use Rattle.protocol.specs.Replica.State.{State, Call, call_in, kept_of, last_time}
 use Rattle.protocol.specs.Replica.RightReplica.{Point, HistoryReaches, IsStep, kept_states, HasSeen, reply_of, with_waiting, waiting_after}
 use Rattle.protocol.specs.Replica.Transfers.{fetching, asked_last}
@@ -28,7 +28,7 @@ use Rattle.replica_histories.specs.Desk.{snapshot_of, point_of}
 use Rattle.state_transfer.specs.Transfer.{TransferData}
 use Rattle.replica_histories.specs.Logs.{checkpoints_above, FitsLog}
 use Rattle.replica_histories.specs.Marks.{checked_log, BringsCheckpoint}
-use Rattle.replica_histories.specs.Events.{Start, IsOnItsWay, IsRepeatedRequest, MaySayDue, AreUnsaid, SaysOnce, IsFetchedOrDue, LowMarkIsReached}
+use Rattle.replica_histories.specs.Events.{Start, IsOnItsWay, IsRepeatedRequest, MaySendDue, AreUnsent, SaysOnce, IsFetchedOrDue, LowMarkIsReached}
 use Rattle.replica_histories.specs.Transfers.{HasQuorum, FitsOpenTransfer, open_number}
 use Rattle.replica_histories.specs.TransfersQuorums.{BringsRoot, QuorumsFetched}
 use Rattle.replica_histories.specs.Inputs.{again_for, asked_by, replies_again, fetch_due, again_due, InputsFit, CheckpointsEnter, TicksFit}
@@ -38,7 +38,7 @@ use Rattle.replica_histories.proofs.Logging.{none_taken, log_goes, got_read, sil
 use Rattle.replica_histories.proofs.Reaching.{reached_goes}
 use Rattle.replica_histories.proofs.Cutting.{marked, alike, checked, checked_up, checked_reached}
 use Rattle.replica_histories.proofs.Giving.{kept_on}
-use Rattle.replica_histories.proofs.SaidOnce.{time_of, reply_client, no_reply, fetch_once}
+use Rattle.replica_histories.proofs.SentOnce.{time_of, reply_client, no_reply, fetch_once}
 use Rattle.replica_histories.proofs.Counting.{CheckpointFree, checkpoint_free}
 use Rattle.replica_histories.proofs.Words.{apart}
 use Rattle.replica_histories.proofs.Transfers.{root_later, open_stays, open_above, quorums_want, lower_are_fetched}
@@ -51,11 +51,11 @@ module _ (c : Configuration) (me : ℕ) (past : List Entry) (bytes : List ℕ) (
   abbrev start : Start
   start = record { before = past; input = Got me bytes; old = old }
 
-  asked_is_due : (k : ℕ) (kept : Kept) → IsRepeatedRequest c me start k kept → Has (λ x. x ≡ reply_of k kept) (replies_again old.state (heard (members c) me bytes))
-  asked_is_due k kept a = rw hears (at (256 + k - 256) (let n : 256 + k - 256 ≡ k = omega arith in n) (nat_le 256 (256 + k)) (le-leb 256 (256 + k) (omega arith)))
+  asked_is_due : (k : ℕ) (kept : Kept) → IsRepeatedRequest c me start k kept → Has (λ x. x ≡ reply_of k kept) (replies_again old.state (authentic (members c) me bytes))
+  asked_is_due k kept a = rw receives (at (256 + k - 256) (let n : 256 + k - 256 ≡ k = omega arith in n) (nat_le 256 (256 + k)) (le-leb 256 (256 + k) (omega arith)))
     where
-      hears : heard (members c) me bytes ≡ Some (record { sender = 256 + k; message = Request a.0 modes.Ordered a.1 })
-      hears = a.2
+      receives : authentic (members c) me bytes ≡ Some (record { sender = 256 + k; message = Request a.0 modes.Ordered a.1 })
+      receives = a.2
 
       kept_is : kept_of old.state k ≡ Some kept
       kept_is = a.3
@@ -66,14 +66,14 @@ module _ (c : Configuration) (me : ℕ) (past : List Entry) (bytes : List ℕ) (
   abbrev got : List Entry
   got = Got me bytes ∷ past
 
-  due_is_right : (point : Point) → point.state ≡ old.state → (message : Message) → Has (λ x. x ≡ message) (replies_again old.state (heard (members c) me bytes)) → MaySayDue c me got point message
-  due_is_right point same message h = go (heard (members c) me bytes) refl h
+  due_is_right : (point : Point) → point.state ≡ old.state → (message : Message) → Has (λ x. x ≡ message) (replies_again old.state (authentic (members c) me bytes)) → MaySendDue c me got point message
+  due_is_right point same message h = go (authentic (members c) me bytes) refl h
     where
       Says : ℕ → Message → Type 0
-      Says = λ sender m. heard (members c) me bytes ≡ Some (record { sender = sender; message = m })
+      Says = λ sender m. authentic (members c) me bytes ≡ Some (record { sender = sender; message = m })
 
       ordered : (sender t : ℕ) (op : Operation) → Says sender (Request t modes.Ordered op) → (b : Bool) → nat_le 256 sender ≡ b → (o : Option Kept) → kept_of old.state (sender - 256) ≡ o
-          → Has (λ x. x ≡ message) (cond b (again_for (sender - 256) t o) []) → MaySayDue c me got point message
+          → Has (λ x. x ≡ message) (cond b (again_for (sender - 256) t o) []) → MaySendDue c me got point message
       ordered sender t op says false client o is h = absurd h
       ordered sender t op says true client None is h = absurd h
       ordered sender t op says true client (Some kept) is h = at (kept.timestamp == t) refl h
@@ -84,25 +84,25 @@ module _ (c : Configuration) (me : ℕ) (past : List Entry) (bytes : List ℕ) (
           its_own : sender ≡ 256 + k
           its_own = let least = leb-true 256 sender client in omega (arith, least)
 
-          at : (b : Bool) → (kept.timestamp == t) ≡ b → Has (λ x. x ≡ message) (cond b (reply_of k kept ∷ []) []) → MaySayDue c me got point message
+          at : (b : Bool) → (kept.timestamp == t) ≡ b → Has (λ x. x ≡ message) (cond b (reply_of k kept ∷ []) []) → MaySendDue c me got point message
           at false e h = absurd h
           at true e (inr h) = absurd h
           at true e (inl h) =
               let time : t ≡ kept.timestamp = sym (eqb-true kept.timestamp t e) in
               let asks : Says (256 + k) (Request kept.timestamp modes.Ordered op) = subst (λ (n : ℕ). Says n (Request kept.timestamp modes.Ordered op)) its_own (subst (λ (n : ℕ). Says sender (Request n modes.Ordered op)) time says) in
-              subst (MaySayDue c me got point) h (inr (k, kept, ap (λ (st : State). kept_of st k) same ∙ is, refl, (op, asks)))
+              subst (MaySendDue c me got point) h (inr (k, kept, ap (λ (st : State). kept_of st k) same ∙ is, refl, (op, asks)))
 
-      of : (sender : ℕ) (m : Message) → Says sender m → Has (λ x. x ≡ message) (asked_by old.state (record { sender = sender; message = m })) → MaySayDue c me got point message
+      of : (sender : ℕ) (m : Message) → Says sender m → Has (λ x. x ≡ message) (asked_by old.state (record { sender = sender; message = m })) → MaySendDue c me got point message
       of sender (Request t modes.Ordered op) says h = ordered sender t op says (nat_le 256 sender) refl (kept_of old.state (sender - 256)) refl h
       of sender (Request t modes.ReadOnly op) says h = absurd h
       of sender _ says h = absurd h
 
-      go : (o : Option Body) → heard (members c) me bytes ≡ o → Has (λ x. x ≡ message) (replies_again old.state o) → MaySayDue c me got point message
+      go : (o : Option Body) → authentic (members c) me bytes ≡ o → Has (λ x. x ≡ message) (replies_again old.state o) → MaySendDue c me got point message
       go None says h = absurd h
       go (Some body) says h = of body.sender body.message says h
 
 -- it is at most one reply
-again_unsaid : (me k timestamp : ℕ) (o : Option Kept) → AreUnsaid me (again_for k timestamp o) []
+again_unsaid : (me k timestamp : ℕ) (o : Option Kept) → AreUnsent me (again_for k timestamp o) []
 again_unsaid me k timestamp None = tt
 again_unsaid me k timestamp (Some kept) = go (kept.timestamp == timestamp)
   where
@@ -110,19 +110,19 @@ again_unsaid me k timestamp (Some kept) = go (kept.timestamp == timestamp)
     alone (inl h) = h
     alone (inr h) = h
 
-    go : (b : Bool) → AreUnsaid me (cond b (reply_of k kept ∷ []) []) []
+    go : (b : Bool) → AreUnsent me (cond b (reply_of k kept ∷ []) []) []
     go true = (λ other way. alone way, tt)
     go false = tt
 
-asked_unsaid : (me : ℕ) (st : State) (o : Option Body) → AreUnsaid me (replies_again st o) []
+asked_unsaid : (me : ℕ) (st : State) (o : Option Body) → AreUnsent me (replies_again st o) []
 asked_unsaid me st None = tt
 asked_unsaid me st (Some body) = of body.sender body.message
   where
-    ordered : (sender t : ℕ) (b : Bool) → AreUnsaid me (cond b (again_for (sender - 256) t (kept_of st (sender - 256))) []) []
+    ordered : (sender t : ℕ) (b : Bool) → AreUnsent me (cond b (again_for (sender - 256) t (kept_of st (sender - 256))) []) []
     ordered sender t true = again_unsaid me (sender - 256) t (kept_of st (sender - 256))
     ordered sender t false = tt
 
-    of : (sender : ℕ) (message : Message) → AreUnsaid me (asked_by st (record { sender = sender; message = message })) []
+    of : (sender : ℕ) (message : Message) → AreUnsent me (asked_by st (record { sender = sender; message = message })) []
     of sender (Request t modes.Ordered op) = ordered sender t (nat_le 256 sender)
     of sender (Request t modes.ReadOnly op) = tt
     of sender _ = tt
@@ -160,7 +160,7 @@ inputs_fit c me desk new log after due past bytes held none e = record {
   once = tt;
   says = record {
     begins = refl;
-    unsaid = subst (λ (xs : List Message). AreUnsaid me xs []) (sym due_is) (asked_unsaid me old.state (heard (members c) me bytes));
+    unsaid = subst (λ (xs : List Message). AreUnsent me xs []) (sym due_is) (asked_unsaid me old.state (authentic (members c) me bytes));
     replies = λ k kept way. replies k kept way;
   };
 }
@@ -200,8 +200,8 @@ inputs_fit c me desk new log after due past bytes held none e = record {
     moves : point_of new old.snapshots [] ≡ record old { ran = []; waiting = waiting_after c me old bytes }
     moves = same_point old.snapshots new.state old.state new.waiting (waiting_after c me old bytes) (e.state ∙ sym state_is) (e.waiting ∙ sym waits)
 
-    due_is : due ≡ replies_again old.state (heard (members c) me bytes)
-    due_is = e.due_is ∙ ap (λ (st : State). replies_again st (heard (members c) me bytes)) (sym state_is)
+    due_is : due ≡ replies_again old.state (authentic (members c) me bytes)
+    due_is = e.due_is ∙ ap (λ (st : State). replies_again st (authentic (members c) me bytes)) (sym state_is)
 
     -- the kept reply that the input asks for has its client's last timestamp
     replies : (k : ℕ) (kept : Kept) → IsOnItsWay me due [] (reply_of k kept) → kept.timestamp ≤ last_time new.state k
@@ -209,7 +209,7 @@ inputs_fit c me desk new log after due past bytes held none e = record {
     replies k kept (inl h) =
         last (due_is_right c me past bytes old (point_of new old.snapshots []) (e.state ∙ sym state_is) (reply_of k kept) (subst (λ (xs : List Message). Has (λ x. x ≡ reply_of k kept) xs) due_is h))
       where
-        last : MaySayDue c me (Got me bytes ∷ past) (point_of new old.snapshots []) (reply_of k kept) → kept.timestamp ≤ last_time new.state k
+        last : MaySendDue c me (Got me bytes ∷ past) (point_of new old.snapshots []) (reply_of k kept) → kept.timestamp ≤ last_time new.state k
         last (inl h) = absurd h
         last (inr h) =
             let same = reply_client h.0 k h.1 kept h.3 in
@@ -218,9 +218,9 @@ inputs_fit c me desk new log after due past bytes held none e = record {
             let stamp : h.1.timestamp ≡ kept.timestamp = same.1 in
             omega (arith, here, stamp)
 
-    kept_frame : (frame : List ℕ) → Has (λ x. x ≡ frame) desk.frames ⊎ ((frame ≡ bytes) × (is_some (heard (members c) me bytes) ≡ true)) → Once (HasSeen frame) (Got me bytes ∷ past) × (is_some (heard (members c) me frame) ≡ true)
+    kept_frame : (frame : List ℕ) → Has (λ x. x ≡ frame) desk.frames ⊎ ((frame ≡ bytes) × (is_some (authentic (members c) me bytes) ≡ true)) → Once (HasSeen frame) (Got me bytes ∷ past) × (is_some (authentic (members c) me frame) ≡ true)
     kept_frame frame (inl k) = let f = held.of_desk.frames frame k in (inr f.0, f.1)
-    kept_frame frame (inr k) = (inl (inl (sym k.0)), subst (λ (x : List ℕ). is_some (heard (members c) me x) ≡ true) (sym k.0) k.1)
+    kept_frame frame (inr k) = (inl (inl (sym k.0)), subst (λ (x : List ℕ). is_some (authentic (members c) me x) ≡ true) (sym k.0) k.1)
 
 -- ---- a checkpoint arrives
 
@@ -290,15 +290,15 @@ checkpoints_enter c me desk log past s entry bytes held h none = record {
 
     asks_nothing : (k : ℕ) (kept : Kept) → IsRepeatedRequest c me (record { before = past; input = Got me bytes; old = old }) k kept → ⊥
     asks_nothing k kept a =
-        let hears : heard (members c) me bytes ≡ Some (record { sender = 256 + k; message = Request a.0 modes.Ordered a.1 }) = a.2 in
-        let same : checking s entry.number entry.digest ≡ record { sender = 256 + k; message = Request a.0 modes.Ordered a.1 } = some_injective _ _ (sym h ∙ hears) in
+        let receives : authentic (members c) me bytes ≡ Some (record { sender = 256 + k; message = Request a.0 modes.Ordered a.1 }) = a.2 in
+        let same : checking s entry.number entry.digest ≡ record { sender = 256 + k; message = Request a.0 modes.Ordered a.1 } = some_injective _ _ (sym h ∙ receives) in
         subst IsCheckpoint (ap (λ (b : Body). b.message) same) tt
 
     -- a stable one was executed
     executed : is_stable c me (Got me bytes ∷ past) entry ≡ true → entry.number ≤ desk.state.number
     executed stable =
         own_at_most c me entry (Got me bytes ∷ past) new (old, leaves, step)
-        (and_parts (is_quorum c (count_checkpoints c (Got me bytes ∷ past) entry)) (says_checkpoint entry (checkpoints_of c (Got me bytes ∷ past) me)) stable).1
+        (and_parts (is_quorum c (count_checkpoints c (Got me bytes ∷ past) entry)) (lists_checkpoint entry (checkpoints_of c (Got me bytes ∷ past) me)) stable).1
 
     more : LogData
     more = logs.with_checkpoint_of log s entry
@@ -343,10 +343,10 @@ checkpoints_enter c me desk log past s entry bytes held h none = record {
     said false = fetch_once me (record { before = past; input = Got me bytes; old = old }) desk.state entry.number [] (has_quorum && is_ahead) refl (λ k kept given. absurd given)
 
     -- the due fetch may be sent
-    rightly : (message : Message) → Has (λ x. x ≡ message) (fetch_due desk more entry) → MaySayDue c me (Got me bytes ∷ past) new message
+    rightly : (message : Message) → Has (λ x. x ≡ message) (fetch_due desk more entry) → MaySendDue c me (Got me bytes ∷ past) new message
     rightly message h = go (logs.is_stable more entry) has_quorum is_ahead refl refl h
       where
-        go : (a b d : Bool) → has_quorum ≡ b → is_ahead ≡ d → Has (λ x. x ≡ message) (cond a [] (cond (b && d) (Fetch entry.number levels.Root 0 ∷ []) [])) → MaySayDue c me (Got me bytes ∷ past) new message
+        go : (a b d : Bool) → has_quorum ≡ b → is_ahead ≡ d → Has (λ x. x ≡ message) (cond a [] (cond (b && d) (Fetch entry.number levels.Root 0 ∷ []) [])) → MaySendDue c me (Got me bytes ∷ past) new message
         go true b d x y h = absurd h
         go false false d x y h = absurd h
         go false true false x y h = absurd h
@@ -354,7 +354,7 @@ checkpoints_enter c me desk log past s entry bytes held h none = record {
         go false true true x y (inl h) =
             let least = open_above c me desk.transfer desk.state.number past held.of_desk.opened in
             let over = ltb-true (open_number desk.state.number desk.transfer) entry.number y in
-            subst (λ (z : Message). MaySayDue c me (Got me bytes ∷ past) new z) h (entry.digest, (omega arith, quorums_want c (Got me bytes ∷ past) entry.number entry.digest (counted ∙ x)))
+            subst (λ (z : Message). MaySendDue c me (Got me bytes ∷ past) new z) h (entry.digest, (omega arith, quorums_want c (Got me bytes ∷ past) entry.number entry.digest (counted ∙ x)))
 
 -- a tick alone owes only the fetch of the open transfer
 pub ticks_fit : TicksFit
@@ -402,13 +402,13 @@ ticks_fit c me desk log past held = record {
     again k index level (Some t) f was above =
         inl (ap (λ (x : ℕ × (Level × ℕ)). Fetch x.0 x.1.0 x.1.1) (some_injective (t.number, (t.asked.level, t.asked.index)) (k, (level, index)) (sym f.0.asked ∙ was)))
 
-    rightly : (message : Message) (o : Option TransferData) → FitsOpenTransfer c me o desk.state.number past → Has (λ x. x ≡ message) (again_due o) → MaySayDue c me (Tick me ∷ past) (point_of desk old.snapshots []) message
+    rightly : (message : Message) (o : Option TransferData) → FitsOpenTransfer c me o desk.state.number past → Has (λ x. x ≡ message) (again_due o) → MaySendDue c me (Tick me ∷ past) (point_of desk old.snapshots []) message
     rightly message None f k = absurd k
     rightly message (Some t) f (inl k) =
-        subst (λ (x : Message). MaySayDue c me (Tick me ∷ past) (point_of desk old.snapshots []) x) k (t.root, (f.1, root_later c t.number t.root past (Tick me) f.0.aims.root_wanted))
+        subst (λ (x : Message). MaySendDue c me (Tick me ∷ past) (point_of desk old.snapshots []) x) k (t.root, (f.1, root_later c t.number t.root past (Tick me) f.0.aims.root_wanted))
     rightly message (Some t) f (inr k) = absurd k
 
-    unsaid : (o : Option TransferData) → AreUnsaid me (again_due o) []
+    unsaid : (o : Option TransferData) → AreUnsent me (again_due o) []
     unsaid None = tt
     unsaid (Some t) = (λ other way. apart true refl other, tt)
 

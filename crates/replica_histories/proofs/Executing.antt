@@ -18,7 +18,7 @@ use Rattle.protocol.proofs.Words.Leaving.{executed_number}
 use Rattle.protocol.proofs.Points.Keeping.{executed_times}
 use Rattle.protocol.proofs.Words.Plain.{Plain, plain_low}
 use Rattle.replica_histories.specs.Desk.{Desk, Snapshot, snapshot_of, point_of}
-use Rattle.replica_histories.specs.Events.{after_outputs, IsOnItsWay, MaySayDue, AreUnsaid}
+use Rattle.replica_histories.specs.Events.{after_outputs, IsOnItsWay, MaySendDue, AreUnsent}
 use Rattle.replica_histories.specs.Transfers.{FitsOpenTransfer, still_open}
 use Rattle.replica_histories.specs.Outputs.{replies_to, checkpoint_due, executed_desk, ExecutesFit}
 use Rattle.replica_histories.proofs.Words.{apart, passed}
@@ -26,7 +26,7 @@ use Rattle.replica_histories.proofs.Certified.{committed_here}
 use Rattle.replica_histories.proofs.Checking.{said_may, executed_at_most}
 use Rattle.replica_histories.proofs.Ending.{steps_leave}
 use Rattle.replica_histories.proofs.NumbersWaiting.{executions_raise}
-use Rattle.replica_histories.proofs.SaidOnce.{said_so_far, no_reply, ran_times, unsaid_replies}
+use Rattle.replica_histories.proofs.SentOnce.{said_so_far, no_reply, ran_times, unsaid_replies}
 use Rattle.replica_histories.proofs.Taking.{takes_nothing}
 use Rattle.replica_histories.proofs.Logging.{log_goes, silent_read}
 use Rattle.replica_histories.proofs.Transfers.{open_executes}
@@ -108,7 +108,7 @@ executes_fit c me s desk log outputs batch frames is_state few commits fewer f =
         (has_mapped (λ x. x ≡ reply_to r) reply_to more (has_weaker (λ x. x ≡ r) (λ x. reply_to x ≡ reply_to r) (λ x is. ap reply_to is) more h)))
 
     -- the checkpoint of the new state was not sent: none above the executed number was
-    checkpoint_unsaid : (b : Bool) → AreUnsaid me (cond b (Checkpoint st.number (root_of st) ∷ []) []) (e ∷ outputs)
+    checkpoint_unsaid : (b : Bool) → AreUnsent me (cond b (Checkpoint st.number (root_of st) ∷ []) []) (e ∷ outputs)
     checkpoint_unsaid false = tt
     checkpoint_unsaid true = (λ other way. never way, tt)
       where
@@ -183,9 +183,9 @@ executes_fit c me s desk log outputs batch frames is_state few commits fewer f =
     point : Point
     point = point_of new (snapshots_after c st f.of_desk.states) (f.of_desk.ran ++ more)
 
-    right : (message : Message) → (r : Ran) × Has (λ x. x ≡ r) more × (reply_to r ≡ message) → MaySayDue c me (e ∷ past) point message
+    right : (message : Message) → (r : Ran) × Has (λ x. x ≡ r) more × (reply_to r ≡ message) → MaySendDue c me (e ∷ past) point message
     right message r =
-        subst (λ (x : Message). MaySayDue c me (e ∷ past) point x) r.2
+        subst (λ (x : Message). MaySendDue c me (e ∷ past) point x) r.2
         (inl (has_right (λ x. reply_to x ≡ reply_to r.0) f.of_desk.ran more (has_weaker (λ x. x ≡ r.0) (λ x. reply_to x ≡ reply_to r.0) (λ x is. ap reply_to is) more r.1)))
 
     numbered : is_number st.number ≡ true
@@ -193,13 +193,13 @@ executes_fit c me s desk log outputs batch frames is_state few commits fewer f =
 
     -- the checkpoint of the new state may be sent
     may : (b : Bool) → (st.number % c.period == 0) ≡ b → (message : Message) → Has (λ x. x ≡ message) (cond b (Checkpoint st.number (root_of st) ∷ []) [])
-        → MaySayDue c me (e ∷ past) (point_of new (cond b (st ∷ f.of_desk.states) f.of_desk.states) (f.of_desk.ran ++ more)) message
+        → MaySendDue c me (e ∷ past) (point_of new (cond b (st ∷ f.of_desk.states) f.of_desk.states) (f.of_desk.ran ++ more)) message
     may false is message h = absurd h
     may true is message (inr h) = absurd h
     may true is message (inl h) =
-        subst (λ (x : Message). MaySayDue c me (e ∷ past) (point_of new (st ∷ f.of_desk.states) (f.of_desk.ran ++ more)) x) h
+        subst (λ (x : Message). MaySendDue c me (e ∷ past) (point_of new (st ∷ f.of_desk.states) (f.of_desk.ran ++ more)) x) h
         (record { multiple = eqb-true (st.number % c.period) 0 is; executed = inl (sym number_is); state = inl (refl, refl) }, numbered)
 
-    rightly : (message : Message) → Has (λ x. x ≡ message) (replies_to more) ⊎ Has (λ x. x ≡ message) (checkpoint_due c st) → MaySayDue c me (e ∷ past) point message
+    rightly : (message : Message) → Has (λ x. x ≡ message) (replies_to more) ⊎ Has (λ x. x ≡ message) (checkpoint_due c st) → MaySendDue c me (e ∷ past) point message
     rightly message (inl h) = right message (has_some (λ r. reply_to r ≡ message) more (has_map (λ x. x ≡ message) reply_to more h))
     rightly message (inr h) = may (st.number % c.period == 0) refl message h

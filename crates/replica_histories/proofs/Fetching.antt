@@ -5,11 +5,11 @@ use Rattle.std.specs.Option.{option_map_or}
 use Rattle.std.proofs.lemmas.Bool.{le-leb, ltb-true}
 use Rattle.terms.specs.declared.state.Level.TheVariants as levels
 use Rattle.wire_format.specs.Messages.{BodyData as Body, MessageData as Message, fetch as Fetch, meta as Meta, page as Page}
-use Rattle.signing.specs.Heard.{heard}
+use Rattle.signing.specs.AuthenticBody.{authentic}
 use Rattle.ordering.specs.Log as logs
 use Rattle.ordering.specs.Log.{LogData}
 use Rattle.protocol.specs.System.Configuration.{Configuration, members}
-use Rattle.protocol.specs.System.Frames.{IsPosted}
+use Rattle.protocol.specs.System.Frames.{IsOutgoing}
 use Rattle.protocol.specs.System.Trace.{Entry}
 use Rattle.protocol.specs.System.Trace.Entry.{Got, Sent}
 use Rattle.protocol.specs.Replica.Certificates.{new_view_from}
@@ -28,7 +28,7 @@ use Rattle.replica_histories.proofs.Logging.{none_taken, IsPlaced, beside_placed
 use Rattle.replica_histories.proofs.Reaching.{reached_open}
 use Rattle.replica_histories.proofs.Checking.{quorum_counted}
 use Rattle.replica_histories.proofs.Counting.{others_drop}
-use Rattle.replica_histories.proofs.SaidOnce.{Pays, pays_first, pays_fetch, fetch_is_new}
+use Rattle.replica_histories.proofs.SentOnce.{Pays, pays_first, pays_fetch, fetch_is_new}
 use Rattle.replica_histories.proofs.Giving.{sent_goes, log_sent, reached_sent, no_proposal}
 use Rattle.replica_histories.proofs.Entering.{inputs_fit}
 use Rattle.replica_histories.proofs.Transfers.{digests_count, pages_count, digests_open, digests_may_ask, pages_may_ask, open_stays, quorums_open, transfers_may_fetch, transfers_ask, open_above, fetched_most}
@@ -42,7 +42,7 @@ fetch_of t = Fetch t.number t.asked.level t.asked.index
 
 -- a fetch that the transfer may send, with due messages paid
 fetch_goes : (c : Configuration) (me : ℕ) (s : Start) (desk : Desk) (log : LogData) (due rest : List Message) (outputs : List Entry) (t : TransferData) (bytes : List ℕ) → TransferMayAsk c me t desk.state.number (after_outputs s outputs) → AsksNext c me t desk.state (after_outputs s outputs)
-    → IsPosted c me (fetch_of t) (others c me) bytes → Pays me s desk.state due rest outputs bytes
+    → IsOutgoing c me (fetch_of t) (others c me) bytes → Pays me s desk.state due rest outputs bytes
     → BothFitWithinEvent c me s desk log due outputs → BothFitWithinEvent c me s (record desk { transfer = Some t }) log rest (Sent me bytes ∷ outputs)
 fetch_goes c me s desk log due rest outputs t bytes m next posted pays f =
     sent_goes c me s desk log log due rest outputs bytes desk.snapshots (Some t) f
@@ -136,7 +136,7 @@ open_at c me desk t number history is f = subst (λ (o : Option TransferData). F
 
 -- it changes nothing but the transfer
 part_enters : (c : Configuration) (me : ℕ) (desk : Desk) (log : LogData) (past : List Entry) (s : ℕ) (message : Message) (bytes : List ℕ) → FitsLog c me log past → IsPart message
-    → heard (members c) me bytes ≡ Some (record { sender = s; message = message }) → BytesEnter c me bytes desk desk log log []
+    → authentic (members c) me bytes ≡ Some (record { sender = s; message = message }) → BytesEnter c me bytes desk desk log log []
 part_enters c me desk log past s message bytes f is h = record {
   takes = others_drop c me log past bytes f (subst IsBesideLog (sym h) (beside message is));
   state = refl;
@@ -164,7 +164,7 @@ part_enters c me desk log past s message bytes f is h = record {
 
 -- so the event begins with the transfer that has the part
 enters : (c : Configuration) (me : ℕ) (desk : Desk) (log : LogData) (past : List Entry) (s : ℕ) (message : Message) (bytes : List ℕ) (open_one : Option TransferData) (held : BothFitBetweenEvents c me desk log past) → IsPart message
-    → heard (members c) me bytes ≡ Some (record { sender = s; message = message }) → FitsOpenTransfer c me open_one desk.state.number (Got me bytes ∷ past)
+    → authentic (members c) me bytes ≡ Some (record { sender = s; message = message }) → FitsOpenTransfer c me open_one desk.state.number (Got me bytes ∷ past)
     → BothFitWithinEvent c me (start_at c me desk log past held (Got me bytes)) (record desk { transfer = open_one }) log [] []
 enters c me desk log past s message bytes open_one held is h o =
     transfers_change c me (start_at c me desk log past held (Got me bytes)) desk log [] [] open_one o

@@ -11,25 +11,25 @@ use Rattle.wire_format.specs.Spelling.{is_signed, authenticator_is_signed}
 use Rattle.wire_format.specs.Words.{carried, requests_of, said}
 use Rattle.wire_format.specs.Lists.{Each}
 use Rattle.wire_format.proofs.Saying.{reads_frames, reads_said}
-use Rattle.signing.specs.Heard.{heard}
+use Rattle.signing.specs.AuthenticBody.{authentic}
 use Rattle.ordering.specs.Log as logs
 use Rattle.ordering.specs.Log.{LogData}
 use Rattle.protocol.specs.System.Configuration.{Configuration, primary, is_number, members}
-use Rattle.protocol.specs.System.Frames.{IsPosted}
+use Rattle.protocol.specs.System.Frames.{IsOutgoing}
 use Rattle.protocol.specs.System.Trace.{Entry, Once, Has}
 use Rattle.protocol.specs.System.Trace.Entry.{Sent}
 use Rattle.protocol.specs.Replica.Certificates.{are_genuine, new_view_from, taken, logged, batch_from, begun_proposal, entry_proposal, proposal, prepare_from, commit_from, vote_in, prepare_of, commit_of}
 use Rattle.protocol.specs.Replica.State.{State, root_of}
-use Rattle.protocol.specs.Replica.RightReplica.{Point, Executes, kept_states, others, reply_of, IsFor, IsAddressed, HasSeen, HasOwnLeaf, SentInEvent, MaySay, MaySend, MayCheckpoint}
+use Rattle.protocol.specs.Replica.RightReplica.{Point, Executes, kept_states, others, reply_of, IsFor, IsAddressed, HasSeen, HasOwnLeaf, SentInEvent, MaySendMessage, MaySend, MayCheckpoint}
 use Rattle.protocol.specs.Replica.Transfers.{place_from}
-use Rattle.protocol.specs.Replica.Owed.{IsSaying, HasRequest, IsNumbered, AreDifferent, NumbersOnce}
+use Rattle.protocol.specs.Replica.Owed.{IsSending, HasRequest, IsNumbered, AreDifferent, NumbersOnce}
 use Rattle.protocol.proofs.Words.Options.{some_injective, then_some_gives, or_else_second}
 use Rattle.protocol.proofs.Words.Elements.{has_weaker, all_of_each, each_weaker}
 use Rattle.protocol.proofs.Words.Posting.{may_send}
 use Rattle.replica_histories.specs.Desk.{Desk, Snapshot, snapshot_of, kept_from, point_of}
 use Rattle.replica_histories.specs.Logs.{FitsLog, LogTakesBody}
 use Rattle.replica_histories.specs.Marks.{checked_log, BringsCheckpoint}
-use Rattle.replica_histories.specs.Events.{Start, after_outputs, IsOnItsWay, MaySayDue, FitsFrames, LowMarkIsReached, BothFitWithinEvent, KeptAreAbove}
+use Rattle.replica_histories.specs.Events.{Start, after_outputs, IsOnItsWay, MaySendDue, FitsFrames, LowMarkIsReached, BothFitWithinEvent, KeptAreAbove}
 use Rattle.state_transfer.specs.Transfer.{TransferData}
 use Rattle.replica_histories.specs.Transfers.{FitsOpenTransfer}
 use Rattle.replica_histories.specs.TransfersQuorums.{BringsRoot}
@@ -42,23 +42,23 @@ use Rattle.replica_histories.proofs.Logging.{KeepsView, IsPlaced, begins_none, n
 use Rattle.replica_histories.proofs.Reaching.{reached_goes}
 use Rattle.replica_histories.proofs.Cutting.{checked, checked_up, checked_reached}
 use Rattle.replica_histories.proofs.Ending.{steps_leave}
-use Rattle.replica_histories.proofs.SaidOnce.{Pays, pays_none, pays_first, first_unsent, new_by}
+use Rattle.replica_histories.proofs.SentOnce.{Pays, pays_none, pays_first, first_unsent, new_by}
 use Rattle.replica_histories.proofs.Transfers.{root_later, open_stays, asks_none}
 use Rattle.replica_histories.proofs.TransfersQuorums.{none_starts, quorums_go_on, no_root, own_root}
 
 -- ---- what an output leaves
 
-pub on_way : (me : ℕ) (due rest : List Message) (outputs : List Entry) (e : Entry) → ((x : Message) → Has (λ y. y ≡ x) due → Has (λ y. y ≡ x) rest ⊎ IsSaying me x e) → (x : Message)
+pub on_way : (me : ℕ) (due rest : List Message) (outputs : List Entry) (e : Entry) → ((x : Message) → Has (λ y. y ≡ x) due → Has (λ y. y ≡ x) rest ⊎ IsSending me x e) → (x : Message)
     → IsOnItsWay me due outputs x → IsOnItsWay me rest (e ∷ outputs) x
 on_way me due rest outputs e paid x (inl h) = go (paid x h)
   where
-    go : Has (λ y. y ≡ x) rest ⊎ IsSaying me x e → IsOnItsWay me rest (e ∷ outputs) x
+    go : Has (λ y. y ≡ x) rest ⊎ IsSending me x e → IsOnItsWay me rest (e ∷ outputs) x
     go (inl k) = inl k
     go (inr k) = inr (inl k)
 on_way me due rest outputs e paid x (inr h) = inr (inr h)
 
 -- a reply, a checkpoint or a fetch that may be sent may be sent after one more frame
-pub due_stays : (c : Configuration) (me : ℕ) (past : List Entry) (bytes : List ℕ) (point : Point) (message : Message) → MaySayDue c me past point message → MaySayDue c me (Sent me bytes ∷ past) point message
+pub due_stays : (c : Configuration) (me : ℕ) (past : List Entry) (bytes : List ℕ) (point : Point) (message : Message) → MaySendDue c me past point message → MaySendDue c me (Sent me bytes ∷ past) point message
 due_stays c me past bytes point (Reply client timestamp modes.Ordered number answer) h = h
 due_stays c me past bytes point (Reply client timestamp modes.ReadOnly number answer) h = h
 due_stays c me past bytes point (Checkpoint k root) h = (record { multiple = h.0.multiple; executed = inr h.0.executed; state = h.0.state }, h.1)
@@ -70,16 +70,16 @@ signed_addressed : (c : Configuration) (me : ℕ) (past : List Entry) (message :
 signed_addressed c me past message (macs entries) h = absurd cc
 signed_addressed c me past message (signature s) h = tt
 
-pub signed_may_send : (c : Configuration) (me : ℕ) (past : List Entry) (point : Point) (e : Entry) (bytes : List ℕ) (message : Message) → is_signed message ≡ true → IsPosted c me message [] bytes
-    → Each (λ frame. Once (HasSeen frame) past) (carried message) → MaySay c me past point e bytes message → HasOwnLeaf bytes past → (SentInEvent bytes past → ⊥) → MaySend c me past point e bytes
-signed_may_send c me past point e bytes message signed posted seen say leaf once = record {
+pub signed_may_send : (c : Configuration) (me : ℕ) (past : List Entry) (point : Point) (e : Entry) (bytes : List ℕ) (message : Message) → is_signed message ≡ true → IsOutgoing c me message [] bytes
+    → Each (λ frame. Once (HasSeen frame) past) (carried message) → MaySendMessage c me past point e bytes message → HasOwnLeaf bytes past → (SentInEvent bytes past → ⊥) → MaySend c me past point e bytes
+signed_may_send c me past point e bytes message signed posted seen allowed leaf once = record {
   leaf = leaf;
   once = once;
   body = record { sender = me; message = message };
   says = posted.says;
   own = refl;
   seen = seen;
-  say = say;
+  allowed = allowed;
   is_sealed = λ frame is.
       let spells = (reads_frames bytes frame).0 is in
       let same : ◌≡◌ {A = Body} frame.body (record { sender = me; message = message }) = some_injective _ _ (sym (reads_said bytes frame spells) ∙ posted.says) in
@@ -130,14 +130,14 @@ sent_goes c me s desk log after due rest outputs bytes snapshots transfer f may 
         (λ st w. (w.0, on_way me due rest outputs (Sent me bytes) pays.paid (Checkpoint k (root_of st)) w.1)) f.of_desk.states (f.of_desk.checkpoints k h multiple)
 
 -- the log after it
-pub log_sent : (c : Configuration) (me : ℕ) (log after : LogData) (past : List Entry) (bytes receivers : List ℕ) (message : Message) → FitsLog c me log past → IsPosted c me message receivers bytes → KeepsView message
+pub log_sent : (c : Configuration) (me : ℕ) (log after : LogData) (past : List Entry) (bytes receivers : List ℕ) (message : Message) → FitsLog c me log past → IsOutgoing c me message receivers bytes → KeepsView message
     → LogTakesBody c me (Some (record { sender = me; message = message })) log after → IsPlaced c me log (record { sender = me; message = message }) → FitsLog c me after (Sent me bytes ∷ past)
 log_sent c me log after past bytes receivers message f posted keeps takes place =
     log_goes c me log after past (Sent me bytes) f (sent_read c me log past bytes me message posted.says keeps place) (subst (λ (o : Option Body). LogTakesBody c me o log after) (sym posted.says) takes)
 
 -- and the low mark, which stays, is reached
-pub reached_sent : (c : Configuration) (me number : ℕ) (due rest : List Message) (log after : LogData) (past : List Entry) (bytes receivers : List ℕ) (message : Message) → IsPosted c me message receivers bytes → KeepsView message
-    → IsPlaced c me log (record { sender = me; message = message }) → after.low ≡ log.low → ((x : Message) → Has (λ y. y ≡ x) due → Has (λ y. y ≡ x) rest ⊎ IsSaying me x (Sent me bytes))
+pub reached_sent : (c : Configuration) (me number : ℕ) (due rest : List Message) (log after : LogData) (past : List Entry) (bytes receivers : List ℕ) (message : Message) → IsOutgoing c me message receivers bytes → KeepsView message
+    → IsPlaced c me log (record { sender = me; message = message }) → after.low ≡ log.low → ((x : Message) → Has (λ y. y ≡ x) due → Has (λ y. y ≡ x) rest ⊎ IsSending me x (Sent me bytes))
     → LowMarkIsReached c me log.low number due past → LowMarkIsReached c me after.low number rest (Sent me bytes ∷ past)
 reached_sent c me number due rest log after past bytes receivers message posted keeps place same paid h =
     subst (λ (n : ℕ). LowMarkIsReached c me n number rest (Sent me bytes ∷ past)) (sym same)
@@ -151,18 +151,18 @@ never_signed _ keeps h = absurd cc
 
 -- If the marks stay and no part is asked for, only the log and the due messages change.
 pub sent_fits : (c : Configuration) (me : ℕ) (s : Start) (desk : Desk) (log after : LogData) (due rest : List Message) (outputs : List Entry) (bytes receivers : List ℕ) (message : Message)
-    (f : BothFitWithinEvent c me s desk log due outputs) → IsPosted c me message receivers bytes → IsFor c me (after_outputs s outputs) message receivers
+    (f : BothFitWithinEvent c me s desk log due outputs) → IsOutgoing c me message receivers bytes → IsFor c me (after_outputs s outputs) message receivers
     → Each (λ frame. Once (HasSeen frame) (after_outputs s outputs)) (carried message)
-    → MaySay c me (after_outputs s outputs) (point_of desk f.of_desk.states f.of_desk.ran) (Sent me bytes) bytes message
+    → MaySendMessage c me (after_outputs s outputs) (point_of desk f.of_desk.states f.of_desk.ran) (Sent me bytes) bytes message
     → KeepsView message → LogTakesBody c me (Some (record { sender = me; message = message })) log after → IsPlaced c me log (record { sender = me; message = message })
     → place_from (record { sender = me; message = message }) ≡ None
     → ((k : ℕ) (root : List ℕ) → BringsRoot c (after_outputs s outputs) (Sent me bytes) k root → k ≤ desk.state.number)
     → Pays me s desk.state due rest outputs bytes → (SentInEvent bytes (after_outputs s outputs) → ⊥)
     → NumbersOnce c me (after_outputs s outputs) (Sent me bytes)
     → BothFitWithinEvent c me s desk after rest (Sent me bytes ∷ outputs)
-sent_fits c me s desk log after due rest outputs bytes receivers message f posted for seen say keeps takes place none roots pays new once =
+sent_fits c me s desk log after due rest outputs bytes receivers message f posted for seen allowed keeps takes place none roots pays new once =
     sent_goes c me s desk log after due rest outputs bytes desk.snapshots desk.transfer f
-    (may_send c me (after_outputs s outputs) (point_of desk f.of_desk.states f.of_desk.ran) (Sent me bytes) bytes receivers message posted for seen say (λ signed. never_signed message keeps signed) new)
+    (may_send c me (after_outputs s outputs) (point_of desk f.of_desk.states f.of_desk.ran) (Sent me bytes) bytes receivers message posted for seen allowed (λ signed. never_signed message keeps signed) new)
     (log_sent c me log after (after_outputs s outputs) bytes receivers message f.of_log posted keeps takes place)
     (ap (λ (h : ℕ). map snapshot_of (kept_states h f.of_desk.states)) (takes.stays.low ∙ sym f.of_log.low) ∙ f.of_desk.kept)
     (reached_sent c me desk.state.number due rest log after (after_outputs s outputs) bytes receivers message posted keeps place takes.stays.low pays.paid f.low)
@@ -322,8 +322,8 @@ placed c me w k v i s b batch h =
 
 -- a stored frame was seen and is authentic
 each_held : (c : Configuration) (me : ℕ) (desk : Desk) (history : List Entry) (frames : List (List ℕ)) → FitsFrames c me desk history → Each (λ frame. Has (λ x. x ≡ frame) desk.frames) frames
-    → Each (λ frame. Once (HasSeen frame) history × (is_some (heard (members c) me frame) ≡ true)) frames
-each_held c me desk history frames f h = each_weaker (λ frame. Has (λ x. x ≡ frame) desk.frames) (λ frame. Once (HasSeen frame) history × (is_some (heard (members c) me frame) ≡ true)) (λ frame k. f frame k) frames h
+    → Each (λ frame. Once (HasSeen frame) history × (is_some (authentic (members c) me frame) ≡ true)) frames
+each_held c me desk history frames f h = each_weaker (λ frame. Has (λ x. x ≡ frame) desk.frames) (λ frame. Once (HasSeen frame) history × (is_some (authentic (members c) me frame) ≡ true)) (λ frame k. f frame k) frames h
 
 or_else_given : {A : Type 0} (o later : Option A) (x : A) → later ≡ Some x → (y : A) × (or_else o later ≡ Some y)
 or_else_given None later x h = (x, h)
@@ -333,7 +333,7 @@ pub batches_fit : BatchesFit
 unfolding logged
 batches_fit c me s desk log due outputs i batch bytes p posted f =
     sent_fits c me s desk log (logs.with_batch log i batch) due due outputs bytes (others c me) (PrePrepare log.view i batch) f posted refl
-    (each_weaker (λ frame. Once (HasSeen frame) past × (is_some (heard (members c) me frame) ≡ true)) (λ frame. Once (HasSeen frame) past) (λ frame k. k.0) (requests_of batch) seen)
+    (each_weaker (λ frame. Once (HasSeen frame) past × (is_some (authentic (members c) me frame) ≡ true)) (λ frame. Once (HasSeen frame) past) (λ frame k. k.0) (requests_of batch) seen)
     (record { is_primary = primary_is; active = active c me log past f.of_log ∙ p.active; in_marks = marks_are c me log past i f.of_log ∙ p.within; genuine = genuine; one = one; next = λ none. p.free })
     tt takes is_placed refl (no_root c (after_outputs s outputs) bytes me (PrePrepare log.view i batch) desk.state.number posted.says refl) (pays_none c me s desk log outputs (PrePrepare log.view i batch) bytes posted.says due refl f) new once
   where
@@ -343,11 +343,11 @@ batches_fit c me s desk log due outputs i batch bytes p posted f =
     primary_is : primary c log.view ≡ me
     primary_is = sym (primary_same c log log.view f.of_log.faults) ∙ p.own ∙ f.of_log.own
 
-    seen : Each (λ frame. Once (HasSeen frame) past × (is_some (heard (members c) me frame) ≡ true)) (requests_of batch)
+    seen : Each (λ frame. Once (HasSeen frame) past × (is_some (authentic (members c) me frame) ≡ true)) (requests_of batch)
     seen = each_held c me desk past (requests_of batch) f.of_desk.frames p.held
 
     genuine : are_genuine c me batch ≡ true
-    genuine = all_of_each (λ frame. Once (HasSeen frame) past × (is_some (heard (members c) me frame) ≡ true)) (λ request. is_some (heard (members c) me request)) (λ frame k. k.1) (requests_of batch) seen
+    genuine = all_of_each (λ frame. Once (HasSeen frame) past × (is_some (authentic (members c) me frame) ≡ true)) (λ request. is_some (authentic (members c) me request)) (λ frame k. k.1) (requests_of batch) seen
 
     free : logs.logged_batch log i ≡ None
     free = sym (f.of_log.batches i p.within) ∙ p.free.unused i (omega arith)

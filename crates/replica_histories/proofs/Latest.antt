@@ -7,7 +7,7 @@ use Rattle.std.proofs.lemmas.Slice.Eq.{bytes_eq-Decides}
 use Rattle.wire_format.specs.Messages.{CheckpointEntryData as CheckpointEntry}
 use Rattle.wire_format.specs.Lists.{Each}
 use Rattle.ordering.specs.Checkpoints as held
-use Rattle.protocol.specs.Replica.Certificates.{insert_checkpoint, with_checkpoint, says_checkpoint}
+use Rattle.protocol.specs.Replica.Certificates.{insert_checkpoint, with_checkpoint, lists_checkpoint}
 use Rattle.protocol.specs.Replica.Owed.{has_number}
 use Rattle.protocol.proofs.Words.Elements.{each_weaker}
 use Rattle.protocol.proofs.Agreement.States.{is_checkpoint, has_take, has_insert}
@@ -148,11 +148,11 @@ above_higher low high (m ∷ ms) l = go (nat_lt low m.number) (nat_lt high m.num
 -- ---- whether a list has a checkpoint
 
 -- of a number above the mark
-pub says_above : (low : ℕ) (x : CheckpointEntry) (xs : List CheckpointEntry) → low < x.number → says_checkpoint x (checkpoints_above low xs) ≡ says_checkpoint x xs
+pub says_above : (low : ℕ) (x : CheckpointEntry) (xs : List CheckpointEntry) → low < x.number → lists_checkpoint x (checkpoints_above low xs) ≡ lists_checkpoint x xs
 says_above low x [] l = refl
 says_above low x (m ∷ ms) l = go (nat_lt low m.number) refl (says_above low x ms l)
   where
-    go : (t : Bool) → nat_lt low m.number ≡ t → says_checkpoint x (checkpoints_above low ms) ≡ says_checkpoint x ms → says_checkpoint x (cond t (m ∷ checkpoints_above low ms) (checkpoints_above low ms)) ≡ (((m.number == x.number) && bytes_eq m.digest x.digest) || says_checkpoint x ms)
+    go : (t : Bool) → nat_lt low m.number ≡ t → lists_checkpoint x (checkpoints_above low ms) ≡ lists_checkpoint x ms → lists_checkpoint x (cond t (m ∷ checkpoints_above low ms) (checkpoints_above low ms)) ≡ (((m.number == x.number) && bytes_eq m.digest x.digest) || lists_checkpoint x ms)
     go true e same = ap (λ (b : Bool). ((m.number == x.number) && bytes_eq m.digest x.digest) || b) same
     go false e same = let k = ltb-false low m.number e in let other = ne_eqb m.number x.number (λ is. absurd (omega arith)) in rw other same
 
@@ -166,11 +166,11 @@ number_above low k (m ∷ ms) l = go (nat_lt low m.number) refl (number_above lo
     go false e same = let a = ltb-false low m.number e in let other = ne_eqb m.number k (λ is. absurd (omega arith)) in rw other same
 
 -- a list with a checkpoint has its number
-pub says_number : (x : CheckpointEntry) (xs : List CheckpointEntry) → says_checkpoint x xs ≡ true → has_number x.number xs ≡ true
+pub says_number : (x : CheckpointEntry) (xs : List CheckpointEntry) → lists_checkpoint x xs ≡ true → has_number x.number xs ≡ true
 says_number x [] h = h
 says_number x (m ∷ ms) h = go (m.number == x.number) (bytes_eq m.digest x.digest) (says_number x ms) h
   where
-    go : (a b : Bool) → (says_checkpoint x ms ≡ true → has_number x.number ms ≡ true) → ((a && b) || says_checkpoint x ms) ≡ true → (a || has_number x.number ms) ≡ true
+    go : (a b : Bool) → (lists_checkpoint x ms ≡ true → has_number x.number ms ≡ true) → ((a && b) || lists_checkpoint x ms) ≡ true → (a || has_number x.number ms) ≡ true
     go true b below k = refl
     go false b below k = below k
 
@@ -251,11 +251,11 @@ passed_stays (suc n) k x (m ∷ ms) h = go (m.number == x.number) (nat_lt m.numb
     go false false f (inl e) stays = inl e
     go false false f (inr p) stays = inr (p.0, stays p.1)
 
-says_itself : (x : CheckpointEntry) (ys : List CheckpointEntry) → says_checkpoint x (x ∷ ys) ≡ true
+says_itself : (x : CheckpointEntry) (ys : List CheckpointEntry) → lists_checkpoint x (x ∷ ys) ≡ true
 says_itself x ys = rw (eq-eqb x.number x.number refl, (bytes_eq-Decides x.digest x.digest).1 refl) refl
 
 -- a checkpoint that is put in finds room, or adds nothing
-pub put_or_passed : (n : ℕ) (x : CheckpointEntry) (xs : List CheckpointEntry) → length xs ≤ n → (says_checkpoint x (take n (insert_checkpoint x xs)) ≡ true) ⊎ (take n (insert_checkpoint x xs) ≡ xs)
+pub put_or_passed : (n : ℕ) (x : CheckpointEntry) (xs : List CheckpointEntry) → length xs ≤ n → (lists_checkpoint x (take n (insert_checkpoint x xs)) ≡ true) ⊎ (take n (insert_checkpoint x xs) ≡ xs)
 put_or_passed zero x [] l = inr refl
 put_or_passed zero x (m ∷ ms) l = absurd (omega arith)
 put_or_passed (suc n) x [] l = inl (says_itself x (take n []))
@@ -265,8 +265,8 @@ put_or_passed (suc n) x (m ∷ ms) l = go (m.number == x.number) (nat_lt m.numbe
     later true = refl
     later false = refl
 
-    go : (b d : Bool) → (says_checkpoint x (take n (insert_checkpoint x ms)) ≡ true) ⊎ (take n (insert_checkpoint x ms) ≡ ms)
-        → (says_checkpoint x (take (suc n) (cond b (m ∷ ms) (cond d (x ∷ m ∷ ms) (m ∷ insert_checkpoint x ms)))) ≡ true)
+    go : (b d : Bool) → (lists_checkpoint x (take n (insert_checkpoint x ms)) ≡ true) ⊎ (take n (insert_checkpoint x ms) ≡ ms)
+        → (lists_checkpoint x (take (suc n) (cond b (m ∷ ms) (cond d (x ∷ m ∷ ms) (m ∷ insert_checkpoint x ms)))) ≡ true)
         ⊎ (take (suc n) (cond b (m ∷ ms) (cond d (x ∷ m ∷ ms) (m ∷ insert_checkpoint x ms))) ≡ m ∷ ms)
     go true d k = inr (take_all (suc n) (m ∷ ms) l)
     go false true k = inl (says_itself x (take n (m ∷ ms)))
@@ -302,17 +302,17 @@ same_entry m x h =
     ap (λ (t : ℕ). let y : CheckpointEntry = record { number = t; digest = x.digest } in y) en ∙ ap (λ (t : List ℕ). let y : CheckpointEntry = record { number = m.number; digest = t } in y) ed
 
 -- a checkpoint in the list was there, or is the one more
-pub behind_says : (m : CheckpointEntry) (s : ℕ) (o : Option (ℕ × CheckpointEntry)) (xs : List CheckpointEntry) → says_checkpoint m (with_checkpoint s o xs) ≡ true
-    → (says_checkpoint m xs ≡ true) ⊎ (o ≡ Some (s, m))
+pub behind_says : (m : CheckpointEntry) (s : ℕ) (o : Option (ℕ × CheckpointEntry)) (xs : List CheckpointEntry) → lists_checkpoint m (with_checkpoint s o xs) ≡ true
+    → (lists_checkpoint m xs ≡ true) ⊎ (o ≡ Some (s, m))
 behind_says m s None xs h = inl h
 behind_says m s (Some x) xs h = go (x.0 == s) refl h
   where
-    pick : x.0 ≡ s → (is_checkpoint m x.1 ≡ true) ⊎ (says_checkpoint m xs ≡ true) → (says_checkpoint m xs ≡ true) ⊎ (Some x ≡ Some (s, m))
+    pick : x.0 ≡ s → (is_checkpoint m x.1 ≡ true) ⊎ (lists_checkpoint m xs ≡ true) → (lists_checkpoint m xs ≡ true) ⊎ (Some x ≡ Some (s, m))
     pick own (inl is) =
         inr (ap (λ (t : ℕ). Some (let y : ℕ × CheckpointEntry = (t, x.1) in y)) own ∙ ap (λ (t : CheckpointEntry). Some (let y : ℕ × CheckpointEntry = (s, t) in y)) (same_entry m x.1 is))
     pick own (inr k) = inl k
 
-    go : (b : Bool) → (x.0 == s) ≡ b → says_checkpoint m (cond b (take 3 (insert_checkpoint x.1 xs)) xs) ≡ true → (says_checkpoint m xs ≡ true) ⊎ (Some x ≡ Some (s, m))
+    go : (b : Bool) → (x.0 == s) ≡ b → lists_checkpoint m (cond b (take 3 (insert_checkpoint x.1 xs)) xs) ≡ true → (lists_checkpoint m xs ≡ true) ⊎ (Some x ≡ Some (s, m))
     go true e k = pick (eqb-true x.0 s e) (has_insert m x.1 xs (has_take m 3 (insert_checkpoint x.1 xs) k))
     go false e k = inl k
 

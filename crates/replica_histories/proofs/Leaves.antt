@@ -32,7 +32,7 @@ unsigned_sends_none c past (Sent p bytes) body says unsigned sent leaf is now =
 unsigned_sends_none c past (Got x y) body says unsigned sent leaf is now = absurd now
 unsigned_sends_none c past _ body says unsigned sent leaf is now = absurd now
 
--- Leaves that have signed what was sent have signed it later too.
+-- Leaves that have signed a sent frame have signed it later too.
 pub leaves_remain : (spent : ℕ) (past : List Entry) (e : Entry) → AreLeavesSent spent past → AreLeavesSent spent (e ∷ past)
 leaves_remain spent past e all leaf l = let s = all leaf l in (s.0, s.1, inr s.2)
 

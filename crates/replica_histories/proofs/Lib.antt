@@ -10,7 +10,7 @@ pub mod Reaching
 pub mod Cutting
 pub mod Asking
 pub mod Ending
-pub mod SaidOnce
+pub mod SentOnce
 pub mod Giving
 pub mod Executing
 pub mod Installing

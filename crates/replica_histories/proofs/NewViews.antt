@@ -7,7 +7,7 @@ use Rattle.std.proofs.lemmas.Bool.{and_parts, leb-true, leb-false, ltb-true, ltb
 use Rattle.terms.specs.declared.order.Mode.TheVariants as modes
 use Rattle.terms.specs.declared.state.Level.TheVariants as levels
 use Rattle.wire_format.specs.Messages.{BodyData as Body, MessageData as Message, NewViewData, request as Request, checkpoint as Checkpoint, new_view as NewView, fetch as Fetch}
-use Rattle.signing.specs.Heard.{heard}
+use Rattle.signing.specs.AuthenticBody.{authentic}
 use Rattle.reply_cache.specs.Replies.{Kept}
 use Rattle.ordering.specs.Log as logs
 use Rattle.ordering.specs.Log.{LogData}
@@ -16,7 +16,7 @@ use Rattle.protocol.specs.System.Trace.{Entry, Has}
 use Rattle.protocol.specs.System.Trace.Entry.{Got, Sent}
 use Rattle.protocol.specs.Replica.Certificates.{view, target, taken, is_later, new_view_in, change_sent, change_from, checkpoint_in, commit_of, Committed}
 use Rattle.protocol.specs.Replica.State.{State, call_in, last_time, root_of}
-use Rattle.protocol.specs.Replica.Owed.{IsSaying, SendsMessage, StartsAhead}
+use Rattle.protocol.specs.Replica.Owed.{IsSending, SendsMessage, StartsAhead}
 use Rattle.protocol.specs.Replica.RightReplica.{Point, MaySend, Executes, kept_states, reply_of, with_waiting, waiting_after, StartsAt, IsRootWanted}
 use Rattle.protocol.proofs.Words.Options.{some_injective, and_then_some, then_some_gives}
 use Rattle.protocol.proofs.Words.Elements.{has_weaker}
@@ -26,12 +26,12 @@ use Rattle.protocol.proofs.Words.Reacting.{proceeds_leaves}
 use Rattle.replica_histories.specs.Desk.{Desk, snapshot_of, point_of}
 use Rattle.replica_histories.specs.Logs.{FitsLog}
 use Rattle.replica_histories.specs.Transfers.{FitsOpenTransfer, TransferMayAsk, AsksNext, transfer_to, open_number}
-use Rattle.replica_histories.specs.Events.{after_outputs, IsOnItsWay, IsRepeatedRequest, MaySayDue, LowMarkIsReached, IsFetchedOrDue}
+use Rattle.replica_histories.specs.Events.{after_outputs, IsOnItsWay, IsRepeatedRequest, MaySendDue, LowMarkIsReached, IsFetchedOrDue}
 use Rattle.replica_histories.specs.Views.{begun_log, start_due, NewViewsEnter, NewViewsFit, StartsMayAsk}
 use Rattle.replica_histories.proofs.Words.{given_not}
 use Rattle.replica_histories.proofs.Certified.{committed_there}
 use Rattle.replica_histories.proofs.Ending.{steps_leave}
-use Rattle.replica_histories.proofs.SaidOnce.{saying, no_reply, fetch_once, view_is_new}
+use Rattle.replica_histories.proofs.SentOnce.{saying, no_reply, fetch_once, view_is_new}
 use Rattle.replica_histories.proofs.Giving.{kept_on, on_way, no_proposal, signed_may_send}
 use Rattle.replica_histories.proofs.Entering.{same_point}
 use Rattle.replica_histories.proofs.Resting.{rests}
@@ -126,17 +126,17 @@ module _ (c : Configuration) (me : ℕ) (log : LogData) (past : List Entry) (e :
         go false l = inr (fetched (leb-false (begun_log log new).low desk.state.number l) (nat_lt log.low new.start) refl, none was)
 
     -- the due fetch may be sent
-    start_rightly : (states : List State) (point : Point) → point.state ≡ desk.state → (message : Message) → Has (λ x. x ≡ message) (start_due desk new) → MaySayDue c me (e ∷ past) point message
+    start_rightly : (states : List State) (point : Point) → point.state ≡ desk.state → (message : Message) → Has (λ x. x ≡ message) (start_due desk new) → MaySendDue c me (e ∷ past) point message
     start_rightly states point same message h = go (nat_lt (open_number desk.state.number desk.transfer) new.start) refl h
       where
-        go : (b : Bool) → nat_lt (open_number desk.state.number desk.transfer) new.start ≡ b → Has (λ x. x ≡ message) (cond b (Fetch new.start levels.Root 0 ∷ []) []) → MaySayDue c me (e ∷ past) point message
+        go : (b : Bool) → nat_lt (open_number desk.state.number desk.transfer) new.start ≡ b → Has (λ x. x ≡ message) (cond b (Fetch new.start levels.Root 0 ∷ []) []) → MaySendDue c me (e ∷ past) point message
         go false l k = absurd k
         go true l (inr k) = absurd k
         go true l (inl k) =
             let least = open_above c me desk.transfer desk.state.number past opened in
             let over = ltb-true (open_number desk.state.number desk.transfer) new.start l in
             let number = ap (λ (st : State). st.number) same in
-            subst (λ (x : Message). MaySayDue c me (e ∷ past) point x) k (new.root, (omega arith, inr (inl (new, t, refl, refl))))
+            subst (λ (x : Message). MaySendDue c me (e ∷ past) point x) k (new.root, (omega arith, inr (inl (new, t, refl, refl))))
 
 -- ---- a new view arrives
 
@@ -193,8 +193,8 @@ new_views_enter c me desk log past s new bytes held h t = record {
 
     asks_nothing : (k : ℕ) (kept : Kept) → IsRepeatedRequest c me (record { before = past; input = e; old = old }) k kept → ⊥
     asks_nothing k kept a =
-        let hears : heard (members c) me bytes ≡ Some (record { sender = 256 + k; message = Request a.0 modes.Ordered a.1 }) = a.2 in
-        let same : ◌≡◌ {A = Body} (record { sender = s; message = NewView new }) (record { sender = 256 + k; message = Request a.0 modes.Ordered a.1 }) = some_injective _ _ (sym h ∙ hears) in
+        let receives : authentic (members c) me bytes ≡ Some (record { sender = 256 + k; message = Request a.0 modes.Ordered a.1 }) = a.2 in
+        let same : ◌≡◌ {A = Body} (record { sender = s; message = NewView new }) (record { sender = 256 + k; message = Request a.0 modes.Ordered a.1 }) = some_injective _ _ (sym h ∙ receives) in
         subst IsNewView (ap (λ (b : Body). b.message) same) tt
 
     -- the last event left no committed batch for the next number
@@ -256,7 +256,7 @@ new_views_fit c me s desk log outputs new bytes none_due none_next primary_is t 
         let known = committed_there c me log past v (suc desk.state.number) batch f.of_log (omega arith) k in
         given_not (logs.committed_batch log (suc desk.state.number)) known.0 known.1 none_next
 
-    older : (k : ℕ) (kept : Kept) → IsSaying me (reply_of k kept) e ⊎ SendsMessage me (reply_of k kept) outputs → kept.timestamp ≤ last_time desk.state k
+    older : (k : ℕ) (kept : Kept) → IsSending me (reply_of k kept) e ⊎ SendsMessage me (reply_of k kept) outputs → kept.timestamp ≤ last_time desk.state k
     older k kept (inr given) = f.says.replies k kept (inr given)
     older k kept (inl now) = absurd (no_reply (NewView new) k kept refl (saying me (NewView new) (reply_of k kept) bytes posted.says now))
 

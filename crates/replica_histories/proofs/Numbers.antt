@@ -10,7 +10,7 @@ use Rattle.protocol.specs.Replica.State.{State}
 use Rattle.protocol.specs.Replica.RightReplica.{IsFree}
 use Rattle.protocol.specs.Replica.Owed.{IsNumbered}
 use Rattle.protocol.proofs.Words.Elements.{each_has, each_mapped}
-use Rattle.replica_histories.specs.Numbers.{unnumbered, CallHasNumber, CallHasNoNumber, FirstNumbersFit, next_number, IsNextFree, NextIsFree, NumbersAreGiven, NumbersLeaveFewer}
+use Rattle.replica_histories.specs.Numbers.{unnumbered, CallHasNumber, CallHasNoNumber, FirstNumbersFit, next_number, IsNextFree, NextIsFree, NumbersAreAssigned, NumbersLeaveFewer}
 use Rattle.replica_histories.proofs.NumbersFlags.{left_unnumbered, all_numbered}
 
 -- ---- before the first entry
@@ -78,8 +78,8 @@ next_is_free c me v used begun entries st waiting history f next = record {
 
 -- ---- all waiting requests have a number
 
-pub numbers_are_given : NumbersAreGiven
-numbers_are_given c me v used begun entries st waiting history f all i call has free =
+pub numbers_are_assigned : NumbersAreAssigned
+numbers_are_assigned c me v used begun entries st waiting history f all i call has free =
     let none = all (next_free c me v used st history i (used_below c me v used st history i f.full free) free) in
     let each = each_mapped (CallHasNumber c me v history) (λ w. w.call) entries (all_numbered (CallHasNumber c me v history) (CallHasNoNumber c me v history) entries none f.rightly) in
     each_has (CallHasNumber c me v history) waiting call (subst (Each (CallHasNumber c me v history)) f.calls each) has

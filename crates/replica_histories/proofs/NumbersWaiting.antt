@@ -7,7 +7,7 @@ use Rattle.std.proofs.lemmas.Bool.{and_parts, eqb-false, not-true, ltb-true, ltb
 use Rattle.std.proofs.lemmas.List.{map-append}
 use Rattle.std.proofs.lemmas.List.Kept.{AllPairs-filter}
 use Rattle.wire_format.specs.Words.{requests_of}
-use Rattle.signing.specs.Heard.{heard}
+use Rattle.signing.specs.AuthenticBody.{authentic}
 use Rattle.reply_cache.specs.Replies.{Kept, last_of, with_reply}
 use Rattle.protocol.specs.System.Configuration.{Configuration, members}
 use Rattle.protocol.specs.System.Trace.{Entry, Has, either}
@@ -122,7 +122,7 @@ requests_fit c me v used begun entries st waiting history call f =
     (arrives c me v used begun entries st history call) f
 
 pub inputs_keep_numbers : InputsKeepNumbers
-inputs_keep_numbers c me v used begun entries point history bytes f = go (option_and_then (call_in c) (heard (members c) me bytes))
+inputs_keep_numbers c me v used begun entries point history bytes f = go (option_and_then (call_in c) (authentic (members c) me bytes))
   where
     go : (o : Option Call) → FitsNumbers c me v used begun (option_map_or (entries_with begun point.state entries) o entries) point.state (option_map_or (with_waiting point.state point.waiting) o point.waiting) history
     go None = f

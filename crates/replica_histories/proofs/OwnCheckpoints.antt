@@ -6,11 +6,11 @@ use Rattle.std.proofs.lemmas.Bool.{eq-eqb, ne_eqb, eqb-true, eqb-false, ltb-fals
 use Rattle.std.proofs.lemmas.Slice.Eq.{bytes_eq-Decides}
 use Rattle.wire_format.specs.Messages.{BodyData as Body, MessageData as Message, CheckpointEntryData as CheckpointEntry, checkpoint as Checkpoint}
 use Rattle.wire_format.specs.Words.{said}
-use Rattle.signing.specs.Heard.{heard}
+use Rattle.signing.specs.AuthenticBody.{authentic}
 use Rattle.protocol.specs.System.Configuration.{Configuration, is_number, members}
 use Rattle.protocol.specs.System.Trace.{Entry, Has}
 use Rattle.protocol.specs.System.Trace.Entry.{Got, Sent}
-use Rattle.protocol.specs.Replica.Certificates.{checkpoint_from, checkpoint_in, insert_checkpoint, with_checkpoint, checkpoints_of, says_checkpoint}
+use Rattle.protocol.specs.Replica.Certificates.{checkpoint_from, checkpoint_in, insert_checkpoint, with_checkpoint, checkpoints_of, lists_checkpoint}
 use Rattle.protocol.specs.Replica.State.{State, root_of}
 use Rattle.protocol.specs.Replica.RightReplica.{MayCheckpoint}
 use Rattle.protocol.specs.Replica.Owed.{latest_checkpoint}
@@ -44,9 +44,9 @@ of_other me sender _ checkpoints other = refl
 -- received bytes
 pub got_later : (c : Configuration) (me : ℕ) (past : List Entry) (bytes : List ℕ) → latest_checkpoint c me (Got me bytes ∷ past) ≡ latest_checkpoint c me past
 unfolding checkpoints_of
-got_later c me past bytes = go (heard (members c) me bytes) refl
+got_later c me past bytes = go (authentic (members c) me bytes) refl
   where
-    go : (o : Option Body) → heard (members c) me bytes ≡ o
+    go : (o : Option Body) → authentic (members c) me bytes ≡ o
         → slice_get (with_checkpoint me (option_and_then checkpoint_from o) (checkpoints_of c past me)) 0 ≡ slice_get (checkpoints_of c past me) 0
     go None is = refl
     go (Some body) is = ap (λ (ms : List CheckpointEntry). slice_get ms 0) (of_other me body.sender body.message (checkpoints_of c past me) (heard_other c me bytes body is))
@@ -81,9 +81,9 @@ sent_later c me past bytes message says news =
 
 -- none is above the entry, and one of its number is alike
 abbrev AreBelow : CheckpointEntry → List CheckpointEntry → Type 0
-AreBelow entry ms = (m : CheckpointEntry) → says_checkpoint m ms ≡ true → (m.number ≤ entry.number) × (m.number ≡ entry.number → m.digest ≡ entry.digest)
+AreBelow entry ms = (m : CheckpointEntry) → lists_checkpoint m ms ≡ true → (m.number ≤ entry.number) × (m.number ≡ entry.number → m.digest ≡ entry.digest)
 
-says_first : (m : CheckpointEntry) (ms : List CheckpointEntry) → says_checkpoint m (m ∷ ms) ≡ true
+says_first : (m : CheckpointEntry) (ms : List CheckpointEntry) → lists_checkpoint m (m ∷ ms) ≡ true
 says_first m ms = rw (eq-eqb m.number m.number refl, (bytes_eq-Decides m.digest m.digest).1 refl) refl
 
 inserts_first : (entry : CheckpointEntry) (ms : List CheckpointEntry) → AreBelow entry ms → slice_get (take 3 (insert_checkpoint entry ms)) 0 ≡ Some entry

@@ -9,7 +9,7 @@ use Rattle.partition_tree.specs.Digests.{digest_of_children, root_of as root_of_
 use Rattle.terms.specs.declared.state.Level.{Level}
 use Rattle.terms.specs.declared.state.Level.TheVariants as levels
 use Rattle.wire_format.specs.Messages.{BodyData as Body, MessageData as Message, meta as Meta, page as Page}
-use Rattle.signing.specs.Heard.{heard}
+use Rattle.signing.specs.AuthenticBody.{authentic}
 use Rattle.ordering.specs.Log.{LogData}
 use Rattle.protocol.specs.System.Configuration.{Configuration, members}
 use Rattle.protocol.specs.System.Trace.{Entry, Has}
@@ -64,12 +64,12 @@ module _ (c : Configuration) (me : ℕ) (past : List Entry) (bytes : List ℕ) (
   abbrev GoesOnFor : ℕ → Type 0
   GoesOnFor k = TransferGoesOn c me (Got me bytes ∷ past) point outputs executed k
 
-  answered : (body : Body) → heard (members c) me bytes ≡ Some body → is_part body ≡ true → (Awaits body → GoesOnFor (number_in body)) → AnswersInput c me past (Got me bytes) outputs point executed
+  answered : (body : Body) → authentic (members c) me bytes ≡ Some body → is_part body ≡ true → (Awaits body → GoesOnFor (number_in body)) → AnswersInput c me past (Got me bytes) outputs point executed
   answered body h part goes = (
     nothing.0,
     nothing.1,
-    λ s k index level digests hears awaited. on (record { sender = s; message = Meta k level index digests }) hears awaited,
-    λ s k index text hears awaited. on (record { sender = s; message = Page k index text }) hears awaited,
+    λ s k index level digests receives awaited. on (record { sender = s; message = Meta k level index digests }) receives awaited,
+    λ s k index text receives awaited. on (record { sender = s; message = Page k index text }) receives awaited,
     nothing.2,
     nothing.3,
   )
@@ -77,9 +77,9 @@ module _ (c : Configuration) (me : ℕ) (past : List Entry) (bytes : List ℕ) (
       nothing : AnswersFetches c me past (Got me bytes) outputs point × OwesReadReply c me past (Got me bytes) outputs point × AnswersWaiting c me past (Got me bytes) outputs point × OwesViewChange c me past (Got me bytes) outputs point
       nothing = parts_ask_nothing c me body past (Got me bytes) h outputs point part
 
-      on : (other : Body) → heard (members c) me bytes ≡ Some other → Awaits other → GoesOnFor (number_in other)
-      on other hears awaited =
-          let same : body ≡ other = some_injective body other (sym h ∙ hears) in
+      on : (other : Body) → authentic (members c) me bytes ≡ Some other → Awaits other → GoesOnFor (number_in other)
+      on other receives awaited =
+          let same : body ≡ other = some_injective body other (sym h ∙ receives) in
           subst (λ (b : Body). GoesOnFor (number_in b)) same (goes (subst Awaits (sym same) awaited))
 
   -- an awaited part was asked for
@@ -132,23 +132,23 @@ module _ (c : Configuration) (me : ℕ) (desk : Desk) (log : LogData) (past : Li
       ap (λ (y : ℕ × (Level × ℕ)). y.0) (same_asked t (number_in c me past [] point [] 0 body) asked.0 there asked.1)
 
 pub other_digests_owe_none : OtherDigestsOweNone
-other_digests_owe_none c me desk log past s k executed place digests bytes outputs held hears other =
-    answered c me past bytes held.of_desk.point outputs executed (record { sender = s; message = Meta k place.level place.index digests }) hears refl
+other_digests_owe_none c me desk log past s k executed place digests bytes outputs held receives other =
+    answered c me past bytes held.of_desk.point outputs executed (record { sender = s; message = Meta k place.level place.index digests }) receives refl
     (λ awaited. absurd (not_awaited c me desk log past held place k (digest_of_children digests) other awaited))
 
 pub other_pages_owe_none : OtherPagesOweNone
-other_pages_owe_none c me desk log past s k index executed text bytes outputs held hears other =
-    answered c me past bytes held.of_desk.point outputs executed (record { sender = s; message = Page k index text }) hears refl
+other_pages_owe_none c me desk log past s k index executed text bytes outputs held receives other =
+    answered c me past bytes held.of_desk.point outputs executed (record { sender = s; message = Page k index text }) receives refl
     (λ awaited. absurd (not_awaited c me desk log past held (page_place index) k (sha256 text) other awaited))
 
 pub fetches_suffice : FetchesSuffice
-fetches_suffice c me desk log past t body bytes outputs executed held there hears part has =
-    answered c me past bytes held.of_desk.point outputs executed body hears part
+fetches_suffice c me desk log past t body bytes outputs executed held there receives part has =
+    answered c me past bytes held.of_desk.point outputs executed body receives part
     (λ awaited. inl (subst (λ (n : ℕ). Has (λ e. fetch_sent e ≡ n) outputs) (same_number c me desk log past held t body there awaited) has))
 
 pub fetched_suffice : FetchedSuffice
-fetched_suffice c me desk log past t new body bytes outputs executed held there hears part number may rests long root reaches =
-    answered c me past bytes held.of_desk.point outputs executed body hears part
+fetched_suffice c me desk log past t new body bytes outputs executed held there receives part number may rests long root reaches =
+    answered c me past bytes held.of_desk.point outputs executed body receives part
     (λ awaited. subst (λ (k : ℕ). TransferGoesOn c me now held.of_desk.point outputs executed k) (number ∙ same_number c me desk log past held t body there awaited)
     (inr (new.root, (may.aims.root_wanted, ap root_of_pages in_place_held ∙ root), reached)))
   where

@@ -14,8 +14,8 @@ use Rattle.protocol.specs.System.Trace.{Entry, Once, Has}
 use Rattle.protocol.specs.System.Trace.Entry.{Sent}
 use Rattle.protocol.specs.Replica.Selection.{ascending, changes_of, count_in, is_quorum, is_start, is_within, is_null, is_some_below, may_be_null, may_stand, may_stand_at, may_all_stand, null_batch}
 use Rattle.protocol.specs.Replica.Certificates.{change_from, change_sent, target, view}
-use Rattle.protocol.specs.Replica.RightReplica.{Point, HistoryReaches, IsStep, MaySay, MaySend, MayViewChange, SendsBytes}
-use Rattle.protocol.specs.Replica.Owed.{IsSaying, AreKeysSpent, HasLatestChange, HasBatch, CanBeginView}
+use Rattle.protocol.specs.Replica.RightReplica.{Point, HistoryReaches, IsStep, MaySendMessage, MaySend, MayViewChange, SendsBytes}
+use Rattle.protocol.specs.Replica.Owed.{IsSending, AreKeysSpent, HasLatestChange, HasBatch, CanBeginView}
 use Rattle.protocol.proofs.Words.Options.{some_injective}
 use Rattle.protocol.proofs.Words.Elements.{has_weaker, has_some, has_map, has_mapped, each_weaker, each_of_all}
 use Rattle.protocol.proofs.Words.Temporal.{once_weaker}
@@ -27,7 +27,7 @@ use Rattle.replica_histories.specs.Logs.{FitsLog}
 use Rattle.replica_histories.specs.Changes.{Changes, FitsChanges}
 use Rattle.replica_histories.specs.Primaries.{IsClaimed, SelectsNothing, ClaimedSelectNothing, FewerSelectNothing, NoViewsAreLeft}
 use Rattle.replica_histories.proofs.Leaves.{all_are_spent}
-use Rattle.replica_histories.proofs.SaidOnce.{sends_says}
+use Rattle.replica_histories.proofs.SentOnce.{sends_says}
 use Rattle.replica_histories.proofs.Words.{primary_same}
 
 -- ---- one batch of each digest is enough
@@ -121,7 +121,7 @@ fewer_select_nothing c view held old new fewer nothing part start root batches i
 -- ---- the replica has one view change of its own
 
 abbrev Says : ℕ → ViewChangeData → List Entry → Entry → Type 0
-Says me vc past e = IsSaying me (ViewChange vc) e
+Says me vc past e = IsSending me (ViewChange vc) e
 
 says_view : (me : ℕ) (vc : ViewChangeData) (past : List Entry) (e : Entry) → Says me vc past e → change_sent e ≡ vc.view
 says_view me vc past (Sent p bytes) h = ap (λ (o : Option Body). option_map_or change_from o 0) h
@@ -143,7 +143,7 @@ same_said me a b past _ h k = absurd h
 -- it is for a later view than all before, or was sent before
 new_or_again : (c : Configuration) (me : ℕ) (vc : ViewChangeData) (past : List Entry) (e : Entry) (old new : Point) → IsStep c me past old e new → Says me vc past e
     → (target past < vc.view) ⊎ ((vc.view ≡ target past) × Once (Says me vc) past)
-new_or_again c me vc past (Sent p bytes) old new step h = go (subst (λ (m : Message). MaySay c me past old (Sent p bytes) bytes m) (ap (λ (b : Body). b.message) same) may.say)
+new_or_again c me vc past (Sent p bytes) old new step h = go (subst (λ (m : Message). MaySendMessage c me past old (Sent p bytes) bytes m) (ap (λ (b : Body). b.message) same) may.allowed)
   where
     may : MaySend c me past old (Sent p bytes) bytes
     may = step.may

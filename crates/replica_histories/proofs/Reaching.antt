@@ -7,7 +7,7 @@ use Rattle.wire_format.specs.Messages.{MessageData as Message, fetch as Fetch}
 use Rattle.ordering.specs.Log.{LogData}
 use Rattle.protocol.specs.System.Configuration.{Configuration}
 use Rattle.protocol.specs.System.Trace.{Entry, Has}
-use Rattle.protocol.specs.Replica.Owed.{IsSaying}
+use Rattle.protocol.specs.Replica.Owed.{IsSending}
 use Rattle.state_transfer.specs.Transfer.{TransferData}
 use Rattle.replica_histories.specs.Transfers.{TransferMayAsk, FitsOpenTransfer, open_number}
 use Rattle.replica_histories.specs.Events.{IsFetchedOrDue, LowMarkIsReached}
@@ -18,17 +18,17 @@ use Rattle.replica_histories.proofs.Transfers.{open_above, fetched_most}
 use Rattle.replica_histories.proofs.TransfersQuorums.{says_number}
 
 -- a fetched state stays fetched, and a due fetch is sent
-pub fetched_goes : (me k : ℕ) (due rest : List Message) (past : List Entry) (e : Entry) → ((x : Message) → Has (λ y. y ≡ x) due → Has (λ y. y ≡ x) rest ⊎ IsSaying me x e) → IsFetchedOrDue k due past → IsFetchedOrDue k rest (e ∷ past)
+pub fetched_goes : (me k : ℕ) (due rest : List Message) (past : List Entry) (e : Entry) → ((x : Message) → Has (λ y. y ≡ x) due → Has (λ y. y ≡ x) rest ⊎ IsSending me x e) → IsFetchedOrDue k due past → IsFetchedOrDue k rest (e ∷ past)
 fetched_goes me k due rest past e paid (inl l) = inl (omega arith)
 fetched_goes me k due rest past e paid (inr h) = go (paid (Fetch k levels.Root 0) h)
   where
-    go : Has (λ y. y ≡ Fetch k levels.Root 0) rest ⊎ IsSaying me (Fetch k levels.Root 0) e → IsFetchedOrDue k rest (e ∷ past)
+    go : Has (λ y. y ≡ Fetch k levels.Root 0) rest ⊎ IsSending me (Fetch k levels.Root 0) e → IsFetchedOrDue k rest (e ∷ past)
     go (inl r) = inr r
     go (inr g) = inl (let is = says_number me k e g in omega arith)
 
 -- After an entry that changes no certificate up to the mark it is still reached.
 pub reached_by : (c : Configuration) (me mark number : ℕ) (due rest : List Message) (past : List Entry) (e : Entry) → ((v : ℕ) → suc number ≤ mark → Same c me (e ∷ past) past v (suc number))
-    → ((x : Message) → Has (λ y. y ≡ x) due → Has (λ y. y ≡ x) rest ⊎ IsSaying me x e) → LowMarkIsReached c me mark number due past → LowMarkIsReached c me mark number rest (e ∷ past)
+    → ((x : Message) → Has (λ y. y ≡ x) due → Has (λ y. y ≡ x) rest ⊎ IsSending me x e) → LowMarkIsReached c me mark number due past → LowMarkIsReached c me mark number rest (e ∷ past)
 reached_by c me mark number due rest past e same paid (inl l) = inl l
 reached_by c me mark number due rest past e same paid (inr h) = go (nat_le mark number) refl
   where
@@ -39,7 +39,7 @@ reached_by c me mark number due rest past e same paid (inr h) = go (nat_le mark 
         inr (fetched_goes me mark due rest past e paid h.0, λ v batch k. h.1 v batch (committed_back c me (e ∷ past) past v (suc number) batch (same v (omega arith)) k))
 
 pub reached_goes : (c : Configuration) (me number : ℕ) (due rest : List Message) (log : LogData) (past : List Entry) (e : Entry) → Read c me log past e
-    → ((x : Message) → Has (λ y. y ≡ x) due → Has (λ y. y ≡ x) rest ⊎ IsSaying me x e) → LowMarkIsReached c me log.low number due past → LowMarkIsReached c me log.low number rest (e ∷ past)
+    → ((x : Message) → Has (λ y. y ≡ x) due → Has (λ y. y ≡ x) rest ⊎ IsSending me x e) → LowMarkIsReached c me log.low number due past → LowMarkIsReached c me log.low number rest (e ∷ past)
 reached_goes c me number due rest log past e r paid h = reached_by c me log.low number due rest past e (λ v below. same_elsewhere c me log past e v (suc number) r (inr (below_marks log (suc number) below))) paid h
 
 -- if no message is due, the open transfer is not below it

@@ -6,7 +6,7 @@ use Rattle.std.specs.Option.{option_map_or}
 use Rattle.std.proofs.lemmas.Bool.{and_parts, ltb-true, leb-true}
 use Rattle.wire_format.specs.Messages.{MessageData as Message, NewViewData, ViewChangeData, pre_prepare as PrePrepare, prepare as Prepare, commit as Commit, checkpoint as Checkpoint, view_change as ViewChange, new_view as NewView}
 use Rattle.wire_format.specs.Words.{said}
-use Rattle.signing.specs.Heard.{heard}
+use Rattle.signing.specs.AuthenticBody.{authentic}
 use Rattle.ordering.specs.Log as logs
 use Rattle.ordering.specs.Log.{LogData}
 use Rattle.ordering.proofs.Reading.{above_low}
@@ -16,7 +16,7 @@ use Rattle.protocol.specs.System.Trace.Entry.{Invoke, Got, Tick, Executed, Insta
 use Rattle.protocol.specs.Replica.Certificates.{view, target, low, is_in_marks, logged, prepare_of, commit_of}
 use Rattle.protocol.specs.Replica.State.{State, Call, call_in, last_time}
 use Rattle.protocol.specs.Replica.RightReplica.{Point, HistoryReaches, IsStep, is_newer, with_waiting, waiting_after, still_waiting, executed_point}
-use Rattle.protocol.specs.Replica.Owed.{IsSaying, SendsMessage, IsBegunBelow, SendsRow, SendsView, SendsAgain}
+use Rattle.protocol.specs.Replica.Owed.{IsSending, SendsMessage, IsBegunBelow, SendsRow, SendsView, SendsAgain}
 use Rattle.protocol.proofs.Words.Elements.{has_weaker, has_either, has_filter, has_reversed}
 use Rattle.replica_histories.specs.Desk.{Desk}
 use Rattle.replica_histories.specs.Logs.{FitsLog}
@@ -41,7 +41,7 @@ sends_turned c me past executed outputs a = record {
 }
   where
     turn : (message : Message) → SendsMessage me message outputs → SendsMessage me message (reverse outputs)
-    turn message h = has_reversed (IsSaying me message) outputs h
+    turn message h = has_reversed (IsSending me message) outputs h
 
     row : (v i : ℕ) → SendsRow c me past v i outputs → SendsRow c me past v i (reverse outputs)
     row v i r = record {
@@ -61,7 +61,7 @@ module _ (c : Configuration) (me : ℕ) (desk : Desk) (log : LogData) (past outp
 
   -- a frame that is sent has its message
   frame_says : (message : Message) (frame : List ℕ) → said frame ≡ Some (record { sender = me; message = message }) → FrameGoes me frame outputs → SendsMessage me message outputs
-  frame_says message frame says goes = has_weaker (λ e. e ≡ Sent me frame) (IsSaying me message) (λ e same. subst (IsSaying me message) (sym same) says) outputs goes
+  frame_says message frame says goes = has_weaker (λ e. e ≡ Sent me frame) (IsSending me message) (λ e same. subst (IsSending me message) (sym same) says) outputs goes
 
   new_view : (v : ℕ) → v ≡ log.view → ViewGoes me log x desk.state.number outputs → primary c v ≡ me → 0 < v → (new : NewViewData) × (new.view ≡ v) × SendsMessage me (NewView new) outputs
   new_view v at goes own later = go (fits.own_begins (ap (primary c) (sym at) ∙ own))
@@ -118,14 +118,14 @@ module _ (c : Configuration) (me : ℕ) (desk : Desk) (log : LogData) (past outp
   }
 
 pub resending_suffices : ResendingSuffices
-resending_suffices c me desk log past input outputs x call executed held fits hears all =
-    let parts = others_bring_no_part c me (ordered_from call) past input hears outputs held.of_desk.point executed refl in (
-      requests_owe_no_part c me call past input outputs held.of_desk.point hears,
-      requests_owe_no_read c me call past input outputs held.of_desk.point hears,
+resending_suffices c me desk log past input outputs x call executed held fits receives all =
+    let parts = others_bring_no_part c me (ordered_from call) past input receives outputs held.of_desk.point executed refl in (
+      requests_owe_no_part c me call past input outputs held.of_desk.point receives,
+      requests_owe_no_read c me call past input outputs held.of_desk.point receives,
       parts.0,
       parts.1,
       λ waits. sends c me desk log past outputs x held fits all,
-      hears_no_move c me (ordered_from call) past input outputs held.of_desk.point hears refl,
+      hears_no_move c me (ordered_from call) past input outputs held.of_desk.point receives refl,
     )
 
 -- ---- waiting requests are new
@@ -163,7 +163,7 @@ with_new st waiting call new = go (nat_lt (last_time st call.client) call.timest
     go false b is = new
 
 got_new : (c : Configuration) (me : ℕ) (point : Point) (bytes : List ℕ) → AreNew point.state point.waiting → AreNew point.state (waiting_after c me point bytes)
-got_new c me point bytes new = go (option_and_then (call_in c) (heard (members c) me bytes))
+got_new c me point bytes new = go (option_and_then (call_in c) (authentic (members c) me bytes))
   where
     go : (o : Option Call) → AreNew point.state (option_map_or (with_waiting point.state point.waiting) o point.waiting)
     go None = new

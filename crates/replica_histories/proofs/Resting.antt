@@ -15,7 +15,7 @@ use Rattle.protocol.proofs.Words.Reacting.{one_of}
 use Rattle.protocol.proofs.Agreement.Voting.{logged_stays}
 use Rattle.replica_histories.specs.Logs.{FitsLog}
 use Rattle.replica_histories.specs.Desk.{Desk}
-use Rattle.replica_histories.specs.Events.{BothFitWithinEvent, IsSettled, LeavesNoView, start_at, HeldAreSettled}
+use Rattle.replica_histories.specs.Events.{BothFitWithinEvent, IsSettled, LeavesNoView, start_at, HeldAreStabilized}
 use Rattle.state_transfer.specs.Transfer.{TransferData}
 use Rattle.replica_histories.specs.Inputs.{again_due, InputsPass, TicksPass}
 use Rattle.replica_histories.proofs.Words.{given_not, marks_are, primary_same}
@@ -63,7 +63,7 @@ rests c me (e ∷ past) point h =
     (λ k. rests_behind c me e [] past point h.0 k)
     (λ k. rests_owed c me past e [] (e ∷ past) h.0 point k.0)
 
-pub held_are_settled : HeldAreSettled
+pub held_are_settled : HeldAreStabilized
 held_are_settled c me desk log history held = record {
   prepares = held.of_log.prepares;
   commits = held.of_log.commits;

@@ -3,24 +3,24 @@ use Rattle.std.proofs.Common.{◌≡◌, ◌≢◌, ℕ, ◌⊎◌, inl, inr, tr
 use Rattle.std.specs.Prelude.{◌==◌}
 use Rattle.sha2.specs.Sha256.{sha256}
 use Rattle.wire_format.specs.Messages.{BodyData as Body, MessageData as Message}
-use Rattle.signing.specs.Heard.{heard}
-use Rattle.signing.proofs.Heard.{heard_was_opened}
+use Rattle.signing.specs.AuthenticBody.{authentic}
+use Rattle.signing.proofs.AuthenticBody.{authentic_was_opened}
 use Rattle.protocol.specs.System.Configuration.{Configuration, primary, members}
 use Rattle.protocol.specs.System.Trace.{Entry, is_output, Once, Always}
 use Rattle.protocol.specs.System.Trace.Entry.{Got, Sent}
 use Rattle.protocol.specs.Replica.Certificates.{prepare_from, commit_from, vote_in, prepare_of, commit_of, Prepared}
 use Rattle.protocol.specs.Replica.RightReplica.{Point, HistoryReaches}
-use Rattle.protocol.specs.Replica.Owed.{IsSaying, SendsMessage}
+use Rattle.protocol.specs.Replica.Owed.{IsSending, SendsMessage}
 use Rattle.protocol.proofs.Words.Temporal.{once_weaker, once_stays}
 use Rattle.protocol.proofs.Words.Options.{given_once}
 use Rattle.protocol.proofs.Words.Linking.{Speaks}
 use Rattle.protocol.proofs.Agreement.Voting.{RightAt, once_right, preparing, Brings, vote_brought, primary_votes_not, Logs, logs_stay, says_logged, prepare_is}
-use Rattle.protocol.proofs.Agreement.Commits.{Commits as SaidCommits, committing, commit_source, prepared_stays, says_prepared}
+use Rattle.protocol.proofs.Agreement.Commits.{Commits as SentCommits, committing, commit_source, prepared_stays, says_prepared}
 use Rattle.replica_histories.specs.Events.{Start, after_outputs}
 
 -- received bytes are another's
-pub heard_other : (c : Configuration) (me : ℕ) (bytes : List ℕ) (body : Body) → heard (members c) me bytes ≡ Some body → body.sender ≢ me
-heard_other c me bytes body h = (heard_was_opened (members c) me bytes body h).other
+pub heard_other : (c : Configuration) (me : ℕ) (bytes : List ℕ) (body : Body) → authentic (members c) me bytes ≡ Some body → body.sender ≢ me
+heard_other c me bytes body h = (authentic_was_opened (members c) me bytes body h).other
 
 -- so the replica sent its own messages in the history
 own_said : (c : Configuration) (me : ℕ) (body : Body) → body.sender ≡ me → (past : List Entry) (e : Entry) → RightAt c me past e → Brings c body past e → Speaks body past e
@@ -83,16 +83,16 @@ spoken_certified c me v i d past point leaves h =
     (λ past e t. certified past e (says_prepared c me v i d past e t.0 t.1)) past
     (once_right c me (Speaks (committing me v i d)) past (point, leaves) h))
   where
-    certified : (past : List Entry) (e : Entry) → SaidCommits c me v i d past → Certified c me v i d past
+    certified : (past : List Entry) (e : Entry) → SentCommits c me v i d past → Certified c me v i d past
     certified past e p = record { batch = p.batch; prepared = p.prepared; digest_is = p.digest_is }
 
 -- ---- in the event, or before
 
-pub says : (me : ℕ) (message : Message) (past : List Entry) (e : Entry) → Speaks (record { sender = me; message = message }) past e → IsSaying me message e
+pub says : (me : ℕ) (message : Message) (past : List Entry) (e : Entry) → Speaks (record { sender = me; message = message }) past e → IsSending me message e
 says me message past (Sent p bytes) h = h
 says me message past _ h = h
 
-inputs_say_nothing : (me : ℕ) (message : Message) (e : Entry) → is_output e ≡ false → IsSaying me message e → ⊥
+inputs_say_nothing : (me : ℕ) (message : Message) (e : Entry) → is_output e ≡ false → IsSending me message e → ⊥
 inputs_say_nothing me message (Sent p bytes) o h = absurd cc
 inputs_say_nothing me message _ o h = h
 

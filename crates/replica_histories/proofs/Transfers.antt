@@ -16,12 +16,12 @@ use Rattle.wire_format.specs.Messages.{BodyData as Body, MessageData as Message,
 use Rattle.wire_format.specs.Spelling.{IsMessage}
 use Rattle.wire_format.specs.Words.{said}
 use Rattle.wire_format.proofs.Saying.{says_what_is_spelled}
-use Rattle.signing.specs.Heard.{heard}
+use Rattle.signing.specs.AuthenticBody.{authentic}
 use Rattle.protocol.specs.System.Configuration.{Configuration, members, replicas}
 use Rattle.protocol.specs.System.Trace.{Entry}
 use Rattle.protocol.specs.System.Trace.Entry.{Got, Tick, Executed, Sent}
 use Rattle.protocol.specs.Replica.Selection.{is_quorum}
-use Rattle.protocol.specs.Replica.Certificates.{checkpoints_of, says_checkpoint, count_checkpoints}
+use Rattle.protocol.specs.Replica.Certificates.{checkpoints_of, lists_checkpoint, count_checkpoints}
 use Rattle.protocol.specs.Replica.RightReplica.{IsRootWanted}
 use Rattle.protocol.specs.Replica.Transfers.{place_from, fetch_sent, fetching, asked_last, GotBelow}
 use Rattle.protocol.specs.Replica.Owed.{IsInnerWanted, IsPageWanted}
@@ -155,18 +155,18 @@ open_executes c me (Some t) number later past batch grows f = go (nat_lt later t
 -- ---- parts that a transfer takes
 
 -- a received message may be sent
-pub heard_valid : (c : Configuration) (me : ℕ) (bytes : List ℕ) (body : Body) → heard (members c) me bytes ≡ Some body → IsMessage body.message
+pub heard_valid : (c : Configuration) (me : ℕ) (bytes : List ℕ) (body : Body) → authentic (members c) me bytes ≡ Some body → IsMessage body.message
 heard_valid c me bytes body h =
     let w = (says_what_is_spelled bytes body).0 (heard_said c me bytes body h) in
     subst (λ (b : Body). IsMessage b.message) w.2 w.1.valid.message
 
 -- digests of the root's children
-parts_told : (c : Configuration) (me : ℕ) (t : TransferData) (past : List Entry) (bytes : List ℕ) (s n index : ℕ) (digests : List (List ℕ)) → heard (members c) me bytes ≡ Some (record { sender = s; message = Meta n levels.Root index digests })
+parts_told : (c : Configuration) (me : ℕ) (t : TransferData) (past : List Entry) (bytes : List ℕ) (s n index : ℕ) (digests : List (List ℕ)) → authentic (members c) me bytes ≡ Some (record { sender = s; message = Meta n levels.Root index digests })
     → Some t.root ≡ Some (digest_of_children digests) → TransferAims c me t past → TransferAims c me (with_part_digests t digests) (Got me bytes ∷ past)
-parts_told c me t past bytes s n index digests hears is a = record {
+parts_told c me t past bytes s n index digests receives is a = record {
   root_wanted = later.root_wanted;
   inner = λ others same. subst (λ (x : List (List ℕ)). GotBelow c me (Got me bytes ∷ past) levels.Root 0 t.root x) (some_injective digests others same)
-      (sym (some_injective t.root (digest_of_children digests) is), (s, n, inl (subst (λ (x : ℕ). heard (members c) me bytes ≡ Some (record { sender = s; message = Meta n levels.Root x digests })) first hears)));
+      (sym (some_injective t.root (digest_of_children digests) is), (s, n, inl (subst (λ (x : ℕ). authentic (members c) me bytes ≡ Some (record { sender = s; message = Meta n levels.Root x digests })) first receives)));
   parts = later.parts;
 }
   where
@@ -174,12 +174,12 @@ parts_told c me t past bytes s n index digests hears is a = record {
     later = aims_stay c me t past (Got me bytes) a
 
     first : index ≡ 0
-    first = let valid = heard_valid c me bytes (record { sender = s; message = Meta n levels.Root index digests }) hears in let most : index ≤ 0 = valid.2 in omega arith
+    first = let valid = heard_valid c me bytes (record { sender = s; message = Meta n levels.Root index digests }) receives in let most : index ≤ 0 = valid.2 in omega arith
 
 -- and of an inner part's pages
-pages_told : (c : Configuration) (me : ℕ) (t : TransferData) (past : List Entry) (bytes : List ℕ) (s n index : ℕ) (digests : List (List ℕ)) → heard (members c) me bytes ≡ Some (record { sender = s; message = Meta n levels.Inner index digests })
+pages_told : (c : Configuration) (me : ℕ) (t : TransferData) (past : List Entry) (bytes : List ℕ) (s n index : ℕ) (digests : List (List ℕ)) → authentic (members c) me bytes ≡ Some (record { sender = s; message = Meta n levels.Inner index digests })
     → TransferAims c me t past → TransferAims c me (with_page_digests t index digests) (Got me bytes ∷ past)
-pages_told c me t past bytes s n index digests hears a = record {
+pages_told c me t past bytes s n index digests receives a = record {
   root_wanted = later.root_wanted;
   inner = later.inner;
   parts = λ j others same. put j others (set_cases t.page_digests index j (Some digests) None) same;
@@ -192,18 +192,18 @@ pages_told c me t past bytes s n index digests hears a = record {
         → get_or (set t.page_digests index (Some digests)) j None ≡ Some others → GotBelow c me (Got me bytes ∷ past) levels.Inner j (digest_of_children others) others
     put j others (inl k) same =
         subst (λ (x : List (List ℕ)). GotBelow c me (Got me bytes ∷ past) levels.Inner j (digest_of_children x) x) (some_injective digests others (sym k.1 ∙ same))
-        (refl, (s, n, inl (subst (λ (x : ℕ). heard (members c) me bytes ≡ Some (record { sender = s; message = Meta n levels.Inner x digests })) (sym k.0) hears)))
+        (refl, (s, n, inl (subst (λ (x : ℕ). authentic (members c) me bytes ≡ Some (record { sender = s; message = Meta n levels.Inner x digests })) (sym k.0) receives)))
     put j others (inr k) same = later.parts j others (sym k ∙ same)
 
 taken_at : (c : Configuration) (me : ℕ) (t : TransferData) (past : List Entry) (bytes : List ℕ) (s n : ℕ) (level : Level) (index : ℕ) (digests : List (List ℕ))
-    → heard (members c) me bytes ≡ Some (record { sender = s; message = Meta n level index digests }) → wanted_at t level index ≡ Some (digest_of_children digests) → TransferAims c me t past
+    → authentic (members c) me bytes ≡ Some (record { sender = s; message = Meta n level index digests }) → wanted_at t level index ≡ Some (digest_of_children digests) → TransferAims c me t past
     → TransferAims c me (with_digests t (record { level = level; index = index }) digests) (Got me bytes ∷ past)
-taken_at c me t past bytes s n levels.Root index digests hears is a = parts_told c me t past bytes s n index digests hears is a
-taken_at c me t past bytes s n levels.Inner index digests hears is a = pages_told c me t past bytes s n index digests hears a
-taken_at c me t past bytes s n levels.Page index digests hears is a = aims_stay c me t past (Got me bytes) a
+taken_at c me t past bytes s n levels.Root index digests receives is a = parts_told c me t past bytes s n index digests receives is a
+taken_at c me t past bytes s n levels.Inner index digests receives is a = pages_told c me t past bytes s n index digests receives a
+taken_at c me t past bytes s n levels.Page index digests receives is a = aims_stay c me t past (Got me bytes) a
 
 pub digests_taken : DigestsTaken
-digests_taken c me t past bytes s n place digests hears is a = taken_at c me t past bytes s n place.level place.index digests hears is a
+digests_taken c me t past bytes s n place digests receives is a = taken_at c me t past bytes s n place.level place.index digests receives is a
 
 -- the same transfer with more to it
 more_fits : (c : Configuration) (me : ℕ) (t new : TransferData) (past : List Entry) (e : Entry) → place_sent e ≡ None → new.number ≡ t.number → new.asked ≡ t.asked → TransferAims c me new (e ∷ past) → AreTaken c me None new (e ∷ past) → FitsTransfer c me t past → FitsTransfer c me new (e ∷ past)
@@ -221,26 +221,26 @@ digests_keep t levels.Root index digests = (refl, refl)
 digests_keep t _ index digests = (refl, refl)
 
 pub digests_open : DigestsOpen
-digests_open c me t number past bytes s n place digests hears is f =
+digests_open c me t number past bytes s n place digests receives is f =
     let keep = digests_keep t place.level place.index digests in
     let above = f.1 in
     let own = keep.0 in (
-      more_fits c me t (with_digests t place digests) past (Got me bytes) refl keep.0 keep.1 (digests_taken c me t past bytes s n place digests hears is f.0.aims)
+      more_fits c me t (with_digests t place digests) past (Got me bytes) refl keep.0 keep.1 (digests_taken c me t past bytes s n place digests receives is f.0.aims)
           (Taking.digests_taken c me None place.level place.index digests t (Got me bytes ∷ past) (λ i within. took_stays c me i past (Got me bytes) refl tt ∙ f.0.taken i within)) f.0,
       subst (λ (x : ℕ). number < x) (sym own) above,
     )
 
 pub digests_may_ask : DigestsMayAsk
-digests_may_ask c me t number past bytes s n place digests hears is f =
+digests_may_ask c me t number past bytes s n place digests receives is f =
     let own = (digests_keep t place.level place.index digests).0 in
     let newest = f.0.newest in
     let above = f.1 in
     record {
-      aims = digests_taken c me t past bytes s n place digests hears is f.0.aims;
+      aims = digests_taken c me t past bytes s n place digests receives is f.0.aims;
       newest = omega arith;
       ahead = omega arith;
       taken = Taking.digests_taken c me (Some (with_digests t place digests).number) place.level place.index digests t (Got me bytes ∷ past)
-          (meta_taken c me (with_digests t place digests).number s n place.index place.level digests t past bytes hears f.0.taken);
+          (meta_taken c me (with_digests t place digests).number s n place.index place.level digests t past bytes receives f.0.taken);
     }
 
 -- the same of a transfer with other pages
@@ -252,18 +252,18 @@ aims_alike c me t new history number root parts pages a = record {
 }
 
 pub pages_may_ask : PagesMayAsk
-pages_may_ask c me t number past bytes s index text hears asks long known f =
+pages_may_ask c me t number past bytes s index text receives asks long known f =
     let newest = f.0.newest in
     let above = f.1 in
     record {
       aims = aims_alike c me t (with_page t index text) (Got me bytes ∷ past) refl refl refl refl (aims_stay c me t past (Got me bytes) f.0.aims);
       newest = omega arith;
       ahead = above;
-      taken = page_taken c me s index t past bytes text hears (f.0.asked ∙ ap (λ (x : Place). Some (t.number, (x.level, x.index))) asks) long known within f.0.taken;
+      taken = page_taken c me s index t past bytes text receives (f.0.asked ∙ ap (λ (x : Place). Some (t.number, (x.level, x.index))) asks) long known within f.0.taken;
     }
   where
     within : index < 1024
-    within = let valid = heard_valid c me bytes (record { sender = s; message = Page t.number index text }) hears in let most : index ≤ 1023 = valid.1 in omega arith
+    within = let valid = heard_valid c me bytes (record { sender = s; message = Page t.number index text }) receives in let most : index ≤ 1023 = valid.1 in omega arith
 
 pub ticks_may_ask : TicksMayAsk
 ticks_may_ask c me t number st past f =
@@ -309,8 +309,8 @@ pages_rested c me pages old new number history r = (open_one, ask)
 pub no_quorum : (c : Configuration) (checkpoint : CheckpointEntry) → is_quorum c (count_checkpoints c [] checkpoint) ≡ true → ⊥
 unfolding checkpoints_of
 no_quorum c checkpoint h =
-    let none = count_none (λ s. says_checkpoint checkpoint []) (replicas c) (λ s. refl) in
-    let most = leb-true (2 * c.faults + 1) (count_below (λ s. says_checkpoint checkpoint []) (replicas c)) h in
+    let none = count_none (λ s. lists_checkpoint checkpoint []) (replicas c) (λ s. refl) in
+    let most = leb-true (2 * c.faults + 1) (count_below (λ s. lists_checkpoint checkpoint []) (replicas c)) h in
     omega arith
 
 pub quorums_want : QuorumsWant

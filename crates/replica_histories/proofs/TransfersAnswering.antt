@@ -10,19 +10,19 @@ use Rattle.wire_format.specs.Spelling.{has_children, last_index}
 use Rattle.wire_format.specs.Words.{carried, frame_of, receivers_of}
 use Rattle.wire_format.proofs.Saying.{says_what_is_spelled, reads_frames}
 use Rattle.protocol.specs.System.Configuration.{Configuration}
-use Rattle.protocol.specs.System.Trace.{Entry, Has, Hears}
+use Rattle.protocol.specs.System.Trace.{Entry, Has, Receives}
 use Rattle.protocol.specs.System.Trace.Entry.{Invoke, Got, Executed, Installed, Accepted}
 use Rattle.protocol.specs.Replica.Certificates.{low}
 use Rattle.protocol.specs.Replica.State.{State, opening, execute, pages_of, page_text}
-use Rattle.protocol.specs.Replica.RightReplica.{Point, HistoryReaches, IsStep, KeptState, kept_states, executed_point, MaySay, IsFor, WasAsked, digests_at}
+use Rattle.protocol.specs.Replica.RightReplica.{Point, HistoryReaches, IsStep, KeptState, kept_states, executed_point, MaySendMessage, IsFor, WasAsked, digests_at}
 use Rattle.protocol.specs.Replica.Transfers.{place_from}
-use Rattle.protocol.specs.Replica.Owed.{IsSayingTo, GivesTo}
+use Rattle.protocol.specs.Replica.Owed.{IsSendingTo, SendsMessageTo}
 use Rattle.protocol.proofs.Words.Options.{some_injective}
 use Rattle.protocol.proofs.Words.Elements.{has_weaker, has_some, has_filter, has_map, has_mapped, has_reversed}
 use Rattle.protocol.proofs.Words.Leaving.{executed_number}
 use Rattle.protocol.proofs.Words.Temporal.{once_weaker, once_stays}
 use Rattle.replica_histories.specs.Desk.{Snapshot, snapshot_of}
-use Rattle.replica_histories.specs.TransfersAnswers.{answer_of, answer_by, KeptPages, AnswersFetches, KeptAreOne, SnapshotsAreKept, KeptHaveSnapshots, FetchesCount, AnswersMayGo, PostedToOne, AnswersSuffice, NoneIsOwed, AnswersStay, AnswersTurn, AnswersInParts}
+use Rattle.replica_histories.specs.TransfersAnswers.{answer_of, answer_by, KeptPages, AnswersFetches, KeptAreOne, SnapshotsAreKept, KeptHaveSnapshots, FetchesCount, AnswersMayGo, OutgoingToOne, AnswersSuffice, NoneIsOwed, AnswersStay, AnswersTurn, AnswersInParts}
 use Rattle.replica_histories.proofs.Transfers.{heard_valid}
 use Rattle.replica_histories.proofs.TransfersInstalling.{pages_read}
 
@@ -135,18 +135,18 @@ answer_is st k levels.Root index within = refl
 answer_is st k levels.Inner index within = refl
 answer_is st k levels.Page index within = ap (Page k index) (pages_read st index (omega arith))
 
-hears_within : (c : Configuration) (me s k : ℕ) (level : Level) (index : ℕ) (past : List Entry) (e : Entry) → Hears c me (record { sender = s; message = Fetch k level index }) past e → index ≤ last_index level
+hears_within : (c : Configuration) (me s k : ℕ) (level : Level) (index : ℕ) (past : List Entry) (e : Entry) → Receives c me (record { sender = s; message = Fetch k level index }) past e → index ≤ last_index level
 hears_within c me s k level index past (Got p bytes) h = (heard_valid c me bytes (record { sender = s; message = Fetch k level index }) h).1
 hears_within c me s k level index past _ h = absurd h
 
 asked_within : (c : Configuration) (me s k : ℕ) (level : Level) (index : ℕ) (past : List Entry) → WasAsked c me past s k level index → index ≤ last_index level
 asked_within c me s k level index past h =
     once_stays (λ earlier. index ≤ last_index level) (λ e earlier x. x) past
-    (once_weaker (Hears c me (record { sender = s; message = Fetch k level index })) (λ earlier e. index ≤ last_index level) (hears_within c me s k level index) past h)
+    (once_weaker (Receives c me (record { sender = s; message = Fetch k level index })) (λ earlier e. index ≤ last_index level) (hears_within c me s k level index) past h)
 
 -- it may be sent for a kept state
 may_say : (c : Configuration) (me : ℕ) (past : List Entry) (point : Point) (e : Entry) (bytes : List ℕ) (s k index : ℕ) (level : Level) (pages : List (List ℕ)) → KeptPages c me past point k pages → WasAsked c me past s k level index
-    → MaySay c me past point e bytes (answer_by pages k level index)
+    → MaySendMessage c me past point e bytes (answer_by pages k level index)
 may_say c me past point e bytes s k index levels.Root pages h asked = (
   has_weaker (λ st. (st.number ≡ k) × (pages_of st ≡ pages)) (λ st. (st.number ≡ k) × (children_of pages levels.Root index ≡ digests_at st levels.Root index))
       (λ st x. (x.0, ap (λ (xs : List (List ℕ)). children_of xs levels.Root index) (sym x.1))) (kept_states (low c me past) point.snapshots) h,
@@ -179,8 +179,8 @@ pub answers_may_go : AnswersMayGo
 answers_may_go c me past point e bytes s k index level pages h asked =
     (may_say c me past point e bytes s k index level pages h asked, is_for c me past s k level index pages asked, none_carried pages k level index)
 
-pub posted_to_one : PostedToOne
-posted_to_one c me s message bytes posted =
+pub outgoing_to_one : OutgoingToOne
+outgoing_to_one c me s message bytes posted =
     let w = (says_what_is_spelled bytes (record { sender = me; message = message })).0 posted.says in
     let is : frame_of bytes ≡ Some w.0 = (reads_frames bytes w.0).1 w.1 in
     (posted.says, ap (λ (o : Option Frame). option_map_or (λ (frame : Frame). receivers_of frame.authenticator) o []) is ∙ (posted.is_sealed w.0 is).1)
@@ -188,19 +188,19 @@ posted_to_one c me s message bytes posted =
 -- ---- what the replica owes
 
 -- an input has one body
-pub hears_one : (c : Configuration) (me : ℕ) (a b : Body) (past : List Entry) (e : Entry) → Hears c me a past e → Hears c me b past e → a ≡ b
+pub hears_one : (c : Configuration) (me : ℕ) (a b : Body) (past : List Entry) (e : Entry) → Receives c me a past e → Receives c me b past e → a ≡ b
 hears_one c me a b past (Got p bytes) h g = some_injective a b (sym h ∙ g)
 hears_one c me a b past _ h g = absurd h
 
 -- the answer to one fetch of an input answers each
-answers_each : (c : Configuration) (me : ℕ) (before : List Entry) (input : Entry) (outputs : List Entry) (old : Point) (s k index : ℕ) (level : Level) → Hears c me (record { sender = s; message = Fetch k level index }) before input
-    → ((st : State) → KeptState c me before old k (λ x. x ≡ st) → GivesTo me s (answer_of st k level index) outputs) → AnswersFetches c me before input outputs old
-answers_each c me before input outputs old s k index level hears gives s' k' index' level' hears' st =
-    subst (λ (x : ℕ). KeptState c me before old k' (λ y. y ≡ st) → GivesTo me x (answer_of st k' level' index') outputs) sender
-    (subst (λ (x : ℕ × (Level × ℕ)). KeptState c me before old x.0 (λ y. y ≡ st) → GivesTo me s (answer_of st x.0 x.1.0 x.1.1) outputs) place (gives st))
+answers_each : (c : Configuration) (me : ℕ) (before : List Entry) (input : Entry) (outputs : List Entry) (old : Point) (s k index : ℕ) (level : Level) → Receives c me (record { sender = s; message = Fetch k level index }) before input
+    → ((st : State) → KeptState c me before old k (λ x. x ≡ st) → SendsMessageTo me s (answer_of st k level index) outputs) → AnswersFetches c me before input outputs old
+answers_each c me before input outputs old s k index level receives gives s' k' index' level' receives' st =
+    subst (λ (x : ℕ). KeptState c me before old k' (λ y. y ≡ st) → SendsMessageTo me x (answer_of st k' level' index') outputs) sender
+    (subst (λ (x : ℕ × (Level × ℕ)). KeptState c me before old x.0 (λ y. y ≡ st) → SendsMessageTo me s (answer_of st x.0 x.1.0 x.1.1) outputs) place (gives st))
   where
     same : ◌≡◌ {A = Body} (record { sender = s; message = Fetch k level index }) (record { sender = s'; message = Fetch k' level' index' })
-    same = hears_one c me _ _ before input hears hears'
+    same = hears_one c me _ _ before input receives receives'
 
     sender : s ≡ s'
     sender = ap (λ (b : Body). b.sender) same
@@ -209,32 +209,32 @@ answers_each c me before input outputs old s k index level hears gives s' k' ind
     place = some_injective (k, (level, index)) (k', (level', index')) (ap place_from same)
 
 pub answers_suffice : AnswersSuffice
-answers_suffice c me before input outputs old s k index level pages leaves hears has given =
-    answers_each c me before input outputs old s k index level hears (λ st h. subst (λ (m : Message). GivesTo me s m outputs) (answer st h) given)
+answers_suffice c me before input outputs old s k index level pages leaves receives has given =
+    answers_each c me before input outputs old s k index level receives (λ st h. subst (λ (m : Message). SendsMessageTo me s m outputs) (answer st h) given)
   where
     answer : (st : State) → KeptState c me before old k (λ x. x ≡ st) → answer_by pages k level index ≡ answer_of st k level index
     answer st h =
         let x = kept c me before old k (λ st. pages_of st ≡ pages) has in
         let y = kept c me before old k (λ x. x ≡ st) h in
         let same : x.state ≡ st = same_kept c me before old k (λ st. pages_of st ≡ pages) (λ x. x ≡ st) leaves x y ∙ y.has in
-        ap (λ (xs : List (List ℕ)). answer_by xs k level index) (sym x.has ∙ ap pages_of same) ∙ answer_is st k level index (hears_within c me s k level index before input hears)
+        ap (λ (xs : List (List ℕ)). answer_by xs k level index) (sym x.has ∙ ap pages_of same) ∙ answer_is st k level index (hears_within c me s k level index before input receives)
 
 pub none_is_owed : NoneIsOwed
-none_is_owed c me before input outputs old s k index level hears none =
-    answers_each c me before input outputs old s k index level hears
+none_is_owed c me before input outputs old s k index level receives none =
+    answers_each c me before input outputs old s k index level receives
     (λ st h. absurd (none (has_weaker (λ x. (x.number ≡ k) × (x ≡ st)) (λ x. (x.number ≡ k) × ⊤) (λ x y. (y.0, tt)) (kept_states (low c me before) old.snapshots) h)))
 
 pub answers_stay : AnswersStay
-answers_stay c me before input e outputs old h s k index level hears st is = inr (h s k index level hears st is)
+answers_stay c me before input e outputs old h s k index level receives st is = inr (h s k index level receives st is)
 
 pub answers_turn : AnswersTurn
-answers_turn c me before input outputs old h s k index level hears st is = has_reversed (IsSayingTo me s (answer_of st k level index)) outputs (h s k index level hears st is)
+answers_turn c me before input outputs old h s k index level receives st is = has_reversed (IsSendingTo me s (answer_of st k level index)) outputs (h s k index level receives st is)
 
 pub answers_in_parts : AnswersInParts
-answers_in_parts c me before input outputs old h = (digests, λ s k index hears st is. h s k index levels.Page hears st is)
+answers_in_parts c me before input outputs old h = (digests, λ s k index receives st is. h s k index levels.Page receives st is)
   where
-    digests : (s k index : ℕ) (level : Level) → has_children level ≡ true → Hears c me (record { sender = s; message = Fetch k level index }) before input → (st : State) → KeptState c me before old k (λ x. x ≡ st)
-        → GivesTo me s (Meta k level index (digests_at st level index)) outputs
-    digests s k index levels.Root children hears st is = h s k index levels.Root hears st is
-    digests s k index levels.Inner children hears st is = h s k index levels.Inner hears st is
-    digests s k index levels.Page children hears st is = absurd cc
+    digests : (s k index : ℕ) (level : Level) → has_children level ≡ true → Receives c me (record { sender = s; message = Fetch k level index }) before input → (st : State) → KeptState c me before old k (λ x. x ≡ st)
+        → SendsMessageTo me s (Meta k level index (digests_at st level index)) outputs
+    digests s k index levels.Root children receives st is = h s k index levels.Root receives st is
+    digests s k index levels.Inner children receives st is = h s k index levels.Inner receives st is
+    digests s k index levels.Page children receives st is = absurd cc

@@ -14,9 +14,9 @@ use Rattle.protocol.specs.System.Configuration.{Configuration, replicas, is_numb
 use Rattle.protocol.specs.System.Trace.{Entry, Has}
 use Rattle.protocol.specs.System.Trace.Entry.{Sent}
 use Rattle.protocol.specs.Replica.Selection.{is_quorum}
-use Rattle.protocol.specs.Replica.Certificates.{checkpoint_from, checkpoint_in, insert_checkpoint, with_checkpoint, checkpoints_of, says_checkpoint, count_checkpoints, taken}
+use Rattle.protocol.specs.Replica.Certificates.{checkpoint_from, checkpoint_in, insert_checkpoint, with_checkpoint, checkpoints_of, lists_checkpoint, count_checkpoints, taken}
 use Rattle.protocol.specs.Replica.Transfers.{fetch_sent, fetching}
-use Rattle.protocol.specs.Replica.Owed.{IsSaying, SendsMessage, StartsAhead, has_number}
+use Rattle.protocol.specs.Replica.Owed.{IsSending, SendsMessage, StartsAhead, has_number}
 use Rattle.protocol.proofs.Agreement.Checkpoints.{known_checkpoint}
 use Rattle.protocol.proofs.Words.Options.{then_some_gives}
 use Rattle.protocol.proofs.Words.Elements.{has_of_any}
@@ -71,19 +71,19 @@ any_with test s (Some x) ms not h = go (x.0 == s) h
 -- ---- quorums
 
 -- if each sender says it no more than before
-quorum_was : (c : Configuration) (past : List Entry) (e : Entry) (checkpoint : CheckpointEntry) → ((s : ℕ) → says_checkpoint checkpoint (checkpoints_of c (e ∷ past) s) ≡ true → says_checkpoint checkpoint (checkpoints_of c past s) ≡ true)
+quorum_was : (c : Configuration) (past : List Entry) (e : Entry) (checkpoint : CheckpointEntry) → ((s : ℕ) → lists_checkpoint checkpoint (checkpoints_of c (e ∷ past) s) ≡ true → lists_checkpoint checkpoint (checkpoints_of c past s) ≡ true)
     → is_quorum c (count_checkpoints c (e ∷ past) checkpoint) ≡ true → is_quorum c (count_checkpoints c past checkpoint) ≡ true
 quorum_was c past e checkpoint less h =
-    let fewer = count_mono (λ s. says_checkpoint checkpoint (checkpoints_of c (e ∷ past) s)) (λ s. says_checkpoint checkpoint (checkpoints_of c past s)) (replicas c) (λ s l. less s) in
+    let fewer = count_mono (λ s. lists_checkpoint checkpoint (checkpoints_of c (e ∷ past) s)) (λ s. lists_checkpoint checkpoint (checkpoints_of c past s)) (replicas c) (λ s l. less s) in
     let least = leb-true (2 * c.faults + 1) (count_checkpoints c (e ∷ past) checkpoint) h in
     le-leb (2 * c.faults + 1) (count_checkpoints c past checkpoint) (omega arith)
 
 -- a checkpoint that says it has its number
-number_said : (checkpoint : CheckpointEntry) (ms : List CheckpointEntry) → says_checkpoint checkpoint ms ≡ true → has_number checkpoint.number ms ≡ true
+number_said : (checkpoint : CheckpointEntry) (ms : List CheckpointEntry) → lists_checkpoint checkpoint ms ≡ true → has_number checkpoint.number ms ≡ true
 number_said checkpoint [] h = absurd cc
-number_said checkpoint (m ∷ ms) h = go (or_cases (is_checkpoint checkpoint m) (says_checkpoint checkpoint ms) h) (number_said checkpoint ms)
+number_said checkpoint (m ∷ ms) h = go (or_cases (is_checkpoint checkpoint m) (lists_checkpoint checkpoint ms) h) (number_said checkpoint ms)
   where
-    go : (is_checkpoint checkpoint m ≡ true) ⊎ (says_checkpoint checkpoint ms ≡ true) → (says_checkpoint checkpoint ms ≡ true → has_number checkpoint.number ms ≡ true) → ((m.number == checkpoint.number) || has_number checkpoint.number ms) ≡ true
+    go : (is_checkpoint checkpoint m ≡ true) ⊎ (lists_checkpoint checkpoint ms ≡ true) → (lists_checkpoint checkpoint ms ≡ true → has_number checkpoint.number ms ≡ true) → ((m.number == checkpoint.number) || has_number checkpoint.number ms) ≡ true
     go (inl k) more = or_left (m.number == checkpoint.number) (has_number checkpoint.number ms) (and_parts (m.number == checkpoint.number) (bytes_eq m.digest checkpoint.digest) k).0
     go (inr k) more = or_right (m.number == checkpoint.number) (has_number checkpoint.number ms) (more k)
 
@@ -92,7 +92,7 @@ module _ (c : Configuration) (past : List Entry) (e : Entry) (k : ℕ) (root : L
   checkpoint = record { number = k; digest = root }
 
   abbrev Less : ℕ → Type 0
-  Less s = says_checkpoint checkpoint (checkpoints_of c (e ∷ past) s) ≡ true → says_checkpoint checkpoint (checkpoints_of c past s) ≡ true
+  Less s = lists_checkpoint checkpoint (checkpoints_of c (e ∷ past) s) ≡ true → lists_checkpoint checkpoint (checkpoints_of c past s) ≡ true
 
   -- another checkpoint makes no quorum of this one
   others : ((x : ℕ × CheckpointEntry) → checkpoint_in c e ≡ Some x → is_checkpoint checkpoint x.1 ≡ false) → (s : ℕ) → Less s
@@ -109,7 +109,7 @@ module _ (c : Configuration) (past : List Entry) (e : Entry) (k : ℕ) (root : L
 
       go : (b : Bool) → (sender == s) ≡ b → Less s
       go true same = subst Less (eqb-true sender s same) own
-      go false other = λ t. sym (ap (says_checkpoint checkpoint) (with_it ∙ ap (λ (b : Bool). cond b (take 3 (insert_checkpoint checkpoint (checkpoints_of c past s))) (checkpoints_of c past s)) other)) ∙ t
+      go false other = λ t. sym (ap (lists_checkpoint checkpoint) (with_it ∙ ap (λ (b : Bool). cond b (take 3 (insert_checkpoint checkpoint (checkpoints_of c past s))) (checkpoints_of c past s)) other)) ∙ t
 
   -- so it counts
   grows : HasQuorum c past k root ⊎ BringsRoot c past e k root
@@ -123,7 +123,7 @@ module _ (c : Configuration) (past : List Entry) (e : Entry) (k : ℕ) (root : L
           → HasQuorum c past k root ⊎ BringsRoot c past e k root
       counts sender is true kept f g =
           let same = known_checkpoint c sender checkpoint e past is (has_of_any (λ (m : CheckpointEntry). m.number ≡ k) (λ m. m.number == k) (λ m t. eqb-true m.number k t) (checkpoints_of c past sender) f) in
-          inl (was (unmoved sender is (λ t. sym (ap (says_checkpoint checkpoint) same) ∙ t)))
+          inl (was (unmoved sender is (λ t. sym (ap (lists_checkpoint checkpoint) same) ∙ t)))
       counts sender is false false f g = inl (was (unmoved sender is (λ t. absurd (let bad : false ≡ true = sym g ∙ number_said checkpoint (checkpoints_of c (e ∷ past) sender) t in cc))))
       counts sender is false true f g = inr (record { sender = sender; brings = is; first = f; kept = g })
 
@@ -150,8 +150,8 @@ quorums_grow c past e k root h = grows c past e k root h
 pub counts_stay : CountsStay
 unfolding checkpoints_of
 counts_stay c past e checkpoint none =
-    count_same (λ s. says_checkpoint checkpoint (checkpoints_of c (e ∷ past) s)) (λ s. says_checkpoint checkpoint (checkpoints_of c past s))
-    (λ s. ap (λ (o : Option (ℕ × CheckpointEntry)). says_checkpoint checkpoint (with_checkpoint s o (checkpoints_of c past s))) none) (replicas c)
+    count_same (λ s. lists_checkpoint checkpoint (checkpoints_of c (e ∷ past) s)) (λ s. lists_checkpoint checkpoint (checkpoints_of c past s))
+    (λ s. ap (λ (o : Option (ℕ × CheckpointEntry)). lists_checkpoint checkpoint (with_checkpoint s o (checkpoints_of c past s))) none) (replicas c)
 
 any_filtered : (test f : CheckpointEntry → Bool) → ((m : CheckpointEntry) → test m ≡ true → f m ≡ true) → (ms : List CheckpointEntry) → list_any test (filter f ms) ≡ list_any test ms
 any_filtered test f passes [] = refl
@@ -219,7 +219,7 @@ quorums_begin c me s number due was new starts k root h above = all h
 pub quorums_go_on : QuorumsGoOn
 quorums_go_on c me s number later due rest outputs e grows low starts paid f k root h above = all h
   where
-    due_now : Has (λ x. x ≡ Fetch k levels.Root 0) rest ⊎ IsSaying me (Fetch k levels.Root 0) e → IsOnItsWay me rest (e ∷ outputs) (Fetch k levels.Root 0)
+    due_now : Has (λ x. x ≡ Fetch k levels.Root 0) rest ⊎ IsSending me (Fetch k levels.Root 0) e → IsOnItsWay me rest (e ∷ outputs) (Fetch k levels.Root 0)
     due_now (inl d) = inl d
     due_now (inr g) = inr (inl g)
 
@@ -242,7 +242,7 @@ fetching_grows [] past = omega arith
 fetching_grows (e ∷ outputs) past = let l = fetching_grows outputs past in omega arith
 
 -- the number of a fetch that the replica sends
-pub says_number : (me k : ℕ) (e : Entry) → IsSaying me (Fetch k levels.Root 0) e → fetch_sent e ≡ k
+pub says_number : (me k : ℕ) (e : Entry) → IsSending me (Fetch k levels.Root 0) e → fetch_sent e ≡ k
 says_number me k (Sent p bytes) h = ap (λ (o : Option Body). option_map_or number_of o 0) h
 says_number me k _ h = absurd h
 

@@ -1,4 +1,4 @@
--- The place that a transfer asks for next is the first part that differs from what is in place.
+-- The place that a transfer asks for next is the first part that differs from the state in place.
 use Rattle.std.proofs.Common.{◌≡◌, ◌≢◌, ℕ, zero, suc, ◌+◌, ◌*◌, ◌/◌, ◌%◌, ◌<◌, ◌⊎◌, inl, inr, Bool, true, false, List, [], ◌∷◌, length, map, get_or, refl, sym, ap, ◌∙◌, subst, arith, Option, Some, None}
 use Rattle.std.specs.Prelude.{bytes_eq}
 use Rattle.std.specs.Bool.{then_some}
@@ -15,7 +15,7 @@ use Rattle.terms.specs.declared.state.Level.TheVariants as levels
 use Rattle.partition_tree.specs.Digests.{digest_of_children, page_digests, inner_digest, inner_digests, root_of as root_of_pages}
 use Rattle.wire_format.specs.Messages.{meta as Meta}
 use Rattle.protocol.specs.System.Configuration.{Configuration}
-use Rattle.protocol.specs.System.Trace.{Entry, Once, Hears}
+use Rattle.protocol.specs.System.Trace.{Entry, Once, Receives}
 use Rattle.protocol.specs.System.Trace.Entry.{Got}
 use Rattle.protocol.specs.Replica.State.{State, page_text, all_pages}
 use Rattle.protocol.specs.Replica.Transfers.{GotBelow, NoneAsked, IsFirstToDiffer, DiffersFirst, IsNextPart, in_place}
@@ -66,11 +66,11 @@ first_difference (suc n) (x ∷ xs) (y ∷ ys) a b other = go (cases_Bool (bytes
 -- ---- received digests
 
 -- are those of 32 children
-heard_full : (c : Configuration) (me s n index : ℕ) (level : Level) (digests : List (List ℕ)) (e : Entry) (past : List Entry) → Hears c me (record { sender = s; message = Meta n level index digests }) past e → length digests ≡ 32
+heard_full : (c : Configuration) (me s n index : ℕ) (level : Level) (digests : List (List ℕ)) (e : Entry) (past : List Entry) → Receives c me (record { sender = s; message = Meta n level index digests }) past e → length digests ≡ 32
 heard_full c me s n index level digests (Got p bytes) past h = (heard_valid c me bytes (record { sender = s; message = Meta n level index digests }) h).3
 heard_full c me s n index level digests _ past h = absurd h
 
-once_full : (c : Configuration) (me s n index : ℕ) (level : Level) (digests : List (List ℕ)) (past : List Entry) → Once (Hears c me (record { sender = s; message = Meta n level index digests })) past → length digests ≡ 32
+once_full : (c : Configuration) (me s n index : ℕ) (level : Level) (digests : List (List ℕ)) (past : List Entry) → Once (Receives c me (record { sender = s; message = Meta n level index digests })) past → length digests ≡ 32
 once_full c me s n index level digests [] h = absurd h
 once_full c me s n index level digests (e ∷ past) (inl h) = heard_full c me s n index level digests e past h
 once_full c me s n index level digests (e ∷ past) (inr h) = once_full c me s n index level digests past h
@@ -120,7 +120,7 @@ module _ (c : Configuration) (me : ℕ) (t : TransferData) (st : State) (history
   unfolding inner_digests
   full_parts = length-map-range_with_len (inner_digest t.held) 0 32
 
-  -- a first difference of lists is one from what is in place
+  -- a first difference of lists is one from the state in place
   abbrev to_differ : (wanted held : List (List ℕ)) (now : ℕ → List ℕ) → length wanted ≡ 32 → ((k : ℕ) → k < 32 → get_or held k [] ≡ now k) → (d : Difference 32 wanted held) → IsFirstToDiffer wanted now d.at
   to_differ wanted held now full is d = record {
     before = λ k l. let m = d.within in slice_get-get_or wanted k [] (omega arith) ∙ ap Some (d.before k l ∙ is k (omega arith));

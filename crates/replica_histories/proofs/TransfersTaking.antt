@@ -10,7 +10,7 @@ use Rattle.terms.specs.declared.state.Level.{Level}
 use Rattle.terms.specs.declared.state.Level.TheVariants as levels
 use Rattle.wire_format.specs.Messages.{BodyData as Body, MessageData as Message, fetch as Fetch, meta as Meta, page as Page}
 use Rattle.wire_format.specs.Words.{said}
-use Rattle.signing.specs.Heard.{heard}
+use Rattle.signing.specs.AuthenticBody.{authentic}
 use Rattle.protocol.specs.System.Configuration.{Configuration, members}
 use Rattle.protocol.specs.System.Trace.{Entry}
 use Rattle.protocol.specs.System.Trace.Entry.{Invoke, Got, Tick, Executed, Installed, Sent, Accepted}
@@ -49,7 +49,7 @@ pub newer_takes_nothing : (c : Configuration) (me k i : ℕ) (past : List Entry)
 unfolding took
 newer_takes_nothing c me k i [] l = refl
 newer_takes_nothing c me k i (Got p bytes ∷ past) l =
-    Taken.others_are_left c me k i past bytes (λ sender text hears asked. let least = asked_at_most past k (levels.Page, i) asked in absurd (omega arith))
+    Taken.others_are_left c me k i past bytes (λ sender text receives asked. let least = asked_at_most past k (levels.Page, i) asked in absurd (omega arith))
 newer_takes_nothing c me k i (Tick p ∷ past) l = refl
 newer_takes_nothing c me k i (Sent p bytes ∷ past) l = go (number_asked bytes) (newer_takes_nothing c me k i past (omega arith))
   where
@@ -109,7 +109,7 @@ rested_taken c me next pages old new history r h i l =
 -- ---- inputs
 
 -- the page that was asked for last
-pub page_taken : (c : Configuration) (me sender index : ℕ) (t : TransferData) (past : List Entry) (bytes text : List ℕ) → heard (members c) me bytes ≡ Some (record { sender = sender; message = Page t.number index text })
+pub page_taken : (c : Configuration) (me sender index : ℕ) (t : TransferData) (past : List Entry) (bytes text : List ℕ) → authentic (members c) me bytes ≡ Some (record { sender = sender; message = Page t.number index text })
     → asked_last past ≡ Some (t.number, (levels.Page, index)) → length t.held ≡ 1024 → length t.fetched ≡ 1024 → index < 1024 → AreTaken c me None t past → AreTaken c me (Some t.number) (with_page t index text) (Got me bytes ∷ past)
 page_taken c me sender index t past bytes text says asked long known within h i l = at (i == index) refl
   where
@@ -128,7 +128,7 @@ page_taken c me sender index t past bytes text says asked long known within h i 
     at true e = subst (λ (j : ℕ). took c me (Some t.number) (Got me bytes ∷ past) j ≡ then_some (is_fetched (with_page t index text) j) (page_held (with_page t index text) j)) (sym (eqb-true i index e)) here
     at false e =
         let other : i ≢ index = eqb-false i index e in
-        Taken.others_are_left c me t.number i past bytes (λ s x hears place. other (same_place (sym place ∙ asked)))
+        Taken.others_are_left c me t.number i past bytes (λ s x receives place. other (same_place (sym place ∙ asked)))
         ∙ h i l
         ∙ sym (ap₂ (λ (b : Bool) (x : List ℕ). then_some b x) (get_or-set_other t.fetched index i true false other) (get_or-set_other t.held index i text [] other))
       where
@@ -137,8 +137,8 @@ page_taken c me sender index t past bytes text says asked long known within h i 
 
 -- digests are no page
 pub meta_taken : (c : Configuration) (me k s n index : ℕ) (level : Level) (digests : List (List ℕ)) (t : TransferData) (past : List Entry) (bytes : List ℕ)
-    → heard (members c) me bytes ≡ Some (record { sender = s; message = Meta n level index digests }) → AreTaken c me None t past → AreTaken c me (Some k) t (Got me bytes ∷ past)
-meta_taken c me k s n index level digests t past bytes says h i l = Taken.others_are_left c me k i past bytes (λ sender text hears asked. absurd (other sender text (some_injective _ _ (sym says ∙ hears)))) ∙ h i l
+    → authentic (members c) me bytes ≡ Some (record { sender = s; message = Meta n level index digests }) → AreTaken c me None t past → AreTaken c me (Some k) t (Got me bytes ∷ past)
+meta_taken c me k s n index level digests t past bytes says h i l = Taken.others_are_left c me k i past bytes (λ sender text receives asked. absurd (other sender text (some_injective _ _ (sym says ∙ receives)))) ∙ h i l
   where
     IsMeta : Message → Type 0
     IsMeta m = elim m [ Meta number level index digests ↦ ⊤ | _ ↦ ⊥ ]

@@ -7,11 +7,11 @@ use Rattle.terms.specs.declared.state.Level.{Level}
 use Rattle.wire_format.specs.Messages.{MessageData as Message, fetch as Fetch}
 use Rattle.ordering.specs.Log.{LogData}
 use Rattle.protocol.specs.System.Configuration.{Configuration}
-use Rattle.protocol.specs.System.Frames.{IsPosted}
-use Rattle.protocol.specs.System.Trace.{Entry, Once, Has, Hears}
+use Rattle.protocol.specs.System.Frames.{IsOutgoing}
+use Rattle.protocol.specs.System.Trace.{Entry, Once, Has, Receives}
 use Rattle.protocol.specs.System.Trace.Entry.{Sent}
 use Rattle.protocol.specs.Replica.RightReplica.{WasAsked}
-use Rattle.protocol.specs.Replica.Owed.{SendsMessage, GivesTo, Counts}
+use Rattle.protocol.specs.Replica.Owed.{SendsMessage, SendsMessageTo, Counts}
 use Rattle.replica_histories.specs.Desk.{Desk, Snapshot}
 use Rattle.replica_histories.specs.TransfersAnswers.{answer_by}
 use Rattle.replica_histories.specs.Questions.{AnswersInput, read_from, read_reply}
@@ -25,7 +25,7 @@ PartsFit =
     → Has (λ x. x ≡ snapshot) desk.snapshots
     → WasAsked c me (after_outputs s outputs) asker snapshot.number level index
     → (SendsMessage me (answer_by snapshot.pages snapshot.number level index) outputs → ⊥)
-    → IsPosted c me (answer_by snapshot.pages snapshot.number level index) (asker ∷ []) bytes
+    → IsOutgoing c me (answer_by snapshot.pages snapshot.number level index) (asker ∷ []) bytes
     → BothFitWithinEvent c me s desk log due outputs → BothFitWithinEvent c me s desk log due (Sent me bytes ∷ outputs)
 
 -- A fetch of a kept snapshot's number counts.
@@ -43,15 +43,15 @@ PartsSuffice =
     (outputs : List Entry) (snapshot : Snapshot) (asker index executed : ℕ) (level : Level)
     (held : BothFitBetweenEvents c me desk log past)
     → Has (λ x. x ≡ snapshot) desk.snapshots
-    → Hears c me (record { sender = asker; message = Fetch snapshot.number level index }) past input
-    → GivesTo me asker (answer_by snapshot.pages snapshot.number level index) outputs
+    → Receives c me (record { sender = asker; message = Fetch snapshot.number level index }) past input
+    → SendsMessageTo me asker (answer_by snapshot.pages snapshot.number level index) outputs
     → AnswersInput c me past input outputs held.of_desk.point executed
 
 abbrev pub OtherNumbersOweNone : Type 0
 OtherNumbersOweNone =
     (c : Configuration) (me : ℕ) (desk : Desk) (log : LogData) (past : List Entry) (input : Entry)
     (outputs : List Entry) (asker k index executed : ℕ) (level : Level) (held : BothFitBetweenEvents c me desk log past)
-    → Hears c me (record { sender = asker; message = Fetch k level index }) past input
+    → Receives c me (record { sender = asker; message = Fetch k level index }) past input
     → (Has (λ x. x.number ≡ k) desk.snapshots → ⊥)
     → AnswersInput c me past input outputs held.of_desk.point executed
 
@@ -60,9 +60,9 @@ abbrev pub ReadsFit : Type 0
 ReadsFit =
     (c : Configuration) (me : ℕ) (s : Start) (desk : Desk) (log : LogData) (due : List Message) (outputs : List Entry)
     (client timestamp : ℕ) (op : Operation) (bytes : List ℕ)
-    → Once (Hears c me (read_from client timestamp op)) (after_outputs s outputs) → is_read_only op ≡ true
+    → Once (Receives c me (read_from client timestamp op)) (after_outputs s outputs) → is_read_only op ≡ true
     → (SendsMessage me (read_reply desk.state client timestamp op) outputs → ⊥)
-    → IsPosted c me (read_reply desk.state client timestamp op) (client ∷ []) bytes
+    → IsOutgoing c me (read_reply desk.state client timestamp op) (client ∷ []) bytes
     → BothFitWithinEvent c me s desk log due outputs → BothFitWithinEvent c me s desk log due (Sent me bytes ∷ outputs)
 
 -- If the replica sends it, it owes nothing more to the read. It owes nothing to an operation that is no read.
@@ -71,7 +71,7 @@ ReadsSuffice =
     (c : Configuration) (me : ℕ) (desk : Desk) (log : LogData) (past : List Entry) (input : Entry)
     (outputs : List Entry) (client timestamp executed : ℕ) (op : Operation)
     (held : BothFitBetweenEvents c me desk log past)
-    → Hears c me (read_from client timestamp op) past input
+    → Receives c me (read_from client timestamp op) past input
     → SendsMessage me (read_reply desk.state client timestamp op) outputs
     → AnswersInput c me past input outputs held.of_desk.point executed
 
@@ -80,5 +80,5 @@ OtherOperationsOweNone =
     (c : Configuration) (me : ℕ) (desk : Desk) (log : LogData) (past : List Entry) (input : Entry)
     (outputs : List Entry) (client timestamp executed : ℕ) (op : Operation)
     (held : BothFitBetweenEvents c me desk log past)
-    → Hears c me (read_from client timestamp op) past input → is_read_only op ≡ false
+    → Receives c me (read_from client timestamp op) past input → is_read_only op ≡ false
     → AnswersInput c me past input outputs held.of_desk.point executed

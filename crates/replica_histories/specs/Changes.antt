@@ -5,11 +5,11 @@ use Rattle.wire_format.specs.Messages.{BodyData as Body, MessageData as Message,
 use Rattle.wire_format.specs.Spelling.{is_signed}
 use Rattle.wire_format.specs.Words.{said}
 use Rattle.wire_format.specs.Lists.{Each}
-use Rattle.signing.specs.Heard.{heard}
+use Rattle.signing.specs.AuthenticBody.{authentic}
 use Rattle.ordering.specs.Log as logs
 use Rattle.ordering.specs.Log.{LogData}
 use Rattle.protocol.specs.System.Configuration.{Configuration, primary, replicas, is_number, members, span}
-use Rattle.protocol.specs.System.Frames.{IsPosted, leaf_of}
+use Rattle.protocol.specs.System.Frames.{IsOutgoing, leaf_of}
 use Rattle.protocol.specs.System.Trace.{Entry, Once}
 use Rattle.protocol.specs.System.Trace.Entry.{Got, Sent, Executed, Installed, Tick}
 use Rattle.protocol.specs.Replica.Selection.{signed_change}
@@ -78,7 +78,7 @@ pub record HasOwnChange (c : Configuration) (me : ℕ) (x : Changes) (history : 
   pub held : held_of x.held me ≡ Some own
   pub view : own.change.view ≡ x.target
   pub sent : SentBefore own.frame history
-  pub posted : IsPosted c me (ViewChange own.change) [] own.frame
+  pub posted : IsOutgoing c me (ViewChange own.change) [] own.frame
 
 -- the replica sent this frame of its own new view of the view
 pub record IsOwnView (c : Configuration) (me v : ℕ) (history : List Entry) (frame : List ℕ) : Type 0 where
@@ -86,7 +86,7 @@ pub record IsOwnView (c : Configuration) (me v : ℕ) (history : List Entry) (fr
   pub view : new.view ≡ v
   pub primary : primary c new.view ≡ me
   pub sent : SentBefore frame history
-  pub posted : IsPosted c me (NewView new) [] frame
+  pub posted : IsOutgoing c me (NewView new) [] frame
 
 -- a new view began the view, with batches up to the number
 abbrev pub IsBegunUpTo : Configuration → ℕ → ℕ → List Entry → Type 0
@@ -201,10 +201,10 @@ abbrev pub IsNoBatch : Option Body → Type 0
 IsNoBatch None = ⊤
 IsNoBatch (Some body) = elim body.message [ PrePrepare v i batch ↦ ⊥ | _ ↦ ⊤ ]
 
-abbrev pub HeardKeep : Type 0
-HeardKeep =
+abbrev pub ReceivedKeep : Type 0
+ReceivedKeep =
     (c : Configuration) (me : ℕ) (past : List Entry) (bytes : List ℕ)
-    → taken c past (Got me bytes) ≡ None → IsNoBatch (heard (members c) me bytes)
+    → taken c past (Got me bytes) ≡ None → IsNoBatch (authentic (members c) me bytes)
     → ((s : ℕ) → s ≢ me → latest_change c (Got me bytes ∷ past) s ≡ latest_change c past s)
     → KeepsChanges c me past (Got me bytes)
 
@@ -216,20 +216,20 @@ IsNoChange (Some body) = elim body.message [ ViewChange vc ↦ ⊥ | _ ↦ ⊤ ]
 abbrev pub OthersBringNone : Type 0
 OthersBringNone =
     (c : Configuration) (me s : ℕ) (past : List Entry) (bytes : List ℕ)
-    → IsNoChange (heard (members c) me bytes) → s ≢ me
+    → IsNoChange (authentic (members c) me bytes) → s ≢ me
     → latest_change c (Got me bytes ∷ past) s ≡ latest_change c past s
 
 -- The sender of a received view change signed it, and is another replica. The replica signs its own ones.
-abbrev pub HeardAreSigned : Type 0
-HeardAreSigned =
+abbrev pub ReceivedAreSigned : Type 0
+ReceivedAreSigned =
     (c : Configuration) (me s : ℕ) (vc : ViewChangeData) (bytes : List ℕ)
-    → heard (members c) me bytes ≡ Some (record { sender = s; message = ViewChange vc })
+    → authentic (members c) me bytes ≡ Some (record { sender = s; message = ViewChange vc })
     → (signed_change c bytes ≡ Some (s, vc)) × (s ≢ me) × (s < replicas c)
 
 abbrev pub OwnAreSigned : Type 0
 OwnAreSigned =
     (c : Configuration) (me : ℕ) (vc : ViewChangeData) (bytes : List ℕ)
-    → me < replicas c → IsPosted c me (ViewChange vc) [] bytes → signed_change c bytes ≡ Some (me, vc)
+    → me < replicas c → IsOutgoing c me (ViewChange vc) [] bytes → signed_change c bytes ≡ Some (me, vc)
 
 -- ---- claims
 
@@ -343,7 +343,7 @@ abbrev pub ChangesAreSent : Type 0
 ChangesAreSent =
     (c : Configuration) (me spent : ℕ) (past : List Entry) (log : LogData) (x : Changes) (own : HeldData)
     → LogPassesEntry c me past (Sent me own.frame) log (logs.left log) → me < replicas c → own.sender ≡ me
-    → IsPosted c me (ViewChange own.change) [] own.frame → target past < own.change.view
+    → IsOutgoing c me (ViewChange own.change) [] own.frame → target past < own.change.view
     → SpendsLeaves x.spent spent past (Sent me own.frame) → FitsChanges c me log x past
     → FitsChanges c me (logs.left log)
     (record x { target = own.change.view; held = with_held own x.held; spent = spent }) (Sent me own.frame ∷ past)
@@ -354,7 +354,7 @@ ChangesAreTaken =
     (c : Configuration) (me : ℕ) (past : List Entry) (log : LogData) (x : Changes) (s : ℕ) (vc : ViewChangeData)
     (bytes : List ℕ)
     → LogPassesEntry c me past (Got me bytes) log log
-    → heard (members c) me bytes ≡ Some (record { sender = s; message = ViewChange vc })
+    → authentic (members c) me bytes ≡ Some (record { sender = s; message = ViewChange vc })
     → view_change_refusal c log.view x.held (s, vc) ≡ None → FitsChanges c me log x past
     → FitsChanges c me log (record x {
       held = with_held (record { sender = s; change = vc; frame = bytes }) x.held;
@@ -364,7 +364,7 @@ ChangesAreTaken =
 abbrev pub IsOwnFrame : Configuration → ℕ → Entry → NewViewData → Option (List ℕ) → Type 0
 IsOwnFrame c me e new None = primary c new.view ≢ me
 IsOwnFrame c me e new (Some frame) =
-    (e ≡ Sent me frame) × (primary c new.view ≡ me) × IsPosted c me (NewView new) [] frame
+    (e ≡ Sent me frame) × (primary c new.view ≡ me) × IsOutgoing c me (NewView new) [] frame
 
 -- A new view that the replica takes or sends begins its view.
 abbrev pub ViewsAreBegun : Type 0

@@ -16,8 +16,8 @@ use Rattle.claims.specs.Recording.{with_prepared, with_logged, with_all, above_m
 use Rattle.replica_histories.specs.Logs.{FitsLog}
 
 -- the replica's own commit in the view, at the number, is of this digest
-abbrev pub SaidCommit : Configuration → ℕ → List Entry → ℕ → ℕ → List ℕ → Type 0
-SaidCommit c me history v i digest = commit_of c me history v i me ≡ Some digest
+abbrev pub SentCommit : Configuration → ℕ → List Entry → ℕ → ℕ → List ℕ → Type 0
+SentCommit c me history v i digest = commit_of c me history v i me ≡ Some digest
 
 -- the text was logged
 abbrev pub WasLogged : Configuration → ℕ → List Entry → List ℕ → Type 0
@@ -26,7 +26,7 @@ WasLogged c me history text = (v : ℕ) × (i : ℕ) × (logged c me history v i
 -- For each number within the marks the claims have the latest own commit, and each logged batch with its latest view.
 -- The stored texts were logged.
 pub record FitsClaims (c : Configuration) (me : ℕ) (history : List Entry) (claims : ClaimsData) : Type 0 where
-  pub prepared : IsLatest (SaidCommit c me history) (is_in_marks c (low c me history)) claims.prepared
+  pub prepared : IsLatest (SentCommit c me history) (is_in_marks c (low c me history)) claims.prepared
   pub logged : RecordsLogged c me history claims.logged
   pub texts : Each (WasLogged c me history) claims.texts
 
@@ -47,7 +47,7 @@ ClaimsGrow =
     (c : Configuration) (me : ℕ) (log : LogData) (past : List Entry) (e : Entry) (old new : Point)
     (claims after : ClaimsData) (commits batches : List Claim)
     → FitsLog c me log past → HistoryReaches c me past old → HistoryReaches c me (e ∷ past) new
-    → AddsClaims (SaidCommit c me past) (SaidCommit c me (e ∷ past)) (is_in_marks c (low c me (e ∷ past))) commits
+    → AddsClaims (SentCommit c me past) (SentCommit c me (e ∷ past)) (is_in_marks c (low c me (e ∷ past))) commits
     → AddsClaims (IsLoggedAs c me past) (IsLoggedAs c me (e ∷ past)) (is_in_marks c (low c me (e ∷ past))) batches
     → ClaimsGrowByEntry claims after (low c me (e ∷ past)) commits batches
     → ((text : List ℕ) → Has (λ x. x ≡ text) after.texts
@@ -75,7 +75,7 @@ abbrev pub NoCommitAdds : Type 0
 NoCommitAdds =
     (c : Configuration) (me : ℕ) (past : List Entry) (e : Entry)
     → ((v i : ℕ) → commit_of c me (e ∷ past) v i me ≡ commit_of c me past v i me)
-    → AddsClaims (SaidCommit c me past) (SaidCommit c me (e ∷ past)) (is_in_marks c (low c me (e ∷ past))) []
+    → AddsClaims (SentCommit c me past) (SentCommit c me (e ∷ past)) (is_in_marks c (low c me (e ∷ past))) []
 
 -- An entry with one batch adds its claim, and so does one with an own commit.
 abbrev pub BatchAdds : Type 0
@@ -91,7 +91,7 @@ CommitAdds =
     (c : Configuration) (me : ℕ) (past : List Entry) (e : Entry) (v i : ℕ) (digest : List ℕ)
     → is_in_marks c (low c me (e ∷ past)) i ≡ true → commit_of c me (e ∷ past) v i me ≡ Some digest
     → ((w j : ℕ) → (w ≢ v) ⊎ (j ≢ i) → commit_of c me (e ∷ past) w j me ≡ commit_of c me past w j me)
-    → AddsClaims (SaidCommit c me past) (SaidCommit c me (e ∷ past)) (is_in_marks c (low c me (e ∷ past)))
+    → AddsClaims (SentCommit c me past) (SentCommit c me (e ∷ past)) (is_in_marks c (low c me (e ∷ past)))
     (record { number = i; digest = digest; view = v } ∷ [])
 
 -- The requests of a logged batch were seen, in the message that brought it.

@@ -6,12 +6,12 @@ use Rattle.terms.specs.declared.order.Mode.TheVariants as modes
 use Rattle.terms.specs.declared.state.Level.{Level}
 use Rattle.terms.specs.declared.state.Level.TheVariants as levels
 use Rattle.wire_format.specs.Messages.{BodyData as Body, MessageData as Message, NewViewData, request as Request, reply as Reply, checkpoint as Checkpoint, fetch as Fetch}
-use Rattle.signing.specs.Heard.{heard}
+use Rattle.signing.specs.AuthenticBody.{authentic}
 use Rattle.reply_cache.specs.Replies.{Kept}
 use Rattle.ordering.specs.Log as logs
 use Rattle.ordering.specs.Log.{LogData}
 use Rattle.protocol.specs.System.Configuration.{Configuration, is_number, members}
-use Rattle.protocol.specs.System.Trace.{Entry, Once, Has, is_output, Hears}
+use Rattle.protocol.specs.System.Trace.{Entry, Once, Has, is_output, Receives}
 use Rattle.protocol.specs.System.Trace.Entry.{Got, Tick}
 use Rattle.protocol.specs.Replica.Certificates.{low, Committed}
 use Rattle.protocol.specs.Replica.State.{State, Call, Ran, kept_of, last_time, root_of}
@@ -31,33 +31,33 @@ pub use Rattle.replica_histories.specs.Running.{Start, after_outputs, Steps, AtE
 abbrev pub IsRepeatedRequest : Configuration → ℕ → Start → ℕ → Kept → Type 0
 IsRepeatedRequest c me s k kept =
     (timestamp : ℕ) × (op : Operation)
-    × Hears c me (record { sender = client_party k; message = Request timestamp modes.Ordered op }) s.before s.input
+    × Receives c me (record { sender = client_party k; message = Request timestamp modes.Ordered op }) s.before s.input
     × (kept_of s.old.state k ≡ Some kept) × (kept.timestamp ≡ timestamp)
 
 -- A due message may be sent. It is a reply to a request that ran in the event, or the kept reply to the event's input.
 -- Or it is a checkpoint of an executed state, or a fetch of a state that may be installed.
-abbrev pub MaySayDue : Configuration → ℕ → List Entry → Point → Message → Type 0
-MaySayDue c me past point (Reply client timestamp modes.Ordered number answer) =
+abbrev pub MaySendDue : Configuration → ℕ → List Entry → Point → Message → Type 0
+MaySendDue c me past point (Reply client timestamp modes.Ordered number answer) =
     MayReplyOrdered c me past point client timestamp number answer
-MaySayDue c me past point (Checkpoint k root) = MayCheckpoint c past point k root × (is_number k ≡ true)
-MaySayDue c me past point (Fetch k level index) = (root : List ℕ) × MayInstall c past point k root
-MaySayDue c me past point _ = ⊥
+MaySendDue c me past point (Checkpoint k root) = MayCheckpoint c past point k root × (is_number k ≡ true)
+MaySendDue c me past point (Fetch k level index) = (root : List ℕ) × MayInstall c past point k root
+MaySendDue c me past point _ = ⊥
 
 -- a message is a fetch
 abbrev pub is_fetching : Message → Bool
 is_fetching message = elim message [ Fetch k level index ↦ true | _ ↦ false ]
 
 -- Each due message, except a fetch, is due once and was not sent in the event.
-abbrev pub AreUnsaid : ℕ → List Message → List Entry → Type 0
-AreUnsaid me [] outputs = ⊤
-AreUnsaid me (message ∷ due) outputs =
-    (is_fetching message ≡ false → IsOnItsWay me due outputs message → ⊥) × AreUnsaid me due outputs
+abbrev pub AreUnsent : ℕ → List Message → List Entry → Type 0
+AreUnsent me [] outputs = ⊤
+AreUnsent me (message ∷ due) outputs =
+    (is_fetching message ≡ false → IsOnItsWay me due outputs message → ⊥) × AreUnsent me due outputs
 
 -- The event sends nothing twice. Its replies, sent or due, are no newer than their clients' last timestamps. Replies to
 -- requests that run next are newer.
 pub record SaysOnce (me : ℕ) (s : Start) (st : State) (due : List Message) (outputs : List Entry) : Type 0 where
   pub begins : is_output s.input ≡ false
-  pub unsaid : AreUnsaid me due outputs
+  pub unsaid : AreUnsent me due outputs
   pub replies : (k : ℕ) (kept : Kept) → IsOnItsWay me due outputs (reply_of k kept) → kept.timestamp ≤ last_time st k
 
 -- a tick began the event, and this place of an open transfer was asked for last
@@ -69,7 +69,7 @@ IsAskedOpen s k level index =
 abbrev pub FitsFrames : Configuration → ℕ → Desk → List Entry → Type 0
 FitsFrames c me desk history =
     (frame : List ℕ) → Has (λ x. x ≡ frame) desk.frames
-    → Once (HasSeen frame) history × (is_some (heard (members c) me frame) ≡ true)
+    → Once (HasSeen frame) history × (is_some (authentic (members c) me frame) ≡ true)
 
 -- the kept snapshots are those that the low mark leaves
 abbrev pub FitsSnapshots : Configuration → ℕ → Desk → List State → List Entry → Type 0
@@ -94,7 +94,7 @@ pub record DeskFitsWithinEvent (c : Configuration) (me : ℕ) (s : Start) (desk 
   pub fetch_again : (k index : ℕ) (level : Level) → IsAskedOpen s k level index
       → IsOnItsWay me due outputs (Fetch k level index)
   pub rightly : (message : Message) → Has (λ x. x ≡ message) due
-      → MaySayDue c me (after_outputs s outputs) (point_of desk states ran) message
+      → MaySendDue c me (after_outputs s outputs) (point_of desk states ran) message
 
 -- a state of this number, or of a greater one, was fetched, or the fetch of its root is due
 abbrev pub IsFetchedOrDue : ℕ → List Message → List Entry → Type 0
@@ -138,7 +138,7 @@ LeavesNoView c me history = (new : NewViewData) → CanBeginView c me history ne
 -- a rule takes the input
 abbrev pub IsTaken : Configuration → ℕ → Start → Type 0
 IsTaken c me s = elim s.input [
-  | Got p bytes ↦ (body : Body) × (heard (members c) me bytes ≡ Some body)
+  | Got p bytes ↦ (body : Body) × (authentic (members c) me bytes ≡ Some body)
       × Counts c me s.before s.old bytes body.sender body.message
   | Tick p ↦ ⊤
   | _ ↦ ⊥
@@ -192,8 +192,8 @@ EventsEnd =
     → BothFitBetweenEvents c me new after (outputs ++ input ∷ past)
 
 -- Between events the replica owes nothing.
-abbrev pub HeldAreSettled : Type 0
-HeldAreSettled =
+abbrev pub HeldAreStabilized : Type 0
+HeldAreStabilized =
     (c : Configuration) (me : ℕ) (desk : Desk) (log : LogData) (history : List Entry)
     → BothFitBetweenEvents c me desk log history
     → IsSettled c me desk log history

@@ -9,14 +9,14 @@ use Rattle.terms.specs.declared.order.Mode.{Mode}
 use Rattle.terms.specs.declared.order.Mode.TheVariants as modes
 use Rattle.terms.specs.declared.state.Level.TheVariants as levels
 use Rattle.wire_format.specs.Messages.{BodyData as Body, MessageData as Message, request as Request, CheckpointEntryData as CheckpointEntry, pre_prepare as PrePrepare, prepare as Prepare, commit as Commit, checkpoint as Checkpoint, fetch as Fetch}
-use Rattle.signing.specs.Heard.{heard}
+use Rattle.signing.specs.AuthenticBody.{authentic}
 use Rattle.reply_cache.specs.Replies.{Kept}
 use Rattle.ordering.specs.declared.votes.Vote.{Vote}
 use Rattle.state_transfer.specs.Transfer.{TransferData}
 use Rattle.ordering.specs.declared.dropped.Dropped.{Dropped}
 use Rattle.ordering.specs.Log as logs
 use Rattle.ordering.specs.Log.{LogData}
-use Rattle.ordering.specs.Checkpoints.{says_checkpoint}
+use Rattle.ordering.specs.Checkpoints.{lists_checkpoint}
 use Rattle.ordering.specs.Taking.{preprepare_fault, prepare_fault, commit_fault, checkpoint_fault}
 use Rattle.protocol.specs.System.Configuration.{Configuration, members}
 use Rattle.protocol.specs.System.Trace.{Entry, Has}
@@ -44,7 +44,7 @@ asked_in st sender timestamp modes.Ordered =
     (kept_of st (client_number sender)) else []
 asked_in st sender timestamp modes.ReadOnly = []
 
--- what is due at once after a received message: an ordered request of its client's last timestamp gets the kept reply
+-- the messages due at once after a received one: an ordered request of its client's last timestamp gets the kept reply
 -- again
 abbrev pub asked_by : State → Body → List Message
 asked_by st body = elim body.message [ Request timestamp mode op ↦ asked_in st body.sender timestamp mode | _ ↦ [] ]
@@ -54,17 +54,17 @@ replies_again st said = option_map_or (asked_by st) said []
 
 -- ---- an event begins
 
--- How received bytes change desk and log, and what is due at once.
+-- How received bytes change desk and log, and which messages are due at once.
 pub record BytesEnter (c : Configuration) (me : ℕ) (bytes : List ℕ) (desk new : Desk) (log after : LogData)
     (due : List Message) : Type 0 where
-  pub takes : LogTakesBody c me (heard (members c) me bytes) log after
+  pub takes : LogTakesBody c me (authentic (members c) me bytes) log after
   pub state : new.state ≡ desk.state
   pub snapshots : new.snapshots ≡ desk.snapshots
   pub waiting : new.waiting ≡ waiting_after c me (point_of desk [] []) bytes
   pub transfer : new.transfer ≡ desk.transfer
   pub frames : (frame : List ℕ) → Has (λ x. x ≡ frame) new.frames
-      → Has (λ x. x ≡ frame) desk.frames ⊎ ((frame ≡ bytes) × (is_some (heard (members c) me bytes) ≡ true))
-  pub due_is : due ≡ replies_again desk.state (heard (members c) me bytes)
+      → Has (λ x. x ≡ frame) desk.frames ⊎ ((frame ≡ bytes) × (is_some (authentic (members c) me bytes) ≡ true))
+  pub due_is : due ≡ replies_again desk.state (authentic (members c) me bytes)
 
 -- Received bytes begin an event, if they bring no new view and move no mark.
 abbrev pub InputsFit : Type 0
@@ -89,7 +89,7 @@ abbrev pub CheckpointsEnter : Type 0
 CheckpointsEnter =
     (c : Configuration) (me : ℕ) (desk : Desk) (log : LogData) (past : List Entry) (s : ℕ) (entry : CheckpointEntry)
     (bytes : List ℕ) (held : BothFitBetweenEvents c me desk log past)
-    → heard (members c) me bytes ≡ Some (record { sender = s; message = Checkpoint entry.number entry.digest })
+    → authentic (members c) me bytes ≡ Some (record { sender = s; message = Checkpoint entry.number entry.digest })
     → checkpoint_fault log s entry.number entry.digest ≡ None
     → BothFitWithinEvent c me (start_at c me desk log past held (Got me bytes))
     (desk_from (checked_log log s entry).low desk)
@@ -113,39 +113,39 @@ abbrev pub BatchesCount : Type 0
 BatchesCount =
     (c : Configuration) (me : ℕ) (log : LogData) (past : List Entry) (point : Point) (s v i : ℕ) (batch bytes : List ℕ)
     → FitsLog c me log past
-    → heard (members c) me bytes ≡ Some (record { sender = s; message = PrePrepare v i batch })
+    → authentic (members c) me bytes ≡ Some (record { sender = s; message = PrePrepare v i batch })
     → preprepare_fault log s v i batch ≡ None → are_genuine c me batch ≡ true
     → Counts c me past point bytes s (PrePrepare v i batch)
-    × LogTakesBody c me (heard (members c) me bytes) log (logs.with_batch log i batch)
+    × LogTakesBody c me (authentic (members c) me bytes) log (logs.with_batch log i batch)
 
 abbrev pub PreparesAreCounted : Type 0
 PreparesAreCounted =
     (c : Configuration) (me : ℕ) (log : LogData) (past : List Entry) (point : Point) (s v i : ℕ)
     (digest bytes : List ℕ) (vote : Vote)
     → FitsLog c me log past
-    → heard (members c) me bytes ≡ Some (record { sender = s; message = Prepare v i digest })
+    → authentic (members c) me bytes ≡ Some (record { sender = s; message = Prepare v i digest })
     → prepare_fault log s v i digest ≡ None → vote.sender.0 ≡ s → vote.digest ≡ digest
     → Counts c me past point bytes s (Prepare v i digest)
-    × LogTakesBody c me (heard (members c) me bytes) log (logs.with_prepare log i vote)
+    × LogTakesBody c me (authentic (members c) me bytes) log (logs.with_prepare log i vote)
 
 abbrev pub CommitsAreCounted : Type 0
 CommitsAreCounted =
     (c : Configuration) (me : ℕ) (log : LogData) (past : List Entry) (point : Point) (s v i : ℕ)
     (digest bytes : List ℕ) (vote : Vote)
     → FitsLog c me log past
-    → heard (members c) me bytes ≡ Some (record { sender = s; message = Commit v i digest })
+    → authentic (members c) me bytes ≡ Some (record { sender = s; message = Commit v i digest })
     → commit_fault log s v i digest ≡ None → vote.sender.0 ≡ s → vote.digest ≡ digest
     → Counts c me past point bytes s (Commit v i digest)
-    × LogTakesBody c me (heard (members c) me bytes) log (logs.with_commit log i vote)
+    × LogTakesBody c me (authentic (members c) me bytes) log (logs.with_commit log i vote)
 
 -- A checkpoint without a fault counts, if it is one of its sender's latest then.
 abbrev pub CheckpointsCount : Type 0
 CheckpointsCount =
     (c : Configuration) (me : ℕ) (log : LogData) (past : List Entry) (point : Point) (s : ℕ) (entry : CheckpointEntry)
     (bytes : List ℕ) → FitsLog c me log past
-    → heard (members c) me bytes ≡ Some (record { sender = s; message = Checkpoint entry.number entry.digest })
+    → authentic (members c) me bytes ≡ Some (record { sender = s; message = Checkpoint entry.number entry.digest })
     → checkpoint_fault log s entry.number entry.digest ≡ None
-    → says_checkpoint entry (logs.checkpoints_of (logs.with_checkpoint_of log s entry) s) ≡ true
+    → lists_checkpoint entry (logs.checkpoints_of (logs.with_checkpoint_of log s entry) s) ≡ true
     → Counts c me past point bytes s (Checkpoint entry.number entry.digest)
 
 -- A client's request counts if its reply is kept, or if it is newer than the client's last executed one and not older
@@ -165,40 +165,40 @@ abbrev pub BatchesDrop : Type 0
 BatchesDrop =
     (c : Configuration) (me : ℕ) (log : LogData) (past : List Entry) (s v i : ℕ) (batch bytes : List ℕ)
     → FitsLog c me log past
-    → heard (members c) me bytes ≡ Some (record { sender = s; message = PrePrepare v i batch })
+    → authentic (members c) me bytes ≡ Some (record { sender = s; message = PrePrepare v i batch })
     → ((fault : Dropped) × (preprepare_fault log s v i batch ≡ Some fault)) ⊎ (are_genuine c me batch ≡ false)
-    → LogTakesBody c me (heard (members c) me bytes) log log
+    → LogTakesBody c me (authentic (members c) me bytes) log log
 
 abbrev pub PreparesDrop : Type 0
 PreparesDrop =
     (c : Configuration) (me : ℕ) (log : LogData) (past : List Entry) (s v i : ℕ) (digest bytes : List ℕ)
     (fault : Dropped) → FitsLog c me log past
-    → heard (members c) me bytes ≡ Some (record { sender = s; message = Prepare v i digest })
-    → prepare_fault log s v i digest ≡ Some fault → LogTakesBody c me (heard (members c) me bytes) log log
+    → authentic (members c) me bytes ≡ Some (record { sender = s; message = Prepare v i digest })
+    → prepare_fault log s v i digest ≡ Some fault → LogTakesBody c me (authentic (members c) me bytes) log log
 
 abbrev pub CommitsDrop : Type 0
 CommitsDrop =
     (c : Configuration) (me : ℕ) (log : LogData) (past : List Entry) (s v i : ℕ) (digest bytes : List ℕ)
     (fault : Dropped) → FitsLog c me log past
-    → heard (members c) me bytes ≡ Some (record { sender = s; message = Commit v i digest })
-    → commit_fault log s v i digest ≡ Some fault → LogTakesBody c me (heard (members c) me bytes) log log
+    → authentic (members c) me bytes ≡ Some (record { sender = s; message = Commit v i digest })
+    → commit_fault log s v i digest ≡ Some fault → LogTakesBody c me (authentic (members c) me bytes) log log
 
 abbrev pub CheckpointsDrop : Type 0
 CheckpointsDrop =
     (c : Configuration) (me : ℕ) (log : LogData) (past : List Entry) (s : ℕ) (entry : CheckpointEntry) (bytes : List ℕ)
     (fault : Dropped) → FitsLog c me log past
-    → heard (members c) me bytes ≡ Some (record { sender = s; message = Checkpoint entry.number entry.digest })
+    → authentic (members c) me bytes ≡ Some (record { sender = s; message = Checkpoint entry.number entry.digest })
     → checkpoint_fault log s entry.number entry.digest ≡ Some fault
-    → LogTakesBody c me (heard (members c) me bytes) log log
+    → LogTakesBody c me (authentic (members c) me bytes) log log
 
 -- A checkpoint that isn't one of its sender's latest leaves the log as it is.
 abbrev pub EarlyCheckpointsDrop : Type 0
 EarlyCheckpointsDrop =
     (c : Configuration) (me : ℕ) (log : LogData) (past : List Entry) (s : ℕ) (entry : CheckpointEntry) (bytes : List ℕ)
     → FitsLog c me log past
-    → heard (members c) me bytes ≡ Some (record { sender = s; message = Checkpoint entry.number entry.digest })
-    → says_checkpoint entry (logs.checkpoints_of (logs.with_checkpoint_of log s entry) s) ≡ false
-    → (logs.with_checkpoint_of log s entry ≡ log) × LogTakesBody c me (heard (members c) me bytes) log log
+    → authentic (members c) me bytes ≡ Some (record { sender = s; message = Checkpoint entry.number entry.digest })
+    → lists_checkpoint entry (logs.checkpoints_of (logs.with_checkpoint_of log s entry) s) ≡ false
+    → (logs.with_checkpoint_of log s entry ≡ log) × LogTakesBody c me (authentic (members c) me bytes) log log
 
 -- the bytes are no authentic pre-prepare, prepare, commit or checkpoint
 abbrev pub IsBesideLog : Option Body → Type 0
@@ -215,7 +215,7 @@ IsBesideLog (Some body) = elim body.message [
 abbrev pub OthersDrop : Type 0
 OthersDrop =
     (c : Configuration) (me : ℕ) (log : LogData) (past : List Entry) (bytes : List ℕ) → FitsLog c me log past
-    → IsBesideLog (heard (members c) me bytes) → LogTakesBody c me (heard (members c) me bytes) log log
+    → IsBesideLog (authentic (members c) me bytes) → LogTakesBody c me (authentic (members c) me bytes) log log
 
 -- ---- inputs that pass
 

@@ -7,7 +7,7 @@ use Rattle.std.specs.Option.{option_map_or}
 use Rattle.wire_format.specs.Messages.{MessageData as Message, NewViewData, pre_prepare as PrePrepare}
 use Rattle.wire_format.specs.Words.{requests_of, said}
 use Rattle.wire_format.specs.Lists.{Each}
-use Rattle.signing.specs.Heard.{heard}
+use Rattle.signing.specs.AuthenticBody.{authentic}
 use Rattle.ordering.specs.Log.{LogData}
 use Rattle.protocol.specs.System.Configuration.{Configuration, primary, members}
 use Rattle.protocol.specs.System.Trace.{Entry, party_of, Once, Has, either}
@@ -210,7 +210,7 @@ RequestsFit =
 -- the same of received bytes, which may be a request
 abbrev pub entries_after : Configuration → ℕ → List BegunCall → State → List Waiting → List ℕ → List Waiting
 entries_after c me begun st entries bytes =
-    option_map_or (entries_with begun st entries) (option_and_then (call_in c) (heard (members c) me bytes)) entries
+    option_map_or (entries_with begun st entries) (option_and_then (call_in c) (authentic (members c) me bytes)) entries
 
 abbrev pub InputsKeepNumbers : Type 0
 InputsKeepNumbers =
@@ -273,8 +273,8 @@ NextIsFree =
     → IsFree c me history st.number v (next_number c me history used)
 
 -- If the next number may not be assigned, or all waiting requests have one, the replica owes no number.
-abbrev pub NumbersAreGiven : Type 0
-NumbersAreGiven =
+abbrev pub NumbersAreAssigned : Type 0
+NumbersAreAssigned =
     (c : Configuration) (me v used : ℕ) (begun : List BegunCall) (entries : List Waiting) (st : State)
     (waiting : List Call) (history : List Entry)
     → FitsNumbers c me v used begun entries st waiting history

@@ -12,12 +12,12 @@ use Rattle.ordering.specs.declared.votes.Vote.{Vote}
 use Rattle.ordering.specs.Log as logs
 use Rattle.ordering.specs.Log.{LogData}
 use Rattle.protocol.specs.System.Configuration.{Configuration}
-use Rattle.protocol.specs.System.Frames.{IsPosted}
+use Rattle.protocol.specs.System.Frames.{IsOutgoing}
 use Rattle.protocol.specs.System.Trace.{Entry, Once, Has}
 use Rattle.protocol.specs.System.Trace.Entry.{Executed, Installed, Sent}
 use Rattle.protocol.specs.Replica.State.{State, IsReplicatedState, Ran, last_time, execute, ran_in, root_of, pages_of}
 use Rattle.protocol.specs.Replica.RightReplica.{others, IsFree, reply_of, still_waiting}
-use Rattle.protocol.specs.Replica.Owed.{IsSaying, SendsMessage, HasRequest, IsNumbered, AreDifferent, IsBegunBelow}
+use Rattle.protocol.specs.Replica.Owed.{IsSending, SendsMessage, HasRequest, IsNumbered, AreDifferent, IsBegunBelow}
 use Rattle.state_transfer.specs.Transfer.{TransferData}
 use Rattle.replica_histories.specs.Desk.{Desk, Snapshot, snapshot_of, kept_from, desk_from}
 use Rattle.replica_histories.specs.Marks.{checked_log}
@@ -32,7 +32,7 @@ PreparesFit =
     (c : Configuration) (me : ℕ) (s : Start) (desk : Desk) (log : LogData) (due : List Message) (outputs : List Entry)
     (i : ℕ) (digest bytes : List ℕ) (vote : Vote)
     → logs.due_prepare log i ≡ Some digest → vote.sender.0 ≡ me → vote.digest ≡ digest
-    → IsPosted c me (Prepare log.view i digest) (others c me) bytes
+    → IsOutgoing c me (Prepare log.view i digest) (others c me) bytes
     → BothFitWithinEvent c me s desk log due outputs
     → BothFitWithinEvent c me s desk (logs.with_prepare log i vote) due (Sent me bytes ∷ outputs)
 
@@ -42,7 +42,7 @@ CommitsFit =
     (c : Configuration) (me : ℕ) (s : Start) (desk : Desk) (log : LogData) (due : List Message) (outputs : List Entry)
     (i : ℕ) (digest bytes : List ℕ) (vote : Vote)
     → logs.due_commit log i ≡ Some digest → vote.sender.0 ≡ me → vote.digest ≡ digest
-    → IsPosted c me (Commit log.view i digest) (others c me) bytes
+    → IsOutgoing c me (Commit log.view i digest) (others c me) bytes
     → BothFitWithinEvent c me s desk log due outputs
     → BothFitWithinEvent c me s desk (logs.with_commit log i vote) due (Sent me bytes ∷ outputs)
 
@@ -67,7 +67,7 @@ BatchesFit =
     (c : Configuration) (me : ℕ) (s : Start) (desk : Desk) (log : LogData) (due : List Message) (outputs : List Entry)
     (i : ℕ) (batch bytes : List ℕ)
     → MayNumber c me desk log (after_outputs s outputs) i batch
-    → IsPosted c me (PrePrepare log.view i batch) (others c me) bytes
+    → IsOutgoing c me (PrePrepare log.view i batch) (others c me) bytes
     → BothFitWithinEvent c me s desk log due outputs
     → BothFitWithinEvent c me s desk (logs.with_batch log i batch) due (Sent me bytes ∷ outputs)
 
@@ -116,7 +116,7 @@ abbrev pub RepliesFit : Type 0
 RepliesFit =
     (c : Configuration) (me : ℕ) (s : Start) (desk : Desk) (log : LogData) (rest : List Message) (outputs : List Entry)
     (k : ℕ) (kept : Kept) (bytes : List ℕ)
-    → IsPosted c me (reply_of k kept) (client_party k ∷ []) bytes
+    → IsOutgoing c me (reply_of k kept) (client_party k ∷ []) bytes
     → BothFitWithinEvent c me s desk log (reply_of k kept ∷ rest) outputs
     → BothFitWithinEvent c me s desk log rest (Sent me bytes ∷ outputs)
 
@@ -129,7 +129,7 @@ CheckpointsFit =
     (c : Configuration) (me : ℕ) (s : Start) (desk : Desk) (log : LogData) (rest : List Message) (outputs : List Entry)
     (entry : CheckpointEntry) (bytes : List ℕ)
     → ((i : ℕ) → logs.due_prepare log i ≡ None) → ((i : ℕ) → logs.due_commit log i ≡ None)
-    → IsPosted c me (Checkpoint entry.number entry.digest) (others c me) bytes
+    → IsOutgoing c me (Checkpoint entry.number entry.digest) (others c me) bytes
     → BothFitWithinEvent c me s desk log (Checkpoint entry.number entry.digest ∷ rest) outputs
     → BothFitWithinEvent c me s (desk_from (checked_log log me entry).low desk) (checked_log log me entry) rest
     (Sent me bytes ∷ outputs)
@@ -175,7 +175,7 @@ PreparesGoAgain =
     (i : ℕ) (digest bytes : List ℕ)
     → log.active ≡ true → logs.prepare_of log i me ≡ Some digest
     → (SendsMessage me (Prepare log.view i digest) outputs → ⊥)
-    → IsPosted c me (Prepare log.view i digest) (others c me) bytes
+    → IsOutgoing c me (Prepare log.view i digest) (others c me) bytes
     → BothFitWithinEvent c me s desk log due outputs → BothFitWithinEvent c me s desk log due (Sent me bytes ∷ outputs)
 
 abbrev pub CommitsGoAgain : Type 0
@@ -184,7 +184,7 @@ CommitsGoAgain =
     (i : ℕ) (digest bytes : List ℕ)
     → log.active ≡ true → logs.commit_of log i me ≡ Some digest
     → (SendsMessage me (Commit log.view i digest) outputs → ⊥)
-    → IsPosted c me (Commit log.view i digest) (others c me) bytes
+    → IsOutgoing c me (Commit log.view i digest) (others c me) bytes
     → BothFitWithinEvent c me s desk log due outputs → BothFitWithinEvent c me s desk log due (Sent me bytes ∷ outputs)
 
 abbrev pub BatchesGoAgain : Type 0
@@ -194,14 +194,14 @@ BatchesGoAgain =
     → log.active ≡ true → logs.primary log log.view ≡ me → logs.logged_batch log i ≡ Some batch
     → IsBegunBelow c log.view i (after_outputs s outputs)
     → (SendsMessage me (PrePrepare log.view i batch) outputs → ⊥)
-    → IsPosted c me (PrePrepare log.view i batch) (others c me) bytes
+    → IsOutgoing c me (PrePrepare log.view i batch) (others c me) bytes
     → BothFitWithinEvent c me s desk log due outputs → BothFitWithinEvent c me s desk log due (Sent me bytes ∷ outputs)
 
 abbrev pub CheckpointsGoAgain : Type 0
 CheckpointsGoAgain =
     (c : Configuration) (me : ℕ) (s : Start) (desk : Desk) (log : LogData) (outputs : List Entry)
     (k : ℕ) (root bytes : List ℕ)
-    → Once (λ earlier e. IsSaying me (Checkpoint k root) e) (after_outputs s outputs)
+    → Once (λ earlier e. IsSending me (Checkpoint k root) e) (after_outputs s outputs)
     → (SendsMessage me (Checkpoint k root) outputs → ⊥)
-    → IsPosted c me (Checkpoint k root) (others c me) bytes
+    → IsOutgoing c me (Checkpoint k root) (others c me) bytes
     → BothFitWithinEvent c me s desk log [] outputs → BothFitWithinEvent c me s desk log [] (Sent me bytes ∷ outputs)

@@ -13,9 +13,9 @@ use Rattle.terms.specs.declared.state.Level.TheVariants as levels
 use Rattle.terms.specs.declared.order.Mode.TheVariants as modes
 use Rattle.wire_format.specs.Messages.{BodyData as Body, MessageData as Message, request as Request, reply as Reply, fetch as Fetch, meta as Meta, page as Page, ViewChangeData, view_change as ViewChange}
 use Rattle.wire_format.specs.Words.{said}
-use Rattle.signing.specs.Heard.{heard}
+use Rattle.signing.specs.AuthenticBody.{authentic}
 use Rattle.protocol.specs.System.Configuration.{Configuration, members}
-use Rattle.protocol.specs.System.Trace.{Entry, Has, Hears}
+use Rattle.protocol.specs.System.Trace.{Entry, Has, Receives}
 use Rattle.protocol.specs.System.Trace.Entry.{Got}
 use Rattle.protocol.specs.Replica.Selection.{is_within}
 use Rattle.protocol.specs.Replica.Certificates.{target}
@@ -41,7 +41,7 @@ ordered_from call =
 -- An event whose input is a read owes the reply from the executed state.
 abbrev pub OwesReadReply : Configuration → ℕ → List Entry → Entry → List Entry → Point → Type 0
 OwesReadReply c me before input outputs old =
-    (client timestamp : ℕ) (op : Operation) → Hears c me (read_from client timestamp op) before input
+    (client timestamp : ℕ) (op : Operation) → Receives c me (read_from client timestamp op) before input
     → is_read_only op ≡ true → SendsMessage me (read_reply old.state client timestamp op) outputs
 
 -- An event whose input is digests, or a page, owes that the transfer which awaits them goes on. executed: the number of
@@ -49,13 +49,13 @@ OwesReadReply c me before input outputs old =
 abbrev pub AnswersDigests : Configuration → ℕ → List Entry → Entry → List Entry → Point → ℕ → Type 0
 AnswersDigests c me before input outputs old executed =
     (s k index : ℕ) (level : Level) (digests : List (List ℕ))
-    → Hears c me (record { sender = s; message = Meta k level index digests }) before input
+    → Receives c me (record { sender = s; message = Meta k level index digests }) before input
     → IsAwaitedAlone c me before old k level index (digest_of_children digests)
     → TransferGoesOn c me (input ∷ before) old outputs executed k
 
 abbrev pub AnswersPages : Configuration → ℕ → List Entry → Entry → List Entry → Point → ℕ → Type 0
 AnswersPages c me before input outputs old executed =
-    (s k index : ℕ) (text : List ℕ) → Hears c me (record { sender = s; message = Page k index text }) before input
+    (s k index : ℕ) (text : List ℕ) → Receives c me (record { sender = s; message = Page k index text }) before input
     → IsAwaitedAlone c me before old k levels.Page index (sha256 text)
     → TransferGoesOn c me (input ∷ before) old outputs executed k
 
@@ -113,11 +113,11 @@ has_question body = option_map_or is_question body false
 
 -- an input of that kind; an input other than bytes may make the replica move
 abbrev pub brings_part : Configuration → ℕ → Entry → Bool
-brings_part c me (Got p bytes) = has_part (heard (members c) me bytes)
+brings_part c me (Got p bytes) = has_part (authentic (members c) me bytes)
 brings_part c me _ = false
 
 abbrev pub brings_question : Configuration → ℕ → Entry → Bool
-brings_question c me (Got p bytes) = has_question (heard (members c) me bytes)
+brings_question c me (Got p bytes) = has_question (authentic (members c) me bytes)
 brings_question c me _ = true
 
 -- ---- laws
@@ -141,5 +141,5 @@ OthersOweNone =
 abbrev pub NewRequestsOweNone : Type 0
 NewRequestsOweNone =
     (c : Configuration) (me : ℕ) (before : List Entry) (input : Entry) (outputs : List Entry) (old : Point)
-    (executed : ℕ) (call : Call) → Hears c me (ordered_from call) before input
+    (executed : ℕ) (call : Call) → Receives c me (ordered_from call) before input
     → (Has (λ x. x ≡ call) old.waiting → ⊥) → AnswersInput c me before input outputs old executed

@@ -4,7 +4,7 @@ use Rattle.wire_format.specs.Messages.{CheckpointEntryData as CheckpointEntry, p
 use Rattle.ordering.specs.Log as logs
 use Rattle.ordering.specs.Log.{LogData}
 use Rattle.protocol.specs.System.Configuration.{Configuration}
-use Rattle.protocol.specs.System.Trace.{Entry, Has, Hears}
+use Rattle.protocol.specs.System.Trace.{Entry, Has, Receives}
 use Rattle.protocol.specs.System.Trace.Entry.{Sent}
 use Rattle.protocol.specs.Replica.State.{Call, last_time}
 use Rattle.protocol.specs.Replica.RightReplica.{Point, HistoryReaches}
@@ -48,7 +48,7 @@ abbrev pub ResendingSuffices : Type 0
 ResendingSuffices =
     (c : Configuration) (me : ℕ) (desk : Desk) (log : LogData) (past : List Entry) (input : Entry)
     (outputs : List Entry) (x : Changes) (call : Call) (executed : ℕ) (held : BothFitBetweenEvents c me desk log past)
-    → FitsChanges c me log x past → Hears c me (ordered_from call) past input
+    → FitsChanges c me log x past → Receives c me (ordered_from call) past input
     → AllGoes me log x desk.state.number outputs → AnswersInput c me past input outputs held.of_desk.point executed
 
 -- A waiting request has a timestamp above its client's last.

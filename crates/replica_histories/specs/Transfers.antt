@@ -9,7 +9,7 @@ use Rattle.terms.specs.declared.state.Level.TheVariants as levels
 use Rattle.partition_tree.specs.Digests.{digest_of_children, root_of as root_of_pages}
 use Rattle.wire_format.specs.Messages.{fetch as Fetch, meta as Meta, page as Page}
 use Rattle.wire_format.specs.Words.{said}
-use Rattle.signing.specs.Heard.{heard}
+use Rattle.signing.specs.AuthenticBody.{authentic}
 use Rattle.protocol.specs.System.Configuration.{Configuration, members}
 use Rattle.protocol.specs.System.Trace.{Entry}
 use Rattle.protocol.specs.System.Trace.Entry.{Got, Tick, Executed, Installed, Sent}
@@ -182,7 +182,7 @@ abbrev pub DigestsTaken : Type 0
 DigestsTaken =
     (c : Configuration) (me : ℕ) (t : TransferData) (past : List Entry) (bytes : List ℕ) (s n : ℕ) (place : Place)
     (digests : List (List ℕ))
-    → heard (members c) me bytes
+    → authentic (members c) me bytes
     ≡ Some (record { sender = s; message = Meta n place.level place.index digests })
     → wanted t place ≡ Some (digest_of_children digests)
     → TransferAims c me t past → TransferAims c me (with_digests t place digests) (Got me bytes ∷ past)
@@ -191,7 +191,7 @@ abbrev pub DigestsOpen : Type 0
 DigestsOpen =
     (c : Configuration) (me : ℕ) (t : TransferData) (number : ℕ) (past : List Entry) (bytes : List ℕ) (s n : ℕ)
     (place : Place) (digests : List (List ℕ))
-    → heard (members c) me bytes
+    → authentic (members c) me bytes
     ≡ Some (record { sender = s; message = Meta n place.level place.index digests })
     → wanted t place ≡ Some (digest_of_children digests)
     → FitsOpenTransfer c me (Some t) number past
@@ -202,7 +202,7 @@ abbrev pub DigestsMayAsk : Type 0
 DigestsMayAsk =
     (c : Configuration) (me : ℕ) (t : TransferData) (number : ℕ) (past : List Entry) (bytes : List ℕ) (s n : ℕ)
     (place : Place) (digests : List (List ℕ))
-    → heard (members c) me bytes
+    → authentic (members c) me bytes
     ≡ Some (record { sender = s; message = Meta n place.level place.index digests })
     → wanted t place ≡ Some (digest_of_children digests)
     → FitsOpenTransfer c me (Some t) number past
@@ -213,7 +213,7 @@ abbrev pub PagesMayAsk : Type 0
 PagesMayAsk =
     (c : Configuration) (me : ℕ) (t : TransferData) (number : ℕ) (past : List Entry) (bytes : List ℕ)
     (s index : ℕ) (text : List ℕ)
-    → heard (members c) me bytes ≡ Some (record { sender = s; message = Page t.number index text })
+    → authentic (members c) me bytes ≡ Some (record { sender = s; message = Page t.number index text })
     → t.asked ≡ page_place index → length t.held ≡ PAGES → length t.fetched ≡ PAGES
     → FitsOpenTransfer c me (Some t) number past
     → TransferMayAsk c me (with_page t index text) number (Got me bytes ∷ past)
@@ -259,7 +259,7 @@ TransfersMove =
     → IsRootWanted c history k root → TransferAims c me t history → TransferAims c me (moved_to t k root) history
 
 -- So a quorum above the executed state and the open transfer starts a transfer, or moves the open one. Any other above
--- the executed number is at or below what was fetched.
+-- the executed number is at or below the fetched one.
 abbrev pub QuorumsOpen : Type 0
 QuorumsOpen =
     (c : Configuration) (me : ℕ) (open_one : Option TransferData) (number k : ℕ) (root : List ℕ)

@@ -8,13 +8,13 @@ use Rattle.wire_format.specs.Messages.{MessageData as Message, fetch as Fetch, m
 use Rattle.wire_format.specs.Spelling.{has_children}
 use Rattle.wire_format.specs.Words.{carried}
 use Rattle.protocol.specs.System.Configuration.{Configuration}
-use Rattle.protocol.specs.System.Frames.{IsPosted}
-use Rattle.protocol.specs.System.Trace.{Entry, Has, Hears}
+use Rattle.protocol.specs.System.Frames.{IsOutgoing}
+use Rattle.protocol.specs.System.Trace.{Entry, Has, Receives}
 use Rattle.protocol.specs.System.Trace.Entry.{Sent}
 use Rattle.protocol.specs.Replica.Certificates.{low}
 use Rattle.protocol.specs.Replica.State.{State, pages_of, page_text}
-use Rattle.protocol.specs.Replica.RightReplica.{Point, HistoryReaches, MaySay, IsFor, KeptState, WasAsked, digests_at, kept_states}
-use Rattle.protocol.specs.Replica.Owed.{IsSayingTo, GivesTo, Counts}
+use Rattle.protocol.specs.Replica.RightReplica.{Point, HistoryReaches, MaySendMessage, IsFor, KeptState, WasAsked, digests_at, kept_states}
+use Rattle.protocol.specs.Replica.Owed.{IsSendingTo, SendsMessageTo, Counts}
 use Rattle.replica_histories.specs.Desk.{Snapshot, snapshot_of}
 
 -- the answer to a fetch of a place, from a state, and from its pages: the digests below the place, or the page
@@ -35,8 +35,9 @@ KeptPages c me past point k pages = KeptState c me past point k (λ st. pages_of
 -- An event whose input is a fetch owes the answer from the kept state of the number, to whoever asks.
 abbrev pub AnswersFetches : Configuration → ℕ → List Entry → Entry → List Entry → Point → Type 0
 AnswersFetches c me before input outputs old =
-    (s k index : ℕ) (level : Level) → Hears c me (record { sender = s; message = Fetch k level index }) before input
-    → (st : State) → KeptState c me before old k (λ x. x ≡ st) → GivesTo me s (answer_of st k level index) outputs
+    (s k index : ℕ) (level : Level) → Receives c me (record { sender = s; message = Fetch k level index }) before input
+    → (st : State) → KeptState c me before old k (λ x. x ≡ st)
+    → SendsMessageTo me s (answer_of st k level index) outputs
 
 -- ---- laws: kept states
 
@@ -70,35 +71,35 @@ FetchesCount =
     (pages : List (List ℕ))
     → KeptPages c me past point k pages → Counts c me past point bytes s (Fetch k level index)
 
--- Its answer may be sent, to whoever asked; and a frame sealed for that replica alone is said to it.
+-- Its answer may be sent, to whoever asked; and a frame sealed for that replica alone is sent to it.
 abbrev pub AnswersMayGo : Type 0
 AnswersMayGo =
     (c : Configuration) (me : ℕ) (past : List Entry) (point : Point) (e : Entry) (bytes : List ℕ) (s k index : ℕ)
     (level : Level) (pages : List (List ℕ))
     → KeptPages c me past point k pages → WasAsked c me past s k level index
-    → MaySay c me past point e bytes (answer_by pages k level index)
+    → MaySendMessage c me past point e bytes (answer_by pages k level index)
     × IsFor c me past (answer_by pages k level index) (s ∷ [])
     × (carried (answer_by pages k level index) ≡ [])
 
-abbrev pub PostedToOne : Type 0
-PostedToOne =
+abbrev pub OutgoingToOne : Type 0
+OutgoingToOne =
     (c : Configuration) (me s : ℕ) (message : Message) (bytes : List ℕ)
-    → IsPosted c me message (s ∷ []) bytes → IsSayingTo me s message (Sent me bytes)
+    → IsOutgoing c me message (s ∷ []) bytes → IsSendingTo me s message (Sent me bytes)
 
 -- If the replica sends it, it owes no more. If no state of the number is kept, it owes nothing.
 abbrev pub AnswersSuffice : Type 0
 AnswersSuffice =
     (c : Configuration) (me : ℕ) (before : List Entry) (input : Entry) (outputs : List Entry) (old : Point)
     (s k index : ℕ) (level : Level) (pages : List (List ℕ))
-    → HistoryReaches c me before old → Hears c me (record { sender = s; message = Fetch k level index }) before input
-    → KeptPages c me before old k pages → GivesTo me s (answer_by pages k level index) outputs
+    → HistoryReaches c me before old → Receives c me (record { sender = s; message = Fetch k level index }) before input
+    → KeptPages c me before old k pages → SendsMessageTo me s (answer_by pages k level index) outputs
     → AnswersFetches c me before input outputs old
 
 abbrev pub NoneIsOwed : Type 0
 NoneIsOwed =
     (c : Configuration) (me : ℕ) (before : List Entry) (input : Entry) (outputs : List Entry) (old : Point)
     (s k index : ℕ) (level : Level)
-    → Hears c me (record { sender = s; message = Fetch k level index }) before input
+    → Receives c me (record { sender = s; message = Fetch k level index }) before input
     → (KeptState c me before old k (λ st. ⊤) → ⊥) → AnswersFetches c me before input outputs old
 
 -- An answer among outputs stays there when outputs are added or reversed.
@@ -118,9 +119,9 @@ AnswersInParts =
     (c : Configuration) (me : ℕ) (before : List Entry) (input : Entry) (outputs : List Entry) (old : Point)
     → AnswersFetches c me before input outputs old
     → ((s k index : ℕ) (level : Level) → has_children level ≡ true
-    → Hears c me (record { sender = s; message = Fetch k level index }) before input
+    → Receives c me (record { sender = s; message = Fetch k level index }) before input
     → (st : State) → KeptState c me before old k (λ x. x ≡ st)
-    → GivesTo me s (Meta k level index (digests_at st level index)) outputs)
-    × ((s k index : ℕ) → Hears c me (record { sender = s; message = Fetch k levels.Page index }) before input
+    → SendsMessageTo me s (Meta k level index (digests_at st level index)) outputs)
+    × ((s k index : ℕ) → Receives c me (record { sender = s; message = Fetch k levels.Page index }) before input
     → (st : State) → KeptState c me before old k (λ x. x ≡ st)
-    → GivesTo me s (Page k index (page_text st index)) outputs)
+    → SendsMessageTo me s (Page k index (page_text st index)) outputs)

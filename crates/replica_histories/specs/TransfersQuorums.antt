@@ -8,7 +8,7 @@ use Rattle.protocol.specs.System.Configuration.{Configuration}
 use Rattle.protocol.specs.System.Trace.{Entry, Once, Has}
 use Rattle.protocol.specs.Replica.Certificates.{checkpoint_in, checkpoints_of, count_checkpoints}
 use Rattle.protocol.specs.Replica.Transfers.{fetching}
-use Rattle.protocol.specs.Replica.Owed.{IsSaying, SendsMessage, StartsAhead, has_number}
+use Rattle.protocol.specs.Replica.Owed.{IsSending, SendsMessage, StartsAhead, has_number}
 use Rattle.replica_histories.specs.Running.{Start, after_outputs, IsOnItsWay}
 use Rattle.replica_histories.specs.Transfers.{HasQuorum}
 
@@ -21,7 +21,7 @@ pub record BringsRoot (c : Configuration) (past : List Entry) (e : Entry) (k : �
   pub kept : has_number k (checkpoints_of c (e ∷ past) sender) ≡ true
 
 -- The state of the number is to be fetched: a quorum of checkpoints has this root for it, or a new view started there,
--- above what was fetched then.
+-- above the fetched number then.
 abbrev pub IsToFetch : Configuration → List Entry → ℕ → List ℕ → Type 0
 IsToFetch c history k root = HasQuorum c history k root ⊎ Once (StartsAhead c k) history
 
@@ -90,7 +90,7 @@ QuorumsGoOn =
     (e : Entry)
     → number ≤ later → ((k : ℕ) (root : List ℕ) → BringsRoot c (after_outputs s outputs) e k root → k ≤ later)
     → ((k : ℕ) → StartsAhead c k (after_outputs s outputs) e → later < k → Has (λ x. x ≡ Fetch k levels.Root 0) rest)
-    → ((message : Message) → Has (λ x. x ≡ message) due → Has (λ x. x ≡ message) rest ⊎ IsSaying me message e)
+    → ((message : Message) → Has (λ x. x ≡ message) due → Has (λ x. x ≡ message) rest ⊎ IsSending me message e)
     → FetchesQuorums c me s number due outputs → FetchesQuorums c me s later rest (e ∷ outputs)
 
 -- If nothing is due any more, all is fetched; and if nothing so high was fetched before, the event sent the fetch.

@@ -6,11 +6,11 @@ use Rattle.partition_tree.specs.Digests.{root_of as root_of_pages}
 use Rattle.wire_format.specs.Messages.{MessageData as Message, ViewChangeData, NewViewData, CheckpointEntryData as CheckpointEntry, view_change as ViewChange, new_view as NewView, fetch as Fetch}
 use Rattle.wire_format.specs.Words.{carried, said}
 use Rattle.wire_format.specs.Lists.{Each}
-use Rattle.signing.specs.Heard.{heard}
+use Rattle.signing.specs.AuthenticBody.{authentic}
 use Rattle.ordering.specs.Log as logs
 use Rattle.ordering.specs.Log.{LogData}
 use Rattle.protocol.specs.System.Configuration.{Configuration, primary, is_number, members}
-use Rattle.protocol.specs.System.Frames.{IsPosted}
+use Rattle.protocol.specs.System.Frames.{IsOutgoing}
 use Rattle.protocol.specs.System.Trace.{Entry, Once}
 use Rattle.protocol.specs.System.Trace.Entry.{Got, Tick, Sent}
 use Rattle.protocol.specs.Replica.Selection.{is_within}
@@ -60,7 +60,7 @@ ViewChangesFit =
     (vc : ViewChangeData) (bytes : List ℕ)
     → ((i : ℕ) → logs.due_commit log i ≡ None)
     → IsChange c me desk log (after_outputs s outputs) vc
-    → IsPosted c me (ViewChange vc) [] bytes → HasOwnLeaf bytes (after_outputs s outputs)
+    → IsOutgoing c me (ViewChange vc) [] bytes → HasOwnLeaf bytes (after_outputs s outputs)
     → BothFitWithinEvent c me s desk log due outputs
     → BothFitWithinEvent c me s desk (logs.left log) due (Sent me bytes ∷ outputs)
 
@@ -88,7 +88,7 @@ ViewChangesGoAgain =
     (vc : ViewChangeData) (bytes : List ℕ)
     → log.view < target (after_outputs s outputs) → vc.view ≡ target (after_outputs s outputs)
     → SentBefore bytes (after_outputs s outputs) → (SendsMessage me (ViewChange vc) outputs → ⊥)
-    → IsPosted c me (ViewChange vc) [] bytes
+    → IsOutgoing c me (ViewChange vc) [] bytes
     → BothFitWithinEvent c me s desk log due outputs → BothFitWithinEvent c me s desk log due (Sent me bytes ∷ outputs)
 
 -- ---- beginning a view
@@ -113,7 +113,7 @@ abbrev pub NewViewsEnter : Type 0
 NewViewsEnter =
     (c : Configuration) (me : ℕ) (desk : Desk) (log : LogData) (past : List Entry) (s : ℕ) (new : NewViewData)
     (bytes : List ℕ) (held : BothFitBetweenEvents c me desk log past)
-    → heard (members c) me bytes ≡ Some (record { sender = s; message = NewView new })
+    → authentic (members c) me bytes ≡ Some (record { sender = s; message = NewView new })
     → taken c past (Got me bytes) ≡ Some new
     → BothFitWithinEvent c me (start_at c me desk log past held (Got me bytes)) (desk_from (begun_log log new).low desk)
     (begun_log log new) (start_due desk new) []
@@ -129,7 +129,7 @@ NewViewsFit =
     → primary c new.view ≡ me
     → taken c (after_outputs s outputs) (Sent me bytes) ≡ Some new
     → Each (λ frame. Once (HasSeen frame) (after_outputs s outputs)) (carried (NewView new))
-    → IsPosted c me (NewView new) [] bytes → HasOwnLeaf bytes (after_outputs s outputs)
+    → IsOutgoing c me (NewView new) [] bytes → HasOwnLeaf bytes (after_outputs s outputs)
     → BothFitWithinEvent c me s desk log [] outputs
     → BothFitWithinEvent c me s (desk_from (begun_log log new).low desk) (begun_log log new) (start_due desk new)
     (Sent me bytes ∷ outputs)
@@ -141,7 +141,7 @@ NewViewsGoAgain =
     (new : NewViewData) (bytes : List ℕ)
     → log.active ≡ true → new.view ≡ log.view → primary c new.view ≡ me
     → SentBefore bytes (after_outputs s outputs) → (SendsMessage me (NewView new) outputs → ⊥)
-    → IsPosted c me (NewView new) [] bytes
+    → IsOutgoing c me (NewView new) [] bytes
     → BothFitWithinEvent c me s desk log due outputs → BothFitWithinEvent c me s desk log due (Sent me bytes ∷ outputs)
 
 -- Then a new transfer, or the open one, moved, may fetch the state at the start.

@@ -1,6 +1,6 @@
 //! Laws of a replica's view-change data.
 
-ghost use Rattle.replica_histories.specs.Changes.{ChangesBegin, ChangesStay, CheckpointsAreNoted, CheckpointsAreLatest, CommitsAreClaimed, BatchesAreClaimed, ChangesAreSent, ChangesAreTaken, ViewsAreBegun, SentKeep, SilentKeep, GotKeep, HeardKeep, OthersBringNone, HeardAreSigned, OwnAreSigned, ClaimsAreAbove, OutputsPass, InputsEnter, AllAreSpent, NextLeafIsOwn};
+ghost use Rattle.replica_histories.specs.Changes.{ChangesBegin, ChangesStay, CheckpointsAreNoted, CheckpointsAreLatest, CommitsAreClaimed, BatchesAreClaimed, ChangesAreSent, ChangesAreTaken, ViewsAreBegun, SentKeep, SilentKeep, GotKeep, ReceivedKeep, OthersBringNone, ReceivedAreSigned, OwnAreSigned, ClaimsAreAbove, OutputsPass, InputsEnter, AllAreSpent, NextLeafIsOwn};
 ghost use Rattle.replica_histories.specs.Primaries.{ClaimedSelectNothing, FewerSelectNothing, NoViewsAreLeft};
 
 /// The logs fit the histories before and after each entry.
@@ -16,9 +16,9 @@ pub fn entries_keep_changes()
     ensures sent { SentKeep }
     ensures silent { SilentKeep }
     ensures got { GotKeep }
-    ensures heard { HeardKeep }
+    ensures authentic { ReceivedKeep }
     ensures others { OthersBringNone }
-    ensures signed { HeardAreSigned }
+    ensures signed { ReceivedAreSigned }
     ensures own { OwnAreSigned }
 {}
 

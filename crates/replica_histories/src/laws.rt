@@ -1,25 +1,25 @@
 //! Laws of the events of a replica.
 
-ghost use Rattle.replica_histories.specs.Events.{EventsEnd, HeldAreSettled, KeptAreAbove};
+ghost use Rattle.replica_histories.specs.Events.{EventsEnd, HeldAreStabilized, KeptAreAbove};
 ghost use Rattle.replica_histories.specs.Outputs.{PreparesFit, CommitsFit, BatchesFit, ExecutesFit, RepliesFit, CheckpointsFit, InstallationsFit, PreparesGoAgain, CommitsGoAgain, BatchesGoAgain, CheckpointsGoAgain};
 ghost use Rattle.replica_histories.specs.Inputs.{InputsFit, CheckpointsEnter, TicksFit, BatchesCount, PreparesAreCounted, CommitsAreCounted, CheckpointsCount, RequestsCount, BatchesDrop, PreparesDrop, CommitsDrop, CheckpointsDrop, EarlyCheckpointsDrop, OthersDrop, InputsPass, TicksPass};
 ghost use Rattle.replica_histories.specs.Marks.{MarksMove, InstallationsMove, CutsAskNoMore, StableAreLow, StableAreCut};
 ghost use Rattle.replica_histories.specs.Histories.{FirstHold, HeldAreReplicas};
 ghost use Rattle.replica_histories.specs.Transfers.{WantedByHistory, DigestsCount, PagesCount, AimsStay, AskedStays, OpenStays, OpenExecutes, DigestsTaken, DigestsOpen, DigestsMayAsk, PagesMayAsk, TicksMayAsk, PagesGiveBack, PagesRested, QuorumsWant, TransfersStart, TransfersMove, QuorumsOpen, LowerAreFetched, MayAskAny, NextsAreFirst, TransfersMayFetch, TransfersAsk, StartedRests, DigestsRest, PagesRest, RestedRests, TransfersInstall};
-ghost use Rattle.replica_histories.specs.TransfersAnswers.{KeptAreOne, SnapshotsAreKept, KeptHaveSnapshots, FetchesCount, AnswersMayGo, PostedToOne, AnswersSuffice, NoneIsOwed, AnswersStay, AnswersTurn, AnswersInParts};
+ghost use Rattle.replica_histories.specs.TransfersAnswers.{KeptAreOne, SnapshotsAreKept, KeptHaveSnapshots, FetchesCount, AnswersMayGo, OutgoingToOne, AnswersSuffice, NoneIsOwed, AnswersStay, AnswersTurn, AnswersInParts};
 ghost use Rattle.replica_histories.specs.Questions.{OthersOweNoPart, OthersOweNone, NewRequestsOweNone};
 ghost use Rattle.replica_histories.specs.Resending.{ResendingSuffices, WaitingAreNew};
 ghost use Rattle.replica_histories.specs.TransfersQuorums.{QuorumsGrow, CountsStay, UnchangedBringNone, QuorumsFirst, QuorumsStay, QuorumsBegin, QuorumsGoOn, QuorumsEnd};
 ghost use Rattle.replica_histories.specs.Fetching.{FetchesFit, DueFetchesFit, QuorumsMayAsk, HeldOweNoFetch, DigestsEnter, PagesEnter, AskedDigestsCount, AskedPagesCount, OtherDigestsOweNone, OtherPagesOweNone, FetchesSuffice, FetchedSuffice, TransfersChange};
 ghost use Rattle.replica_histories.specs.Answering.{PartsFit, KeptFetchesCount, PartsSuffice, OtherNumbersOweNone, ReadsFit, ReadsSuffice, OtherOperationsOweNone};
-ghost use Rattle.replica_histories.specs.Numbers.{FirstNumbersFit, LogsAreOfNoLaterView, LaterNumberNothing, ViewsBegin, NumbersStay, OthersKeepNumbers, BatchesKeepNumbers, NumbersFit, NextIsFree, RequestsFit, InputsKeepNumbers, StatesFit, ExecutionsRaise, NumbersAreGiven, NumbersLeaveFewer, StatesLeaveNoMore};
+ghost use Rattle.replica_histories.specs.Numbers.{FirstNumbersFit, LogsAreOfNoLaterView, LaterNumberNothing, ViewsBegin, NumbersStay, OthersKeepNumbers, BatchesKeepNumbers, NumbersFit, NextIsFree, RequestsFit, InputsKeepNumbers, StatesFit, ExecutionsRaise, NumbersAreAssigned, NumbersLeaveFewer, StatesLeaveNoMore};
 
 /// An event ends if desk and log fit the history after its outputs, nothing is due, the replica owes nothing more and
 /// the input is answered. Then they fit that history between events, and the next event may begin. Between events the
 /// replica owes nothing.
 pub fn events_end()
     ensures end { EventsEnd }
-    ensures settled { HeldAreSettled }
+    ensures settled { HeldAreStabilized }
 {}
 
 /// Desk and log that fit a history fit the one with an output more. It is a prepare or commit that the log asks for;
@@ -135,8 +135,8 @@ pub fn transfers_begin()
     ensures lower { LowerAreFetched }
 {}
 
-/// A transfer asks for parts of a state that may be installed, each the first that differs from what is in place. It is
-/// open after the fetch of its place, also if it asks again on a tick.
+/// A transfer asks for parts of a state that may be installed, each the first that differs from the state in place. It
+/// is open after the fetch of its place, also if it asks again on a tick.
 pub fn transfers_ask()
     ensures again { TicksMayAsk }
     ensures any { MayAskAny }
@@ -168,7 +168,7 @@ pub fn kept_are_one()
 pub fn fetches_are_answered()
     ensures counts { FetchesCount }
     ensures may { AnswersMayGo }
-    ensures posted { PostedToOne }
+    ensures posted { OutgoingToOne }
     ensures suffice { AnswersSuffice }
     ensures unkept { NoneIsOwed }
     ensures stay { AnswersStay }
@@ -266,10 +266,10 @@ pub fn numbers_stay()
 /// The next number, assigned to the oldest requests without one, numbers none of them twice. If it may not be assigned,
 /// or all waiting requests have one, the replica owes no number (Castro and Liskov, TOCS 2002, on normal-case
 /// operation). All have one after as many numbers as requests wait.
-pub fn numbers_are_given()
+pub fn numbers_are_assigned()
     ensures fit { NumbersFit }
     ensures free { NextIsFree }
-    ensures all { NumbersAreGiven }
+    ensures all { NumbersAreAssigned }
     ensures fewer { NumbersLeaveFewer }
 {}
 

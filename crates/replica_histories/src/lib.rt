@@ -17,7 +17,7 @@
 //! ([`messages_count`], [`messages_drop`]). An input that changes nothing passes ([`inputs_pass`]). A checkpoint that
 //! becomes stable, or an installed state, moves the marks, and the log forgets the rows and the checkpoints up to the
 //! low mark ([`marks_move`]). The history alone tells which waiting requests have numbers at the primary, so cut rows
-//! take nothing from it ([`numbers_stay`], [`numbers_are_given`], [`waiting_keeps_numbers`]).
+//! take nothing from it ([`numbers_stay`], [`numbers_are_assigned`], [`waiting_keeps_numbers`]).
 //!
 //! A state transfer is open from the event on in which a quorum of checkpoints is above the state, and asks for one
 //! place at a time ([`fetches_fit`], [`parts_enter`]). Its root is wanted, and its parts were received
@@ -75,7 +75,7 @@ pub use changes::{
 };
 pub use laws::{
     events_end, fetches_are_answered, fetches_fit, histories_are_replicas, inputs_fit, inputs_pass,
-    kept_are_one, marks_move, messages_count, messages_drop, numbers_are_given, numbers_stay,
+    kept_are_one, marks_move, messages_count, messages_drop, numbers_are_assigned, numbers_stay,
     outputs_fit, own_go_again, parts_are_taken, parts_bring_on, parts_count, parts_enter,
     parts_fit, quorums_are_fetched, reads_fit, transfers_ask, transfers_begin, transfers_install,
     transfers_stay, waiting_keeps_numbers,

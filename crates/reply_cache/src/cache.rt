@@ -1,7 +1,7 @@
 //! The replies by client.
 
 ghost use Rattle.std.specs.Prelude.{◌≡◌, ℕ, ◌≤◌, ◌<◌, ◌++◌, ◌∷◌, [], OnOk, OnErr, IfOk, IsTrue, length, option_map};
-ghost use Rattle.tuple_codec.specs.Gives.{GivesEach};
+ghost use Rattle.tuple_codec.specs.Results.{ReturnsEach};
 ghost use Rattle.reply_cache.specs.Replies.{Replies, no_replies, last_of, seen_of, IsAbove, AreReplies};
 ghost use Rattle.reply_cache.specs.ReplyView.{kept_of_reply, padded, AreSlots, with_answer};
 ghost use Rattle.reply_cache.specs.Pages.{reply_page_text, ArePagesOfReplies};
@@ -128,7 +128,7 @@ impl ReplyCache {
         ensures memory { (result ≡ Err Bad.NoMemory) → AreSomePages (texts_of pages.now) }
 
         // The replies with these pages are read, unless memory runs out.
-        ensures only { GivesEach Bad.NoMemory (λ c. c) (ArePagesOfReplies (texts_of pages.now)) result }
+        ensures only { ReturnsEach Bad.NoMemory (λ c. c) (ArePagesOfReplies (texts_of pages.now)) result }
     {
         if pages.len() != MAX_CLIENTS {
             return Err(Bad::Malformed);

@@ -1,7 +1,7 @@
 //! The texts of pages, and back.
 
 ghost use Rattle.std.specs.Prelude.{◌≡◌, ◌++◌, Option, IfOk, OnOk, IsTrue};
-ghost use Rattle.tuple_codec.specs.Gives.{GivesEach};
+ghost use Rattle.tuple_codec.specs.Results.{ReturnsEach};
 ghost use Rattle.tuple_codec.specs.OperationView.{outcome_of};
 ghost use Rattle.tuple_codec.specs.Spelling.{SpellsOutcome};
 ghost use Rattle.reply_cache.specs.Replies.{Kept};
@@ -30,7 +30,7 @@ pub fn put_reply(reply: &Reply, out: &mut Vec<u8>) -> Result<(), NoMemory>
 // The answer that bytes spell as a whole.
 fn read_answer(alloc: Global, bytes: &[u8]) -> Result<Answer<Global>, Bad>
     ensures found { IfOk result (λ a. SpellsOutcome bytes.now (outcome_of a)) }
-    ensures only { GivesEach Bad.NoMemory outcome_of (SpellsOutcome bytes.now) result }
+    ensures only { ReturnsEach Bad.NoMemory outcome_of (SpellsOutcome bytes.now) result }
 {
     match decode_result(alloc, bytes) {
         Ok((answer, len)) => {
@@ -63,7 +63,7 @@ pub fn is_page(text: &[u8]) -> bool
 /// The reply that a page's text spells.
 pub fn read_reply(alloc: Global, text: &[u8]) -> Result<Option<Reply>, Bad>
     ensures found { IfOk result (λ r. SpellsReply text.now (kept_if_any r)) }
-    ensures only { GivesEach Bad.NoMemory kept_if_any (SpellsReply text.now) result }
+    ensures only { ReturnsEach Bad.NoMemory kept_if_any (SpellsReply text.now) result }
 {
     if text.is_empty() {
         return Ok(None);

@@ -35,7 +35,7 @@ pub enum Step {
         receivers: Vec<Party>,
         body: Vec<u8>,
     },
-    /// The party hears that time went by.
+    /// The party learns that time went by.
     Tick {
         party: Party,
     },

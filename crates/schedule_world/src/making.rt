@@ -2,7 +2,7 @@
 
 ghost use Rattle.std.specs.Prelude.{◌≡◌, ◌<◌, ◌≤◌, length, map, IfOk, IfSome};
 ghost use Rattle.terms.specs.Parties.{party_number};
-ghost use Rattle.authenticator.specs.Giving.{AreMacsFor};
+ghost use Rattle.authenticator.specs.Results.{AreMacsFor};
 ghost use Rattle.authenticator.specs.Keys.{key_between, signing_seed};
 ghost use Rattle.signing.specs.Signatures.{signature_of};
 ghost use Rattle.wire_format.specs.Spelling.{piece};

@@ -1,6 +1,6 @@
 pub mod Opened
 pub mod Requests
-pub mod Heard
+pub mod AuthenticBody
 pub mod Joining
 pub mod Nodes
 pub mod Parts

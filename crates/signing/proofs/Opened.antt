@@ -1,4 +1,4 @@
--- The judgement of a frame by its header decides whether a party hears it.
+-- The judgement of a frame by its header decides whether a party receives it.
 use Rattle.std.proofs.Common.{◌≡◌, ◌≢◌, inl, ℕ, true, false, List, Some, None, ap, sym, refl, ◌∙◌}
 use Rattle.wire_format.specs.Messages.{BodyData, FrameData, AuthenticatorData, macs, signature}
 use Rattle.wire_format.specs.Spelling.{SpellsFrame, is_signed, authenticator_is_signed, body_spelling}
@@ -12,10 +12,10 @@ use Rattle.authenticator.specs.Headers.{header_refusal}
 use Rattle.authenticator.specs.Opening.{Opens}
 use Rattle.authenticator.proofs.Refusing.{header_refused, header_opened, header_not_refused}
 use Rattle.signing.specs.Signatures.{public_key}
-use Rattle.signing.specs.Faults.{hear_fault}
-use Rattle.signing.specs.Heard.{signs, has_signature, heard}
-use Rattle.signing.specs.Hearing.{HasNoSignature, IsOfOwnName, RefusesBytes, authenticator_holds, signature_holds}
-use Rattle.signing.proofs.Heard.{opened_is_heard, heard_was_opened}
+use Rattle.signing.specs.Faults.{authentication_fault}
+use Rattle.signing.specs.AuthenticBody.{signs, has_signature, authentic}
+use Rattle.signing.specs.Receiving.{HasNoSignature, IsOfOwnName, RefusesBytes, authenticator_holds, signature_holds}
+use Rattle.signing.proofs.AuthenticBody.{opened_is_authentic, authentic_was_opened}
 
 -- of a frame that is to be signed an authenticator that holds is its sender's signature
 holds : (seed text : List ℕ) (sender : ℕ) (authenticator : AuthenticatorData) → authenticator_holds seed sender text authenticator ≡ true → authenticator_is_signed authenticator ≡ true
@@ -36,16 +36,16 @@ module _ (m : Membership) (party : ℕ) (bytes : List ℕ) (header : HeaderData)
   not_own : header.sender ≢ party → ¬ IsOfOwnName party bytes
   not_own other own = other (ap (λ (h : HeaderData). h.sender) (header_is own.frame own.spelled) ∙ own.sender)
 
-  pub own_not_heard : header.sender ≡ party → (body : BodyData) → heard m party bytes ≡ Some body → ⊥
+  pub own_not_heard : header.sender ≡ party → (body : BodyData) → authentic m party bytes ≡ Some body → ⊥
   own_not_heard e body h =
-      let w = heard_was_opened m party bytes body h in
+      let w = authentic_was_opened m party bytes body h in
       w.other (ap (λ (b : BodyData). b.sender) (sym w.body_is) ∙ sym (ap (λ (h : HeaderData). h.sender) (header_is w.frame w.opens.spelled)) ∙ e)
 
-  pub refused_not_heard : (fault : OpenFault) → Some fault ≡ header_refusal m party header → (body : BodyData) → heard m party bytes ≡ Some body → ⊥
+  pub refused_not_heard : (fault : OpenFault) → Some fault ≡ header_refusal m party header → (body : BodyData) → authentic m party bytes ≡ Some body → ⊥
   refused_not_heard fault e body h =
-      let w = heard_was_opened m party bytes body h in header_not_refused m party bytes header has fault w.frame e w.opens
+      let w = authentic_was_opened m party bytes body h in header_not_refused m party bytes header has fault w.frame e w.opens
 
-  pub refused_by_header : (fault : OpenFault) → Some fault ≡ header_refusal m party header → header.sender ≢ party → RefusesBytes m party bytes (hear_fault fault)
+  pub refused_by_header : (fault : OpenFault) → Some fault ≡ header_refusal m party header → header.sender ≢ party → RefusesBytes m party bytes (authentication_fault fault)
   refused_by_header open_faults.TooLarge e other = header_refused m party bytes header has open_faults.TooLarge e
   refused_by_header open_faults.Malformed e other = header_refused m party bytes header has open_faults.Malformed e
   refused_by_header open_faults.UnknownSender e other = inl (header_refused m party bytes header has open_faults.UnknownSender e)
@@ -57,10 +57,10 @@ module _ (m : Membership) (party : ℕ) (bytes : List ℕ) (header : HeaderData)
     opens : (frame : FrameData) → SpellsFrame bytes frame → Opens m party bytes frame
     opens frame s = header_opened m party bytes header has frame s none
 
-    pub heard_by_header : (frame : FrameData) → SpellsFrame bytes frame → header.sender ≢ party → signature_holds m.seed header ≡ true → heard m party bytes ≡ Some frame.body
-    heard_by_header frame s other h =
+    pub authentic_by_header : (frame : FrameData) → SpellsFrame bytes frame → header.sender ≢ party → signature_holds m.seed header ≡ true → authentic m party bytes ≡ Some frame.body
+    authentic_by_header frame s other h =
         let k : signature_holds m.seed (header_of frame) ≡ true = ap (signature_holds m.seed) (sym (header_is frame s)) ∙ h in
-        opened_is_heard m party bytes frame (opens frame s) (λ e. other (ap (λ (h : HeaderData). h.sender) (header_is frame s) ∙ e))
+        opened_is_authentic m party bytes frame (opens frame s) (λ e. other (ap (λ (h : HeaderData). h.sender) (header_is frame s) ∙ e))
         (λ signed. holds m.seed (body_spelling frame.body) frame.body.sender frame.authenticator k (s.valid.proved ∙ signed))
 
     unsigned : (frame : FrameData) → SpellsFrame bytes frame → signature_holds m.seed header ≡ false → (is_signed frame.body.message ≡ true) × (has_signature m.seed frame ≡ false)
@@ -72,9 +72,9 @@ module _ (m : Membership) (party : ℕ) (bytes : List ℕ) (header : HeaderData)
     unsigned_by_header other h =
         let u = unsigned has.0 has.1 h in (record { frame = has.0; opens = opens has.0 has.1; signed = u.0; unsigned = u.1 }, not_own other)
 
-    pub unsigned_not_heard : signature_holds m.seed header ≡ false → (body : BodyData) → heard m party bytes ≡ Some body → ⊥
+    pub unsigned_not_heard : signature_holds m.seed header ≡ false → (body : BodyData) → authentic m party bytes ≡ Some body → ⊥
     unsigned_not_heard h body e =
-        let w = heard_was_opened m party bytes body e in
+        let w = authentic_was_opened m party bytes body e in
         let u = unsigned w.frame w.opens.spelled h in
         let g : true ≡ false = sym (w.signed u.0) ∙ u.1 in
         let k : ⊥ = cc in k

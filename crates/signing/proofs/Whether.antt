@@ -1,4 +1,4 @@
--- Whether something is heard.
+-- Whether something is received.
 use Rattle.std.proofs.Common.{◌≡◌, ℕ, true, false, List, Option, Some, None, refl, ap, sym, ◌∙◌}
 use Rattle.std.specs.Prelude.{is_some}
 use Rattle.std.proofs.lemmas.Bool.{false≢true}
@@ -6,8 +6,8 @@ use Rattle.wire_format.specs.Messages.{BodyData, FrameData}
 use Rattle.wire.specs.Headers.{IsFrame, HasBody}
 use Rattle.wire.proofs.Whole.{one_frame}
 use Rattle.authenticator.specs.Membership.{Membership}
-use Rattle.signing.specs.Heard.{heard}
-use Rattle.signing.proofs.Heard.{heard_was_opened}
+use Rattle.signing.specs.AuthenticBody.{authentic}
+use Rattle.signing.proofs.AuthenticBody.{authentic_was_opened}
 
 none_of : (o : Option BodyData) → ((body : BodyData) → o ≡ Some body → ⊥) → false ≡ is_some o
 none_of None never = refl
@@ -18,25 +18,25 @@ some_of None h = absurd (let g : ⊥ = cc in g)
 some_of (Some body) h = (body, refl)
 
 module _ (m : Membership) (party : ℕ) (bytes : List ℕ) where
-  pub hears_nothing : ((body : BodyData) → heard m party bytes ≡ Some body → ⊥) → false ≡ is_some (heard m party bytes)
-  hears_nothing none = none_of (heard m party bytes) none
+  pub hears_nothing : ((body : BodyData) → authentic m party bytes ≡ Some body → ⊥) → false ≡ is_some (authentic m party bytes)
+  hears_nothing none = none_of (authentic m party bytes) none
 
-  pub nothing_heard : false ≡ is_some (heard m party bytes) → (body : BodyData) → heard m party bytes ≡ Some body → ⊥
+  pub nothing_heard : false ≡ is_some (authentic m party bytes) → (body : BodyData) → authentic m party bytes ≡ Some body → ⊥
   nothing_heard none body e = false≢true (none ∙ ap is_some e)
 
-  pub hears_something : (body : BodyData) → heard m party bytes ≡ Some body → true ≡ is_some (heard m party bytes)
+  pub hears_something : (body : BodyData) → authentic m party bytes ≡ Some body → true ≡ is_some (authentic m party bytes)
   hears_something body e = sym (ap is_some e)
 
-  module _ (some : true ≡ is_some (heard m party bytes)) where
-    pub something_heard : (body : BodyData) × (heard m party bytes ≡ Some body)
-    something_heard = some_of (heard m party bytes) some
+  module _ (some : true ≡ is_some (authentic m party bytes)) where
+    pub something_heard : (body : BodyData) × (authentic m party bytes ≡ Some body)
+    something_heard = some_of (authentic m party bytes) some
 
-    pub heard_frame : IsFrame bytes
-    heard_frame =
-        let w = heard_was_opened m party bytes something_heard.0 something_heard.1 in (w.frame, w.opens.spelled)
+    pub authentic_frame : IsFrame bytes
+    authentic_frame =
+        let w = authentic_was_opened m party bytes something_heard.0 something_heard.1 in (w.frame, w.opens.spelled)
 
-    -- bytes that are heard spell one frame, whose body is heard
-    pub heard_of_body : (body : BodyData) → HasBody bytes body → heard m party bytes ≡ Some body
-    heard_of_body body has =
-        let w = heard_was_opened m party bytes something_heard.0 something_heard.1 in
+    -- bytes that are received spell one frame, whose body is received
+    pub authentic_of_body : (body : BodyData) → HasBody bytes body → authentic m party bytes ≡ Some body
+    authentic_of_body body has =
+        let w = authentic_was_opened m party bytes something_heard.0 something_heard.1 in
         something_heard.1 ∙ ap Some (sym w.body_is) ∙ ap (λ (f : FrameData). Some f.body) (one_frame bytes w.frame has.0 w.opens.spelled has.1) ∙ ap Some has.2

@@ -1,4 +1,4 @@
--- The laws of hearing.
+-- The laws of authentic frames.
 use Rattle.std.specs.Prelude.{◌≡◌, ◌≢◌, ◌↔◌, ◌<◌, ℕ, IsTrue, List, Some}
 use Rattle.wire_format.specs.Messages.{BodyData, FrameData, signature}
 use Rattle.wire_format.specs.Spelling.{SpellsFrame, body_spelling, is_signed}
@@ -6,15 +6,15 @@ use Rattle.authenticator.specs.Keys.{signing_seed}
 use Rattle.authenticator.specs.Membership.{Membership, has_sender}
 use Rattle.authenticator.specs.Opening.{Opens}
 use Rattle.signing.specs.Signatures.{signature_of, verifies, Verifies}
-use Rattle.signing.specs.Heard.{has_signature, heard, signed_body}
+use Rattle.signing.specs.AuthenticBody.{has_signature, authentic, signed_body}
 
--- a party hears a frame of another party that opens, if it is not to be signed or has its sender's signature
-abbrev pub OpenedIsHeard : Type 0
-OpenedIsHeard =
+-- a frame of another party that opens is authentic, if it is not to be signed or has its sender's signature
+abbrev pub OpenedIsAuthentic : Type 0
+OpenedIsAuthentic =
     (m : Membership) (party : ℕ) (bytes : List ℕ) (frame : FrameData)
     → Opens m party bytes frame → frame.body.sender ≢ party
     → (IsTrue (is_signed frame.body.message) → IsTrue (has_signature m.seed frame))
-    → heard m party bytes ≡ Some frame.body
+    → authentic m party bytes ≡ Some frame.body
 
 -- The bytes are a frame of this body that opens, with its sender's signature if it is to be signed. The sender is
 -- another party.
@@ -25,23 +25,23 @@ pub record OpensAs (m : Membership) (party : ℕ) (bytes : List ℕ) (body : Bod
   pub body_is : frame.body ≡ body
   pub other : body.sender ≢ party
 
--- a party hears no other frames
-abbrev pub HeardWasOpened : Type 0
-HeardWasOpened =
+-- no other frames are
+abbrev pub AuthenticWasOpened : Type 0
+AuthenticWasOpened =
     (m : Membership) (party : ℕ) (bytes : List ℕ) (body : BodyData)
-    → heard m party bytes ≡ Some body → OpensAs m party bytes body
+    → authentic m party bytes ≡ Some body → OpensAs m party bytes body
 
--- a signed body is heard by each party but its sender
-abbrev pub SignedIsHeard : Type 0
-SignedIsHeard =
+-- a signed body is authentic to each party but its sender
+abbrev pub SignedIsAuthentic : Type 0
+SignedIsAuthentic =
     (m : Membership) (party : ℕ) (bytes : List ℕ) (body : BodyData)
-    → signed_body m bytes ≡ Some body → body.sender ≢ party → heard m party bytes ≡ Some body
+    → signed_body m bytes ≡ Some body → body.sender ≢ party → authentic m party bytes ≡ Some body
 
--- if a party hears a view change or new view, it is signed
-abbrev pub HeardWasSigned : Type 0
-HeardWasSigned =
+-- if a view change or new view is authentic to a party, it is signed
+abbrev pub AuthenticWasSigned : Type 0
+AuthenticWasSigned =
     (m : Membership) (party : ℕ) (bytes : List ℕ) (body : BodyData)
-    → heard m party bytes ≡ Some body → IsTrue (is_signed body.message)
+    → authentic m party bytes ≡ Some body → IsTrue (is_signed body.message)
     → signed_body m bytes ≡ Some body
 
 -- the bytes are a frame of this body, which is to be signed, with its sender's signature
@@ -69,8 +69,8 @@ frame_signed_by_leaf seed body leaf =
     }
 
 -- a frame that a party signs with one of its 64 leaves has a signed body
-abbrev pub SignerIsHeard : Type 0
-SignerIsHeard =
+abbrev pub SignerIsAuthentic : Type 0
+SignerIsAuthentic =
     (m : Membership) (bytes : List ℕ) (body : BodyData) (leaf : ℕ) → leaf < 64
     → IsTrue (has_sender m body) → SpellsFrame bytes (frame_signed_by_leaf m.seed body leaf)
     → signed_body m bytes ≡ Some body

@@ -1,8 +1,8 @@
 pub mod Faults
-pub mod Giving
+pub mod Results
 pub mod Hashing
-pub mod Heard
-pub mod Hearing
+pub mod AuthenticBody
+pub mod Receiving
 pub mod Joined
 pub mod Lamport
 pub mod Laws

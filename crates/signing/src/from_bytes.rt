@@ -1,78 +1,80 @@
-//! From bytes to what a party hears.
+//! From bytes to authentic frames.
 
 ghost use Rattle.std.specs.Prelude.{◌≡◌, IfOk, IfErr, is_ok, is_some};
 ghost use Rattle.terms.specs.Parties.{party_number};
 ghost use Rattle.wire.specs.Headers.{header_data};
-ghost use Rattle.signing.specs.Heard.{heard};
-ghost use Rattle.signing.specs.Hearing.{RefusesBytes, signature_holds};
-ghost use Rattle.signing.specs.Giving.{IsHeard, HearsEach};
+ghost use Rattle.signing.specs.AuthenticBody.{authentic};
+ghost use Rattle.signing.specs.Receiving.{RefusesBytes, signature_holds};
+ghost use Rattle.signing.specs.Results.{IsAuthenticTo, AuthenticatesEach};
 
-use crate::hear_fault::HearFault;
-use crate::heard_frame::HeardFrame;
+use crate::authentic_frame::AuthenticFrame;
+use crate::authentication_fault::AuthenticationFault;
 use crate::public_keys::PublicKeys;
 use authenticator::Ring;
 use std::alloc::Global;
 use terms::Party;
 use wire::{AuthenticatorBytes, Header, decode_judged_body, judge};
 
-/// What `me` hears from the bytes: a frame of another party, which takes part and may send such a message, with the
-/// right MAC for `me`, or signed by its sender where it is a view change or a new view. Its body alone is decoded. The
-/// keys and the ring are of one seed.
+/// The frame in the bytes, if it is authentic to `me`: a frame of another party, which takes part and may send such a
+/// message, with the right MAC for `me`, or signed by its sender where it is a view change or a new view. Its body
+/// alone is decoded. The keys and the ring are of one seed.
 ///
 /// # Errors
 ///
-/// The first that applies, in the order of [`HearFault`]. Bytes that are refused take no memory, so want of it comes
-/// last.
-pub fn hear<'b>(
+/// The first that applies, in the order of [`AuthenticationFault`]. Bytes that are refused take no memory, so want of
+/// it comes last.
+pub fn authenticate<'b>(
     alloc: Global,
     ring: &mut Ring,
     publics: &PublicKeys,
     bytes: &'b [u8],
     me: Party,
-) -> Result<HeardFrame<'b>, HearFault>
+) -> Result<AuthenticFrame<'b>, AuthenticationFault>
     requires { publics.now ≡ ring.old.seed }
-    ensures heard { IfOk result (IsHeard ring.old me bytes.now) }
+    ensures authentic { IfOk result (IsAuthenticTo ring.old me bytes.now) }
     ensures carried { IfOk result (λ h. h.bytes.now ≡ bytes.now) }
-    ensures all { HearsEach ring.old me bytes.now result }
+    ensures all { AuthenticatesEach ring.old me bytes.now result }
     ensures refused { IfErr result (RefusesBytes ring.old (party_number me) bytes.now) }
     ensures ring { ring.new ≡ ring.old }
 {
-    authenticate(ring, publics, bytes, me)?;
+    check_authentic(ring, publics, bytes, me)?;
     let body = decode_judged_body(alloc, bytes)?;
-    Ok(HeardFrame { bytes, body })
+    Ok(AuthenticFrame { bytes, body })
 }
 
-/// Whether `me` hears something from the bytes: then [`hear`] gives a frame, unless memory runs out. The bytes are
-/// judged where they lie: nothing is decoded, and no memory is taken but for the keys and requests that the ring keeps.
-pub fn hears(ring: &mut Ring, publics: &PublicKeys, bytes: &[u8], me: Party) -> bool
+/// Whether the bytes are a frame that is authentic to `me`: then [`authenticate`] gives a frame, unless memory runs
+/// out. The bytes are judged where they lie: nothing is decoded, and no memory is taken but for the keys and requests
+/// that the ring keeps.
+pub fn is_authentic_for(ring: &mut Ring, publics: &PublicKeys, bytes: &[u8], me: Party) -> bool
     requires { publics.now ≡ ring.old.seed }
-    ensures heard { result ≡ is_some (heard ring.old (party_number me) bytes.now) }
+    ensures authentic { result ≡ is_some (authentic ring.old (party_number me) bytes.now) }
     ensures ring { ring.new ≡ ring.old }
 {
-    authenticate(ring, publics, bytes, me).is_ok()
+    check_authentic(ring, publics, bytes, me).is_ok()
 }
 
-// Judges the bytes where they lie: whether `me` hears something from them, and else the first refusal that applies.
-fn authenticate(
+// Judges the bytes where they lie: whether they are a frame that is authentic to `me`, and else the first refusal that
+// applies.
+fn check_authentic(
     ring: &mut Ring,
     publics: &PublicKeys,
     bytes: &[u8],
     me: Party,
-) -> Result<(), HearFault>
+) -> Result<(), AuthenticationFault>
     requires { publics.now ≡ ring.old.seed }
-    ensures heard { is_ok result ≡ is_some (heard ring.old (party_number me) bytes.now) }
+    ensures authentic { is_ok result ≡ is_some (authentic ring.old (party_number me) bytes.now) }
     ensures refused { IfErr result (RefusesBytes ring.old (party_number me) bytes.now) }
     ensures ring { ring.new ≡ ring.old }
 {
     let header = judge(bytes)?;
     if header.sender.number() == me.number() {
-        return Err(HearFault::UnknownSender);
+        return Err(AuthenticationFault::UnknownSender);
     }
     if let Some(fault) = ring.refusal(&header, me) {
         return Err(fault.into());
     }
     if !signature_holds(publics, &header) {
-        return Err(HearFault::BadSignature);
+        return Err(AuthenticationFault::BadSignature);
     }
     Ok(())
 }

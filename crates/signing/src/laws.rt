@@ -1,19 +1,19 @@
 //! Laws of the definitions.
 
-ghost use Rattle.signing.specs.Laws.{HeardWasOpened, HeardWasSigned, OpenedIsHeard, SignedIsHeard, SignedWasSigned, SignerIsHeard, VerifyingIsDecided};
+ghost use Rattle.signing.specs.Laws.{AuthenticWasOpened, AuthenticWasSigned, OpenedIsAuthentic, SignedIsAuthentic, SignedWasSigned, SignerIsAuthentic, VerifyingIsDecided};
 
 /// The test of a signature is true exactly if the signature verifies.
 pub fn verifying_is_decided()
     ensures { VerifyingIsDecided }
 {}
 
-/// A party hears exactly the frames of others that open and, if they are to be signed, have their sender's signature.
-/// A view change or new view is heard by all parties but its sender, or by none.
-pub fn hearing()
-    ensures opened_is_heard { OpenedIsHeard }
-    ensures heard_was_opened { HeardWasOpened }
-    ensures signed_is_heard { SignedIsHeard }
-    ensures heard_was_signed { HeardWasSigned }
+/// The frames that are authentic to a party are those of others that open and, if they are to be signed, have their
+/// sender's signature. A view change or new view is authentic to all parties but its sender, or to none.
+pub fn receiving()
+    ensures opened_is_authentic { OpenedIsAuthentic }
+    ensures authentic_was_opened { AuthenticWasOpened }
+    ensures signed_is_authentic { SignedIsAuthentic }
+    ensures authentic_was_signed { AuthenticWasSigned }
     ensures signed_was_signed { SignedWasSigned }
-    ensures signer_is_heard { SignerIsHeard }
+    ensures signer_is_authentic { SignerIsAuthentic }
 {}

@@ -7,17 +7,17 @@
 //! # What is proved
 //!
 //! Each signature that a `Signer` makes verifies, it uses no leaf twice, and `verify` is exactly its definition.
-//! `hearing` says that a party hears exactly the frames of others that open and, if they have to be signed, have
-//! their sender's signature. A view change or new view is heard by all others or by none. `hear` goes from the bytes
-//! to the body in one call, or gives the first refusal that applies; refused bytes take no memory. `hears` says
-//! whether a party hears the bytes, and decodes nothing; `hear_request` hears a request in its bytes. No proof claims
-//! that nobody else can sign.
+//! `receiving` says that the frames authentic to a party are those of others that open and, if they have to be signed,
+//! have their sender's signature. A view change or new view is authentic to all others or to none. `authenticate` goes
+//! from the bytes to the body in one call, or gives the first refusal that applies; refused bytes take no memory.
+//! `is_authentic_for` says whether the bytes are authentic to a party, and decodes nothing; `authenticate_request` finds
+//! a request in its bytes. No proof claims that nobody else can sign.
 #![tactic(auto)]
 
+mod authentic_frame;
+mod authentic_request;
+mod authentication_fault;
 mod from_bytes;
-mod hear_fault;
-mod heard_frame;
-mod heard_request;
 mod laws;
 mod public_keys;
 mod secrets;
@@ -25,11 +25,11 @@ mod signature;
 mod signer;
 mod tree;
 
-pub use from_bytes::{hear, hears};
-pub use hear_fault::HearFault;
-pub use heard_frame::HeardFrame;
-pub use heard_request::{HeardRequest, hear_request};
-pub use laws::{hearing, verifying_is_decided};
+pub use authentic_frame::AuthenticFrame;
+pub use authentic_request::{AuthenticRequest, authenticate_request};
+pub use authentication_fault::AuthenticationFault;
+pub use from_bytes::{authenticate, is_authentic_for};
+pub use laws::{receiving, verifying_is_decided};
 pub use public_keys::PublicKeys;
 pub use signature::{SIGNATURE_LEN, Signature, verify, verify_bytes};
 pub use signer::{SignFault, Signer};

@@ -2,11 +2,11 @@
 
 ghost use Rattle.std.specs.Prelude.{◌≡◌, ◌↔◌, IsTrue, IfOk, IfSome};
 ghost use Rattle.authenticator.specs.Keys.{signing_seed};
-ghost use Rattle.signing.specs.Heard.{has_signature};
+ghost use Rattle.signing.specs.AuthenticBody.{has_signature};
 ghost use Rattle.signing.specs.Signatures.{public_key};
 ghost use Rattle.wire_format.specs.Spelling.{SpellsFrame};
 ghost use Rattle.wire_format.specs.Views.{frame_data};
-ghost use Rattle.signing.specs.Giving.{IsSignedBy, public_key_of};
+ghost use Rattle.signing.specs.Results.{IsSignedBy, public_key_of};
 
 use crate::signature::{is_signature, verify_bytes};
 use crate::tree::KeyTree;

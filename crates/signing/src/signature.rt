@@ -3,7 +3,7 @@
 ghost use Rattle.std.specs.Prelude.{◌≡◌, ◌↔◌, ◌+◌, ◌<◌, ◌≤◌, ℕ, List, IfOk, OnErr, IsTrue, length, slice_index};
 ghost use Rattle.sha2.specs.Sha256.{sha256};
 ghost use Rattle.signing.specs.Signatures.{IsSignature, shown_digest, shown_pair, shown_root, Verifies};
-ghost use Rattle.signing.specs.Giving.{FindsSignature};
+ghost use Rattle.signing.specs.Results.{FindsSignature};
 ghost use Rattle.signing.specs.Hashing.{TakesIn};
 
 use crate::secrets::{BITS, bit_of};

@@ -6,7 +6,7 @@ ghost use Rattle.signing.specs.Lamport.{leaf_digest};
 ghost use Rattle.signing.specs.Merkle.{sibling};
 ghost use Rattle.signing.specs.Signatures.{public_key, signature_of, Verifies};
 ghost use Rattle.signing.specs.Signing.{HasNodes, HasLeaves, digest_over};
-ghost use Rattle.signing.specs.Giving.{AppendsPath};
+ghost use Rattle.signing.specs.Results.{AppendsPath};
 
 use crate::secrets::Secrets;
 use crate::signature::{SIGNATURE_LEN, Signature};

@@ -1,4 +1,4 @@
--- The oldest match, and what is left without it.
+-- The oldest match, and the tuples without it.
 use Rattle.std.proofs.Common.{◌≡◌, ◌≢◌, ℕ, Bool, true, false, cond, List, [], ◌∷◌, get_or, Option, Some, None, Result, Ok, Err, option_map, refl, sym, ap, ◌∙◌}
 use Rattle.std.specs.Prelude.{filter, find, position, is_some, OnErr}
 use Rattle.std.specs.Ordering.{nat_cmp}

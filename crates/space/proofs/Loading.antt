@@ -35,7 +35,7 @@ pub IsPage-fits : (page next : ℕ) (es : List BornTuple) → next < 2 ^ 64 → 
 IsPage-fits page next es l h k d m = let b = h.below_next k d m in record { fits = omega arith; tuple = h.tuples k d m }
 
 module _ (v : Version) (page next : ℕ) (text : List ℕ) (old es : List BornTuple) (rest : List ℕ) (count least : ℕ) (h : IsFrontRead v page next text old es rest count least) where
-  -- what is on the page already comes before what may follow
+  -- tuples on the page already come before those that may follow
   pub latest : (e : BornTuple) → IsEntryOf page least next e → All (λ x. x.0 % 256 ≡ e.0 % 256 → x.0 < e.0) es
   latest e of =
       let above = All-weaker (λ x. x.0 < least) (λ x. x.0 < e.0) (λ x l. let m = of.not_below in omega arith) (on_page page es) h.above in

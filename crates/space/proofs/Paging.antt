@@ -66,7 +66,7 @@ stored_on-le-length (e ∷ es) n start l =
     let r = stored_on-le-length es n start l in
     omega arith
 
--- what is said of a birth that has room
+-- the facts on a birth that has room
 pub record HasRoom (es : List BornTuple) (n start birth : ℕ) : Type 0 where
   pub room : page_count es (birth % 256) < 64
   pub not_below : start ≤ birth

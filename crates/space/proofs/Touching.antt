@@ -70,9 +70,9 @@ grown s client o page l h = go (refuses s.version client o) h
     go true h = not_grown page s s refl refl
     go false h = served_grown s o page l h
 
--- ---- what is marked
+-- ---- marked pages
 
--- What is refused changes none, and what is not changes what it says.
+-- A refused operation changes none, and another changes the page that it names.
 module _ (s : SpaceState) (client : ℕ) (o : Operation) where
   pub refused_births : refuses s.version client o ≡ true → [] ≡ changed_births s client o
   refused_births e = sym (ap (λ b. cond b [] (served_changes s o)) e)
@@ -117,7 +117,7 @@ is_untouched w page h e =
     or_from (is_changed w page) (not (written_on w page == page_count w.state.entries page)) h
     (not_from_true (written_on w page == page_count w.state.entries page) (eq-eqb (written_on w page) (page_count w.state.entries page) e))
 
--- The text of an untouched page is what was written of it.
+-- The text of an untouched page is the one that was written.
 pub written_whole : (w : WatchedState) (page : ℕ) → is_touched w page ≡ false → (is_changed w page ≡ false) × (written_text w page ≡ tuple_page_text w.state page)
 written_whole w page h = let u = untouched w page h in (u.0, oldest_are_all w.state page (written_on w page) u.1)
 

@@ -43,11 +43,11 @@ kind_first (Some v) = kind_of v
 abbrev pub first_kind : TupleTree → Kind
 first_kind t = kind_first (slice_get (as_list t) 0)
 
--- what is told of an entry without a look at its tuple
+-- the label of an entry, which a search reads without a look at its tuple
 abbrev pub entry_label : BornTuple → Label
 entry_label e = record { birth = e.0; second = tuple_print e.1; first = first_kind e.1 }
 
--- A label tells something else than what is wanted.
+-- A label isn't the wanted one.
 abbrev pub IsUnlike : Wanted → Label → Type 0
 IsUnlike Anything label = ⊥
 IsUnlike (First wanted) label = label.first ≢ wanted
@@ -57,7 +57,7 @@ IsUnlike (Second wanted) label = label.second ≢ wanted
 abbrev pub TellsMatches : TemplateTree → Wanted → Type 0
 TellsMatches p wanted = (e : BornTuple) → is_match p e.1 ≡ true → IsUnlike wanted (entry_label e) → ⊥
 
--- A birth has no tuple, or one whose label tells something else than what is wanted.
+-- A birth has no tuple, or one whose label isn't the wanted one.
 abbrev pub HasOtherLabel : Wanted → ℕ → List BornTuple → Type 0
 HasOtherLabel wanted birth es =
     (t : TupleTree) → lookup (is_at (nat_cmp birth)) es ≡ Some t → IsUnlike wanted (entry_label (birth, t))

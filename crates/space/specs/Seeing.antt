@@ -14,7 +14,7 @@ outcome_seen seen.Absent = absent
 outcome_seen (seen.All ts) = all (lent_tuples ts.items)
 outcome_seen seen.Refused = refused
 
--- What is seen is the answer of the state to the operation, whichever client asks, unless nothing is.
+-- The result is the answer of the state to the operation, whichever client asks, unless there is none.
 abbrev pub ShowsAnyone : {E : Type 0} → Result Seen E → SpaceState → Operation → Type 0
 ShowsAnyone result s o =
     (client : ℕ) → IfOk result (λ shown. outcome_seen shown ≡ outcome (tuples_of s) client o)
@@ -25,6 +25,6 @@ StaysAsAsked s o = (client : ℕ) → StateFollows s s client o × TuplesFollow 
 
 -- ---- for private functions
 
--- What is seen is the answer to an operation that is not refused.
+-- The result is the answer to an operation that is not refused.
 abbrev pub ShowsServed : {E : Type 0} → Result Seen E → SpaceState → Operation → Type 0
 ShowsServed result s o = IfOk result (λ shown. outcome_seen shown ≡ served_outcome (tuples_of s) o)

@@ -13,8 +13,8 @@ use std::collections::BTreeMap;
 use terms::NoMemory;
 use tuple_tree::{Template, Tuple};
 
-/// The births of the stored tuples by their page, by their number of fields, and by the key of that number and the first
-/// value.
+/// The births of the stored tuples by their page, by their number of fields, and by the key of that number and the
+/// first value.
 #[derive(Drop)]
 pub struct Index {
     pages: BirthTable,

@@ -11,7 +11,7 @@ ghost use Rattle.space.specs.Prints.{datum_print, front_print, entry_label, firs
 use std::alloc::Allocator;
 use tuple_tree::{AtomRef, Kind, Template, Tuple, read_atom, read_byte, skip_field, skip_value};
 
-/// What is told of a tuple without a look at it.
+/// What a search knows of a tuple without a look at it.
 #[derive(Clone, Copy)]
 pub struct Label {
     birth: u64,
@@ -39,7 +39,7 @@ pub fn label_of<A: Allocator>(birth: u64, tuple: &Tuple<A>) -> Label
     }
 }
 
-/// Whether this is the label of a birth, and tells something else than what is wanted.
+/// Whether this is the label of a birth, and isn't the wanted one.
 pub fn is_of_other(label: &Label, birth: u64, wanted: &Wanted) -> bool
     ensures birth { IsTrue result → label.now.birth ≡ birth }
     ensures other { IsTrue result → IsUnlike wanted.now label.now }

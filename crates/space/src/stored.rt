@@ -101,7 +101,7 @@ impl Stored {
         }
     }
 
-    /// Passes the tuple of a birth if it lies at the place `near`, and its label tells something else than what is
+    /// Passes the tuple of a birth if it lies at the place `near`, and its label isn't the wanted
     /// wanted. Then `near` is the place behind it.
     pub fn passes(&self, birth: u64, near: &mut usize, wanted: &Wanted) -> bool
         ensures { IsTrue result → HasOtherLabel wanted.now birth self.now.entries }

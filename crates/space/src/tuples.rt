@@ -308,8 +308,9 @@ impl Space {
     }
 
     /// The births, the oldest first, of the stored tuples with as many values as the template has fields, or if its
-    /// first field is an actual, with the key of that number and that field. A key is a hash, so tuples of another first
-    /// value may be among them. Those that the template matches are (`laws::matches_are_candidates`). Takes no memory.
+    /// first field is an actual, with the key of that number and that field. A key is a hash, so tuples of another
+    /// first value may be among them. Those that the template matches are (`laws::matches_are_candidates`). Takes no
+    /// memory.
     pub fn candidates<A: Allocator>(&self, template: &Template<A>) -> &[u64]
         ensures { result.now ≡ candidates_of template.now self.now }
     {
@@ -597,7 +598,7 @@ impl Space {
         }
     }
 
-    /// The same as [`Space::peek`], but for the copies: what is seen lies in the space. It is all that [`Space::apply`]
+    /// The same as [`Space::peek`], but for the copies: the tuples lie in the space. It is all that [`Space::apply`]
     /// would answer and leave. NoMemory comes only if there are matches to list.
     pub fn look<A: Allocator>(&self, op: &Op<A>) -> Result<Seen<'_>, PeekFault>
         ensures answer { ShowsAnyone result self.now (operation_of op.now) }

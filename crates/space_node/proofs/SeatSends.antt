@@ -17,9 +17,9 @@ use Rattle.crossbeam_channel.proofs.channel.Sender.TheSendSync.{the_send as send
 use Rattle.journal.specs.declared.naming.Naming.{Ghosts}
 use Rattle.journal.specs.contracts.locked.Journal as journal
 use Rattle.replica.proofs.parted.Orderer.TheSendSync.{the_send as orderer_send}
-use Rattle.space_node.proofs.note.Note.TheSendSync.{the_send as note_send}
-use Rattle.space_node.specs.contracts.note.Note as note
-use Rattle.space_node.specs.contracts.note.Inbox as inbox
+use Rattle.space_node.proofs.inbox.InboxMessage.TheSendSync.{the_send as note_send}
+use Rattle.space_node.specs.contracts.inbox.InboxMessage as note
+use Rattle.space_node.specs.contracts.inbox.Inbox as inbox
 use Rattle.space_node.specs.contracts.order_seat.OrderSeat as order_seat
 use Rattle.space_node.specs.contracts.order_seat.OrderSeat.TheInside as in_order_seat
 use Rattle.space_node.specs.contracts.desk_seat.DeskSeat as desk_seat

@@ -10,10 +10,10 @@ use Rattle.wire_format.specs.Messages.{MessageData}
 use Rattle.wire_format.specs.declared.messages.Reply.{Reply}
 use Rattle.authenticator.specs.Membership.{Membership}
 use Rattle.read_only.specs.Answering.{RepliesToRead, read_reply, reply_data}
-use Rattle.read_only.specs.Hearing.{HearsRead}
+use Rattle.read_only.specs.Receiving.{AuthenticatesRead}
 use Rattle.read_only.specs.declared.answering.Shelf.{Shelf}
-use Rattle.read_only.specs.declared.hearing.ReadRequest.{ReadRequest}
-use Rattle.posting.specs.Endpoint.{IsSealedPost, SealsForOne}
+use Rattle.read_only.specs.declared.receiving.ReadRequest.{ReadRequest}
+use Rattle.frame_endpoint.specs.Endpoint.{IsSealedOutgoing, SealsForOne}
 use Rattle.events.specs.declared.output.Output.{Output}
 use Rattle.space_node.specs.Drills.{IsStale}
 
@@ -23,22 +23,22 @@ if_some (Ok x) o P Q is f p = subst (λ o. IfSome o Q) (sym is) (f x p)
 if_some (Err e) o P Q is f p = subst (λ o. IfSome o Q) (sym is) tt
 
 module _ (m : Membership) (me : ℕ) (bytes : List ℕ) (shelf : Shelf) (request : ReadRequest) (reply : Reply)
-    (hears : HearsRead m me bytes request.client.number request.timestamp.0 request.op.now) (answers : RepliesToRead shelf request reply)
+    (receives : AuthenticatesRead m me bytes request.client.number request.timestamp.0 request.op.now) (answers : RepliesToRead shelf request reply)
     (empty : shelf.space.now ≡ empty_state) (number : shelf.number.0 ≡ 0) where
-  says : reply_data reply ≡ read_reply request.client.number request.timestamp.0 0 (outcome no_tuples request.client.number hears.op)
+  says : reply_data reply ≡ read_reply request.client.number request.timestamp.0 0 (outcome no_tuples request.client.number receives.op)
   says =
-      (answers hears.op hears.spelled).says
-      ∙ (ap (λ (n : ℕ). read_reply request.client.number request.timestamp.0 n (outcome (tuples_of shelf.space.now) request.client.number hears.op)) number
-      ∙ ap (λ (s : SpaceState). read_reply request.client.number request.timestamp.0 0 (outcome (tuples_of s) request.client.number hears.op)) empty)
+      (answers receives.op receives.spelled).says
+      ∙ (ap (λ (n : ℕ). read_reply request.client.number request.timestamp.0 n (outcome (tuples_of shelf.space.now) request.client.number receives.op)) number
+      ∙ ap (λ (s : SpaceState). read_reply request.client.number request.timestamp.0 0 (outcome (tuples_of s) request.client.number receives.op)) empty)
 
   pub stale : (message : MessageData) (receiver : Party) (output : Output) → message ≡ reply_data reply → party_number receiver ≡ 256 + request.client.number
       → SealsForOne m me message receiver output → IsStale m me bytes output
   stale message receiver output said who sealed = record {
     client = request.client.number;
     timestamp = request.timestamp.0;
-    op = hears.op;
-    hears = hears.hears;
-    read = (answers hears.op hears.spelled).read;
-    answers = subst (λ (x : MessageData). IsSealedPost m me x ((256 + request.client.number) ∷ []) output) (said ∙ says)
-        (subst (λ (p : ℕ). IsSealedPost m me message (p ∷ []) output) who sealed);
+    op = receives.op;
+    receives = receives.receives;
+    read = (answers receives.op receives.spelled).read;
+    answers = subst (λ (x : MessageData). IsSealedOutgoing m me x ((256 + request.client.number) ∷ []) output) (said ∙ says)
+        (subst (λ (p : ℕ). IsSealedOutgoing m me message (p ∷ []) output) who sealed);
   }

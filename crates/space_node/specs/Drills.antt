@@ -5,11 +5,11 @@ use Rattle.quorum.specs.Quorum.{member}
 use Rattle.tuple_codec.specs.Operations.{Operation}
 use Rattle.space.specs.Applying.{no_tuples, outcome, is_read_only}
 use Rattle.authenticator.specs.Membership.{Membership}
-use Rattle.signing.specs.Heard.{heard}
+use Rattle.signing.specs.AuthenticBody.{authentic}
 use Rattle.protocol.specs.System.Configuration.{Configuration, is_faulty_replica}
 use Rattle.read_only.specs.Answering.{read_reply}
-use Rattle.read_only.specs.Hearing.{read_only_request}
-use Rattle.posting.specs.Endpoint.{IsSealedPost}
+use Rattle.read_only.specs.Receiving.{read_only_request}
+use Rattle.frame_endpoint.specs.Endpoint.{IsSealedOutgoing}
 use Rattle.events.specs.declared.output.Output.{Output}
 use Rattle.space_node.specs.declared.drill.Drill.{Drill}
 
@@ -39,13 +39,13 @@ abbrev pub are_faulty_once : Configuration → List ℕ → Bool
 are_faulty_once c [] = true
 are_faulty_once c (r ∷ rs) = (is_faulty_replica c r && not (member rs r)) && are_faulty_once c rs
 
--- The replica hears a client's read in the bytes. Its output for the client has the read's outcome on no tuples, as
+-- The replica receives a client's read in the bytes. Its output for the client has the read's outcome on no tuples, as
 -- from the state of number 0.
 pub record IsStale (m : Membership) (me : ℕ) (bytes : List ℕ) (output : Output) : Type 0 where
   pub client : ℕ
   pub timestamp : ℕ
   pub op : Operation
-  pub hears : heard m me bytes ≡ Some (read_only_request (client_party client) timestamp op)
+  pub receives : authentic m me bytes ≡ Some (read_only_request (client_party client) timestamp op)
   pub read : is_read_only op ≡ true
-  pub answers : IsSealedPost m me (read_reply client timestamp 0 (outcome no_tuples client op))
+  pub answers : IsSealedOutgoing m me (read_reply client timestamp 0 (outcome no_tuples client op))
       (client_party client ∷ []) output

@@ -11,7 +11,7 @@ ghost use Rattle.space_node.specs.Calls.{CallBegins, SeatTakesTurn, IsSpent};
 ghost use Rattle.space_node.specs.Seats.{ClientLeads, HasNoOpenCall, stopped_at};
 
 use crate::entries::{entries_of, invocation};
-use crate::input::{Given, Input};
+use crate::input::{Input, Outgoing};
 use crate::recording::record;
 use crate::turn::{Turn, turn_of};
 use client_cert::{Client, Event, InvokeFault};
@@ -113,7 +113,7 @@ impl<N: Naming> ClientSeat<N> {
         alloc: Global,
         journal: &Mutex<Journal<N>>,
         op: Op<Global>,
-    ) -> Result<Given, AppendFault>
+    ) -> Result<Outgoing, AppendFault>
         requires may { ¬ IsSpent self.old }
         requires idle { HasNoOpenCall self.old }
         ensures begins { IfOk result (λ _. CallBegins self.old (operation_of op) self.new) }
@@ -134,7 +134,7 @@ impl<N: Naming> ClientSeat<N> {
         let first = record(rt, journal, &mut self.share, None, entries)?;
         self.calls = timestamp.0;
         self.stopped = false;
-        Ok(Given { outputs, first })
+        Ok(Outgoing { outputs, first })
     }
 
     /// Takes an input, and gives its turn after the event is in the journal, with the position of its first entry.

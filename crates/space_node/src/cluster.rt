@@ -12,7 +12,7 @@ use crate::drill::{Drill, drill_of, may_start};
 use crate::drilling::start_drill;
 use crate::fault::{StartFault, ThreadFault};
 use crate::faultless::correct_replicas;
-use crate::finishing::{settle, shares_of};
+use crate::finishing::{finish_run, shares_of};
 use crate::gate::Gate;
 use crate::handle::ClientHandle;
 use crate::run::{FinishFault, Run};
@@ -193,7 +193,7 @@ impl<N: Naming + Send + Sync + 'static> Cluster<N> {
             return Err(FinishFault::NoMemory);
         };
         let mut journal = shared.journal.lock(rt);
-        settle(alloc, &mut journal, shares, clients)
+        finish_run(alloc, &mut journal, shares, clients)
     }
 }
 
@@ -208,9 +208,9 @@ fn new_handles<N: Naming>(
 {
     let mut handles = Vec::new(alloc);
     for end in ends {
-        let ClientEnd { seat, notes } = end;
+        let ClientEnd { seat, messages } = end;
         let shared = Arc::try_clone(shared)?;
-        handles.push(ClientHandle::new(seat, shared, notes))?;
+        handles.push(ClientHandle::new(seat, shared, messages))?;
     }
     Ok(handles)
 }

@@ -8,7 +8,7 @@ ghost use Rattle.replica.specs.Parted.{DeskFitsHistory};
 ghost use Rattle.space_node.specs.Seats.{seat_after_event, stopped_at};
 
 use crate::entries::entries_of;
-use crate::input::Given;
+use crate::input::Outgoing;
 use crate::recording::record;
 use bumpalo::Bump;
 use events::{Entry, EntryKind, SharedBytes};
@@ -62,7 +62,7 @@ impl<N: Naming> DeskSeat<N> {
     }
 
     /// Stops the desk and gives the share out.
-    pub(crate) fn give_up(&mut self, alloc: Global) -> Share<N>
+    pub(crate) fn release_share(&mut self, alloc: Global) -> Share<N>
         ensures party { result.party ≡ self.old.party }
         ensures history { result.history ≡ self.old.history }
         ensures prompt { IsPromptReplica N.config result.party result.history }
@@ -84,7 +84,7 @@ impl<N: Naming> DeskSeat<N> {
         journal: &Mutex<Journal<N>>,
         bytes: SharedBytes,
         from: u64,
-    ) -> Option<Given>
+    ) -> Option<Outgoing>
         ensures given { IfSome result
             (λ given. self.new ≡ seat_after_event self.old (Got self.old.party bytes) given.outputs.items) }
     {
@@ -101,7 +101,7 @@ impl<N: Naming> DeskSeat<N> {
             return None;
         };
         match record(rt, journal, &mut self.share, Some(from), entries) {
-            Ok(first) => Some(Given { outputs, first }),
+            Ok(first) => Some(Outgoing { outputs, first }),
             Err(_) => {
                 self.desk.stop();
                 None

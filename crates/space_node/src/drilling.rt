@@ -1,20 +1,20 @@
-//! The threads of a faulty replica. Each takes notes from its inbox until it is told to end.
+//! The threads of a faulty replica. Each takes messages from its inbox until it is told to end.
 
 ghost use Rattle.std.specs.Prelude.{◌≡◌, ◌<◌, IfSome};
 ghost use Rattle.space_node.specs.Drills.{IsStale};
 
 use crate::drill::Drill;
 use crate::fault::ThreadFault;
-use crate::note::Note;
+use crate::inbox::InboxMessage;
 use crate::seating::NodeEnd;
 use crate::shared::Shared;
 use authenticator::Ring;
 use bumpalo::Bump;
 use crossbeam_channel::Receiver;
 use events::{Config, Output};
+use frame_endpoint::{reply_message, seal_for_one};
 use journal::Naming;
-use posting::{reply_message, seal_for_one};
-use read_only::{Shelf, answer, asks_read, hear_read};
+use read_only::{Shelf, answer, asks_read, authenticate_read};
 use space::Space;
 use std::alloc::Global;
 use std::sync::{Arc, Wait};
@@ -62,7 +62,7 @@ pub(crate) fn start_drill<
 
 fn start_silent<R: Threads + Wait + Copy + Send + 'static>(
     rt: R,
-    inbox: Receiver<Note>,
+    inbox: Receiver<InboxMessage>,
     threads: &mut Vec<JoinHandle<()>>,
 ) -> Result<(), ThreadFault> {
     threads.reserve(1)?;
@@ -76,7 +76,7 @@ fn start_stale<N: Naming + Send + Sync + 'static, R: Threads + Wait + Copy + Sen
     alloc: Global,
     shared: &Arc<Shared<N>, Global>,
     stale: Stale,
-    inbox: Receiver<Note>,
+    inbox: Receiver<InboxMessage>,
     threads: &mut Vec<JoinHandle<()>>,
 ) -> Result<(), ThreadFault> {
     let shared = Arc::try_clone(shared)?;
@@ -89,12 +89,12 @@ fn start_stale<N: Naming + Send + Sync + 'static, R: Threads + Wait + Copy + Sen
     Ok(())
 }
 
-// Takes all notes, and sends nothing.
-fn take_all<R: Wait>(rt: &R, inbox: &Receiver<Note>) {
+// Takes all messages, and sends nothing.
+fn take_all<R: Wait>(rt: &R, inbox: &Receiver<InboxMessage>) {
     for _ in rt.forever() {
         match inbox.recv(rt) {
-            Ok(Note::Frame(_, _)) | Ok(Note::Pulse) => {}
-            Ok(Note::End) | Err(_) => break,
+            Ok(InboxMessage::Frame(_, _)) | Ok(InboxMessage::Pulse) => {}
+            Ok(InboxMessage::End) | Err(_) => break,
         }
     }
 }
@@ -106,14 +106,14 @@ fn answer_reads<N: Naming, R: Wait>(
     alloc: Global,
     shared: &Shared<N>,
     mut stale: Stale,
-    inbox: &Receiver<Note>,
+    inbox: &Receiver<InboxMessage>,
 ) {
     let mut arena = Bump::new(alloc);
     for _ in rt.forever() {
         let output = match inbox.recv(rt) {
-            Ok(Note::Frame(bytes, _)) => stale.answer(alloc, bytes.as_slice(), &mut arena),
-            Ok(Note::Pulse) => None,
-            Ok(Note::End) | Err(_) => break,
+            Ok(InboxMessage::Frame(bytes, _)) => stale.answer(alloc, bytes.as_slice(), &mut arena),
+            Ok(InboxMessage::Pulse) => None,
+            Ok(InboxMessage::End) | Err(_) => break,
         };
         if let Some(Output::Send(receivers, frame)) = &output {
             shared.send_frame(rt, receivers.as_slice(), frame, 0);
@@ -125,14 +125,14 @@ fn answer_reads<N: Naming, R: Wait>(
 }
 
 impl Stale {
-    // The output for bytes in which the replica hears a read, if memory suffices.
+    // The output for bytes in which the replica receives a read, if memory suffices.
     fn answer(&mut self, alloc: Global, bytes: &[u8], arena: &mut Bump) -> Option<Output>
         ensures { IfSome result (IsStale self.old.ring self.old.me.0 bytes.now) }
     {
         if !asks_read(bytes) {
             return None;
         }
-        let request = hear_read(&mut self.ring, self.me, bytes)?;
+        let request = authenticate_read(&mut self.ring, self.me, bytes)?;
         let space = Space::new(alloc);
         let shelf = Shelf {
             space: &space,

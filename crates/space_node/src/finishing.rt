@@ -63,7 +63,7 @@ fn share_of<N: Naming, R: Wait>(
 }
 
 /// Compares the journal with the shares, one of each correct replica, and with the clients, and takes its trace.
-pub(crate) fn settle<N: Naming>(
+pub(crate) fn finish_run<N: Naming>(
     alloc: Global,
     journal: &mut Journal<N>,
     shares: Vec<ReplicaShare<N>>,

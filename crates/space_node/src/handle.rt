@@ -10,8 +10,8 @@ ghost use Rattle.space_node.specs.Seats.{IsNew};
 
 use crate::client_seat::ClientSeat;
 use crate::fault::CallFault;
-use crate::input::{Given, Input};
-use crate::note::Note;
+use crate::inbox::InboxMessage;
+use crate::input::{Input, Outgoing};
 use crate::shared::Shared;
 use crate::turn::Turn;
 use crossbeam_channel::Receiver;
@@ -27,7 +27,7 @@ use tuple_codec::{Answer, Op};
 pub struct ClientHandle<N: Naming> {
     seat: ClientSeat<N>,
     shared: Arc<Shared<N>, Global>,
-    notes: Receiver<Note>,
+    messages: Receiver<InboxMessage>,
 }
 
 impl<N: Naming> Model for ClientHandle<N> {
@@ -47,7 +47,7 @@ impl<N: Naming> ClientHandle<N> {
     pub(crate) fn new(
         seat: ClientSeat<N>,
         shared: Arc<Shared<N>, Global>,
-        notes: Receiver<Note>,
+        messages: Receiver<InboxMessage>,
     ) -> ClientHandle<N>
         requires { IsNew seat }
         ensures { result ≡ seat }
@@ -55,7 +55,7 @@ impl<N: Naming> ClientHandle<N> {
         ClientHandle {
             seat,
             shared,
-            notes,
+            messages,
         }
     }
 
@@ -129,7 +129,14 @@ impl<N: Naming> ClientHandle<N> {
         let request = self.seat.invoke(rt, alloc, &self.shared.journal, op)?;
         self.shared.send(rt, &request);
         let since = request.first;
-        wait_answer(rt, alloc, &mut self.seat, &self.shared, &self.notes, since)
+        wait_answer(
+            rt,
+            alloc,
+            &mut self.seat,
+            &self.shared,
+            &self.messages,
+            since,
+        )
     }
 }
 
@@ -140,7 +147,7 @@ fn wait_answer<N: Naming, R: Wait>(
     alloc: Global,
     seat: &mut ClientSeat<N>,
     shared: &Shared<N>,
-    notes: &Receiver<Note>,
+    messages: &Receiver<InboxMessage>,
     since: u64,
 ) -> Result<Answer<Global>, AppendFault>
     requires running { seat.old.stopped ≡ false }
@@ -153,15 +160,15 @@ fn wait_answer<N: Naming, R: Wait>(
     };
     let mut awaited = shared.quorum();
     for _ in rt.forever() {
-        let input = match inbox.take(rt, notes, awaited) {
-            Some(Note::Frame(bytes, from)) => {
+        let input = match inbox.take(rt, messages, awaited) {
+            Some(InboxMessage::Frame(bytes, from)) => {
                 if from > since {
                     awaited = awaited.saturating_sub(1);
                 }
                 Input::Got(bytes, from)
             }
-            Some(Note::Pulse) => Input::Tick,
-            Some(Note::End) | None => {
+            Some(InboxMessage::Pulse) => Input::Tick,
+            Some(InboxMessage::End) | None => {
                 seat.stop();
                 return Err(AppendFault::NotInJournal);
             }
@@ -169,7 +176,7 @@ fn wait_answer<N: Naming, R: Wait>(
         let (turn, first) = seat.take(rt, alloc, &shared.journal, input)?;
         match turn {
             Turn::Answered(answer) => return Ok(answer),
-            Turn::Waits(outputs) => shared.send(rt, &Given { outputs, first }),
+            Turn::Waits(outputs) => shared.send(rt, &Outgoing { outputs, first }),
         }
     }
     unreachable!()

@@ -30,7 +30,7 @@ impl Input {
 
 /// The outputs of an event that is in the journal; `first` is the position of its first entry.
 #[derive(Drop)]
-pub(crate) struct Given {
+pub(crate) struct Outgoing {
     pub(crate) outputs: Outputs,
     pub(crate) first: u64,
 }

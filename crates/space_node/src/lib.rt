@@ -40,12 +40,12 @@
 //! - If memory or the journal refuses, or a test's gate says so, the parts stop and nothing is sent. A frame goes into
 //!   an inbox with the position at which it was sent. Its bytes lie in memory once, for the trace, the shares and all
 //!   receivers.
-//! - A thread that finds its inbox empty sleeps on a word beside the channel (`src/note.rt`). So it is woken once, by a
-//!   thread that holds no lock.
+//! - A thread that finds its inbox empty sleeps on a word beside the channel (`src/inbox.rt`). So it is woken once, by
+//!   a thread that holds no lock.
 //! - No thread is woken for frames with which it can do nothing yet. A client sleeps until a quorum of frames has come
 //!   since its request. A replica that follows a primary, as its own frames tell, isn't woken by requests, which the
 //!   primary's pre-prepares bring too, unless more come than there are clients. A pulse wakes either at once, and each
-//!   note is taken in its order.
+//!   message is taken in its order.
 //! - A faulty replica has the same inboxes, and no seat. Its threads do its drill (`src/drilling.rt`), which takes what
 //!   comes, or answers reads from the empty space. Its frames name a faulty sender, so no position is asked of them.
 //! - A new cluster has a handle of each client, and one that is handed out is new.
@@ -65,8 +65,8 @@ mod faultless;
 mod finishing;
 mod gate;
 mod handle;
+mod inbox;
 mod input;
-mod note;
 mod order_seat;
 mod recording;
 mod replica_share;

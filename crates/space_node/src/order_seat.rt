@@ -6,7 +6,7 @@ ghost use Rattle.space_node.specs.Seats.{InputLeads, input_of, seat_after_event,
 
 use crate::desk_seat::DeskSeat;
 use crate::entries::entries_of;
-use crate::input::{Given, Input};
+use crate::input::{Input, Outgoing};
 use crate::recording::record_order;
 use events::{Outputs, Stop};
 use journal::{Journal, Naming, OrderShare};
@@ -74,7 +74,7 @@ impl<N: Naming> OrderSeat<N> {
         shelf: &mut DeskSeat<N>,
         journal: &Mutex<Journal<N>>,
         input: Input,
-    ) -> Option<Given>
+    ) -> Option<Outgoing>
         ensures given { IfSome result
             (λ given. shelf.new.history
             ≡ (seat_after_event shelf.old (input_of shelf.old.party input) given.outputs.items).history) }
@@ -92,7 +92,7 @@ impl<N: Naming> OrderSeat<N> {
         };
         let (share, order) = (&mut shelf.share, &mut self.order);
         match record_order(rt, journal, share, order, from, entries) {
-            Ok(first) => Some(Given { outputs, first }),
+            Ok(first) => Some(Outgoing { outputs, first }),
             Err(_) => {
                 self.orderer.stop();
                 shelf.desk.stop();

@@ -47,7 +47,7 @@ impl<N: Naming> ReplicaShare<N> {
         ensures prompt { IsPromptReplica N.config result.party result.history }
     {
         let stopped = order.is_stopped() || shelf.is_stopped();
-        let share = shelf.give_up(alloc);
+        let share = shelf.release_share(alloc);
         ReplicaShare { share, stopped }
     }
 

@@ -8,7 +8,7 @@ ghost use Rattle.space_node.specs.Seats.{IsNew};
 
 use crate::client_seat::ClientSeat;
 use crate::desk_seat::DeskSeat;
-use crate::note::{Inbox, Note};
+use crate::inbox::{Inbox, InboxMessage};
 use crate::order_seat::OrderSeat;
 use crate::shared::{Inboxes, Node, Shared};
 use authenticator::Ring;
@@ -26,8 +26,8 @@ use terms::{ClientId, NoMemory, Party, ReplicaId};
 #[derive(Drop)]
 pub(crate) struct NodeEnd {
     pub(crate) replica: ReplicaId,
-    pub(crate) orders: Receiver<Note>,
-    pub(crate) reads: Receiver<Note>,
+    pub(crate) orders: Receiver<InboxMessage>,
+    pub(crate) reads: Receiver<InboxMessage>,
     ghost known: { replica.0 < 10 },
 }
 
@@ -35,7 +35,7 @@ pub(crate) struct NodeEnd {
 #[derive(Drop)]
 pub(crate) struct ClientEnd<N: Naming> {
     pub(crate) seat: ClientSeat<N>,
-    pub(crate) notes: Receiver<Note>,
+    pub(crate) messages: Receiver<InboxMessage>,
     ghost is_new: { IsNew seat },
 }
 
@@ -211,7 +211,7 @@ fn new_client<N: Naming>(
 {
     let ring = Ring::new(alloc, config.seed(), config.faults(), config.clients());
     let client = Client::new(id, config.faults(), ring, publics.share()?);
-    let (to_notes, notes) = unbounded(alloc)?;
+    let (sender, messages) = unbounded(alloc)?;
     let seat = ClientSeat::new(id, client, share);
-    Ok((Inbox::new(to_notes), ClientEnd { seat, notes }))
+    Ok((Inbox::new(sender), ClientEnd { seat, messages }))
 }

@@ -1,8 +1,8 @@
-//! The threads of a node. Each takes notes from its inbox until it is told to end.
+//! The threads of a node. Each takes messages from its inbox until it is told to end.
 
 use crate::gate::Gate;
-use crate::input::{Given, Input};
-use crate::note::{Inbox, Note};
+use crate::inbox::{Inbox, InboxMessage};
+use crate::input::{Input, Outgoing};
 use crate::shared::{Node, Shared};
 use bumpalo::Bump;
 use crossbeam_channel::Receiver;
@@ -19,7 +19,7 @@ pub(crate) fn serve_orders<N: Naming, G: Gate, R: Wait>(
     shared: &Shared<N>,
     gate: &G,
     replica: ReplicaId,
-    notes: &Receiver<Note>,
+    messages: &Receiver<InboxMessage>,
 ) {
     let party = Party::Replica(replica);
     let (Some(node), Some(inbox)) = (shared.node(replica), shared.inbox(party)) else {
@@ -27,10 +27,10 @@ pub(crate) fn serve_orders<N: Naming, G: Gate, R: Wait>(
     };
     let mut event_no = 0u64;
     for _ in rt.forever() {
-        let input = match inbox.take(rt, notes, 1) {
-            Some(Note::Frame(bytes, from)) => Input::Got(bytes, from),
-            Some(Note::Pulse) => Input::Tick,
-            Some(Note::End) | None => break,
+        let input = match inbox.take(rt, messages, 1) {
+            Some(InboxMessage::Frame(bytes, from)) => Input::Got(bytes, from),
+            Some(InboxMessage::Pulse) => Input::Tick,
+            Some(InboxMessage::End) | None => break,
         };
         let journal = &shared.journal;
         let given = order_event(rt, alloc, node, journal, gate, replica, event_no, input);
@@ -67,7 +67,7 @@ fn order_event<N: Naming, G: Gate, R: Wait>(
     replica: ReplicaId,
     event_no: u64,
     input: Input,
-) -> Option<Given> {
+) -> Option<Outgoing> {
     let mut order = node.order.lock(rt);
     gate.at(u16::from(replica.0), event_no);
     let mut shelf = node.shelf.lock(rt);
@@ -84,7 +84,7 @@ pub(crate) fn serve_reads<N: Naming, R: Wait>(
     alloc: Global,
     shared: &Shared<N>,
     replica: ReplicaId,
-    notes: &Receiver<Note>,
+    messages: &Receiver<InboxMessage>,
 ) {
     let party = Party::Replica(replica);
     let (Some(node), Some(inbox)) = (shared.node(replica), shared.read_inbox(party)) else {
@@ -92,13 +92,13 @@ pub(crate) fn serve_reads<N: Naming, R: Wait>(
     };
     let mut arena = Bump::new(alloc);
     for _ in rt.forever() {
-        let given = match inbox.take(rt, notes, 1) {
-            Some(Note::Frame(bytes, from)) => {
+        let given = match inbox.take(rt, messages, 1) {
+            Some(InboxMessage::Frame(bytes, from)) => {
                 let mut shelf = node.shelf.lock(rt);
                 shelf.read(rt, alloc, &mut arena, &shared.journal, bytes, from)
             }
-            Some(Note::Pulse) => None,
-            Some(Note::End) | None => break,
+            Some(InboxMessage::Pulse) => None,
+            Some(InboxMessage::End) | None => break,
         };
         if let Some(given) = given {
             shared.send(rt, &given);

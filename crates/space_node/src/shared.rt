@@ -1,8 +1,8 @@
 //! The state that the threads of a cluster share.
 
 use crate::desk_seat::DeskSeat;
-use crate::input::Given;
-use crate::note::Inbox;
+use crate::inbox::Inbox;
+use crate::input::Outgoing;
 use crate::order_seat::OrderSeat;
 use events::{Output, SharedBytes};
 use journal::{Journal, Naming};
@@ -66,9 +66,9 @@ impl<N: Naming> Shared<N> {
         count
     }
 
-    /// Puts each frame into the inbox of each of its receivers, who share its bytes. If there is no memory for a note,
-    /// it is lost.
-    pub(crate) fn send<R: Wait>(&self, rt: &R, given: &Given) {
+    /// Puts each frame into the inbox of each of its receivers, who share its bytes. If there is no memory for a
+    /// message, it is lost.
+    pub(crate) fn send<R: Wait>(&self, rt: &R, given: &Outgoing) {
         let mut at = given.first;
         for output in &given.outputs {
             at = at.saturating_add(1);

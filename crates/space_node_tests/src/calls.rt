@@ -14,7 +14,7 @@ use terms::{ClientId, NoMemory, Party};
 use tuple_codec::{Answer, Op};
 use tuple_text::{read_line, write_answer};
 
-// After so many looks, with a pause of a millisecond after each, the clients hear that time went by.
+// After so many looks, with a pause of a millisecond after each, the clients learn that time went by.
 const LOOKS_OF_CLIENTS: u32 = 500;
 
 // After so many the calls have no answer.

@@ -59,7 +59,7 @@ pub fn has_correct_shares<N: Naming>(run: &Run<N>, faults: u8) -> bool {
 /// Whether a frame of a faulty replica was got exactly if it is stale.
 pub fn hears_stale_alone(trace: &[Entry], drills: &[(u16, Drill)]) -> bool {
     for (replica, drill) in drills {
-        if hears(trace, *replica) != (*drill == Drill::Stale) {
+        if receives(trace, *replica) != (*drill == Drill::Stale) {
             return false;
         }
     }
@@ -67,7 +67,7 @@ pub fn hears_stale_alone(trace: &[Entry], drills: &[(u16, Drill)]) -> bool {
 }
 
 // Whether a frame of this sender was got.
-fn hears(trace: &[Entry], sender: u16) -> bool {
+fn receives(trace: &[Entry], sender: u16) -> bool {
     for entry in trace {
         if is_got_from(entry, sender) {
             return true;

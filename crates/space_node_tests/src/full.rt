@@ -9,7 +9,7 @@ use terms::{ClientId, NoMemory, Party};
 use tuple_codec::Op;
 use tuple_tree::Tuple;
 
-// The client hears that time went by more often than the limit needs, because memory may run out once.
+// The client learns that time went by more often than the limit needs, because memory may run out once.
 static LIMITS: [Trial<'static>; 3] = [
     Trial {
         faults: 1,

@@ -39,7 +39,7 @@ RefusesPage t number page text NoMemory =
     IsAskedLast t number (page_place page) × (wanted t (page_place page) ≡ Some (sha256 text))
 
 -- Giving a page back at once leaves the transfer as it was.
-abbrev pub GivingBackRestores : Type 0
-GivingBackRestores =
+abbrev pub PuttingBackRestores : Type 0
+PuttingBackRestores =
     (t : TransferData) (page : ℕ) (text : List ℕ)
     → given_back (with_page t page text) (replaced_at t page) ≡ t

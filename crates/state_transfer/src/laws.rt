@@ -1,8 +1,8 @@
 //! Laws of taking pages.
 
-ghost use Rattle.state_transfer.specs.Taking.{GivingBackRestores};
+ghost use Rattle.state_transfer.specs.Taking.{PuttingBackRestores};
 
 /// Giving a page back at once leaves the transfer as it was. Does nothing.
-pub fn giving_back_restores()
-    ensures { GivingBackRestores }
+pub fn putting_back_restores()
+    ensures { PuttingBackRestores }
 {}

@@ -14,7 +14,7 @@
 //!
 //! A transfer takes an answer exactly if it is for the place asked for last and has the digest wanted there.
 //! Otherwise it tells the first fault that applies, and nothing changes. Digests that came serve only in their own
-//! place, and only if their own digest is wanted there. Law: `giving_back_restores`.
+//! place, and only if their own digest is wanted there. Law: `putting_back_restores`.
 #![tactic(auto)]
 
 mod differences;
@@ -25,7 +25,7 @@ mod place;
 mod replaced;
 mod transfer;
 
-pub use laws::giving_back_restores;
+pub use laws::putting_back_restores;
 pub use part_fault::PartFault;
 pub use place::Place;
 pub use replaced::Replaced;

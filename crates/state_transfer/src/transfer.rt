@@ -256,7 +256,7 @@ impl Transfer {
         Ok(())
     }
 
-    /// Takes the text of the page asked for, and holds it from then on. [`Transfer::give_back`] undoes that with the
+    /// Takes the text of the page asked for, and holds it from then on. [`Transfer::put_back`] undoes that with the
     /// result. An error leaves the transfer as it was, and is the first that applies. Hashes the text; if it is
     /// taken, copies it, and copies and hashes 2,048 bytes of digests.
     pub fn on_page(
@@ -295,7 +295,7 @@ impl Transfer {
     }
 
     /// Forgets a page again, and takes no memory. If nothing was taken since, the transfer is as it was before.
-    pub fn give_back(&mut self, replaced: Replaced)
+    pub fn put_back(&mut self, replaced: Replaced)
         ensures { self.new ≡ spec.given_back self.old replaced }
     {
         // Tells a proof that there are 1,024 pages.

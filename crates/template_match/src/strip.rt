@@ -1,7 +1,7 @@
 //! Bytes that begin with others.
 
 ghost use Rattle.std.specs.Prelude.{◌≡◌, ◌≤◌, ◌∷◌, length, IsTrue, ◌↔◌};
-ghost use Rattle.tuple_tree.specs.Gives.{Yields};
+ghost use Rattle.tuple_tree.specs.Results.{Yields};
 ghost use Rattle.template_match.specs.Walks.{strip};
 
 use tuple_tree::read_byte;

@@ -1,7 +1,7 @@
 //! A walk along the bytes of a template and of the values that it matches.
 
 ghost use Rattle.std.specs.Prelude.{◌≡◌, ◌+◌, ◌*◌, Some};
-ghost use Rattle.tuple_tree.specs.Gives.{Yields};
+ghost use Rattle.tuple_tree.specs.Results.{Yields};
 ghost use Rattle.tuple_tree.specs.Reading.{byte_at};
 ghost use Rattle.template_match.specs.Walks.{behind_value, behind_kind, behind_both, behind_one, behind_atom, behind_nested, value_tag};
 

@@ -116,7 +116,7 @@ fn the_own_state_goes_on(rt: HostRuntime) -> Result<(), Fail> {
 // Whether the page is taken that was replaced; it is given back then.
 fn is_taken(transfer: &mut Transfer, tree: &Tree, replaced: Replaced) -> bool {
     let is_taken = transfer.pages().page(3) == tree.page(3);
-    transfer.give_back(replaced);
+    transfer.put_back(replaced);
     is_taken
 }
 

@@ -5,7 +5,7 @@ use Rattle.tuple_tree.specs.Values.{AreBytes, IsDatum, IsSlot, datum_length, slo
 use Rattle.tuple_tree.specs.Reading.{Reader, datum_at, slot_at, tuple_at, template_at}
 use Rattle.tuple_tree.specs.Spelling.{datum_spelling, slot_spelling, tuple_spelling, template_spelling}
 use Rattle.tuple_codec.specs.Spelling.{Spells, FrontSpells}
-use Rattle.tuple_codec.specs.Gives.{DecodingFails}
+use Rattle.tuple_codec.specs.Results.{DecodingFails}
 use Rattle.tuple_codec.specs.declared.bad.Bad.{Bad}
 use Rattle.tuple_codec.specs.declared.bad.Bad.TheVariants as bad
 use Rattle.tuple_tree.proofs.Readers.{Found, Again, parts}

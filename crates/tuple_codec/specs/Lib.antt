@@ -4,5 +4,5 @@ pub mod TuplesView
 pub mod OperationView
 pub mod OperationsCode
 pub mod Reading
-pub mod Gives
+pub mod Results
 pub mod Laws

@@ -2,7 +2,7 @@
 
 ghost use Rattle.std.specs.Prelude.{IsTrue, ◌↔◌};
 ghost use Rattle.tuple_codec.specs.Operations.{Operation, Outcome};
-ghost use Rattle.tuple_tree.specs.Gives.{Yields};
+ghost use Rattle.tuple_tree.specs.Results.{Yields};
 ghost use Rattle.tuple_codec.specs.Spelling.{SpellsOperation, SpellsOutcome};
 ghost use Rattle.tuple_tree.specs.Reading.{rest_of, tuple_at, template_at};
 ghost use Rattle.tuple_codec.specs.Reading.{cas_at, counted_template_at, operation_behind, operation_at, tuples_at, outcome_behind, outcome_at};

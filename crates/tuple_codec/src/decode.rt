@@ -1,7 +1,7 @@
 //! From bytes to tuples and templates.
 
 ghost use Rattle.std.specs.Prelude.{◌≡◌, IfErr};
-ghost use Rattle.tuple_codec.specs.Gives.{DecodingGives, DecodesSpelled, DecodesEach};
+ghost use Rattle.tuple_codec.specs.Results.{DecodingReturns, DecodesSpelled, DecodesEach};
 ghost use Rattle.tuple_codec.specs.Spelling.{SpellsTuple, SpellsTemplate, FrontSpellsTuple, FrontSpellsTemplate};
 ghost use Rattle.tuple_tree.specs.Reading.{byte_at, tuple_at, template_at};
 
@@ -66,7 +66,7 @@ pub fn read_tuple<'b, A: Allocator + Clone>(
     alloc: &A,
     bytes: &'b [u8],
 ) -> Result<(Tuple<A>, &'b [u8]), Bad>
-    ensures { DecodingGives (λ x. (x.0, x.1.now)) result (tuple_at bytes.now) }
+    ensures { DecodingReturns (λ x. (x.0, x.1.now)) result (tuple_at bytes.now) }
 {
     let front = frame(bytes);
     let read = Tuple::read_in(alloc.clone()?, front)?;
@@ -80,7 +80,7 @@ pub fn read_template<'b, A: Allocator + Clone>(
     alloc: &A,
     bytes: &'b [u8],
 ) -> Result<(Template<A>, &'b [u8]), Bad>
-    ensures { DecodingGives (λ x. (x.0, x.1.now)) result (template_at bytes.now) }
+    ensures { DecodingReturns (λ x. (x.0, x.1.now)) result (template_at bytes.now) }
 {
     let front = frame(bytes);
     let read = Template::read_in(alloc.clone()?, front)?;
@@ -91,7 +91,7 @@ pub fn read_template<'b, A: Allocator + Clone>(
 }
 
 pub fn next_byte(bytes: &[u8]) -> Result<(u8, &[u8]), Bad>
-    ensures { DecodingGives (λ x. (x.0, x.1.now)) result (byte_at bytes.now) }
+    ensures { DecodingReturns (λ x. (x.0, x.1.now)) result (byte_at bytes.now) }
 {
     match read_byte(bytes) {
         Some(read) => Ok(read),

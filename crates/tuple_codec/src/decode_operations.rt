@@ -3,7 +3,7 @@
 ghost use Rattle.std.specs.Prelude.{◌≡◌, ◌≢◌, ◌+◌, ◌<◌, ◌≤◌, length, IfErr, IfOk, OnOk};
 ghost use Rattle.tuple_codec.specs.Operations.{out, rdp, inp, rd_all, in_all};
 ghost use Rattle.tuple_codec.specs.OperationView.{operation_of, outcome_of};
-ghost use Rattle.tuple_codec.specs.Gives.{DecodingGives, DecodesSpelled, DecodesEach};
+ghost use Rattle.tuple_codec.specs.Results.{DecodingReturns, DecodesSpelled, DecodesEach};
 ghost use Rattle.tuple_codec.specs.Spelling.{SpellsOperation, SpellsOutcome, SpellsSomeOperation, FrontSpellsOperation, FrontSpellsOutcome};
 ghost use Rattle.tuple_tree.specs.Reading.{read_as, tuple_at, template_at};
 ghost use Rattle.tuple_codec.specs.Reading.{cas_at, counted_template_at, operation_behind, operation_at, tuples_at, found_at, swapped_at, all_at, outcome_behind, outcome_at, with_last_tuple};
@@ -86,7 +86,7 @@ pub fn read_op<'b, A: Allocator + Clone>(
     alloc: &A,
     bytes: &'b [u8],
 ) -> Result<(Op<A>, &'b [u8]), Bad>
-    ensures { DecodingGives (λ x. (operation_of x.0, x.1.now)) result (operation_at bytes.now) }
+    ensures { DecodingReturns (λ x. (operation_of x.0, x.1.now)) result (operation_at bytes.now) }
 {
     let (tag, rest) = next_byte(bytes)?;
     read_op_behind(alloc, tag, rest)
@@ -98,7 +98,7 @@ fn read_op_behind<'b, A: Allocator + Clone>(
     tag: u8,
     bytes: &'b [u8],
 ) -> Result<(Op<A>, &'b [u8]), Bad>
-    ensures { DecodingGives (λ x. (operation_of x.0, x.1.now)) result (operation_behind tag bytes.now) }
+    ensures { DecodingReturns (λ x. (operation_of x.0, x.1.now)) result (operation_behind tag bytes.now) }
 {
     match tag {
         0x21 => read_out(alloc, bytes),
@@ -113,7 +113,7 @@ fn read_op_behind<'b, A: Allocator + Clone>(
 }
 
 fn read_out<'b, A: Allocator + Clone>(alloc: &A, bytes: &'b [u8]) -> Result<(Op<A>, &'b [u8]), Bad>
-    ensures { DecodingGives (λ x. (operation_of x.0, x.1.now)) result (read_as out tuple_at bytes.now) }
+    ensures { DecodingReturns (λ x. (operation_of x.0, x.1.now)) result (read_as out tuple_at bytes.now) }
 {
     match read_tuple(alloc, bytes) {
         Ok((tuple, rest)) => Ok((Op::Out(tuple), rest)),
@@ -122,7 +122,7 @@ fn read_out<'b, A: Allocator + Clone>(alloc: &A, bytes: &'b [u8]) -> Result<(Op<
 }
 
 fn read_rdp<'b, A: Allocator + Clone>(alloc: &A, bytes: &'b [u8]) -> Result<(Op<A>, &'b [u8]), Bad>
-    ensures { DecodingGives (λ x. (operation_of x.0, x.1.now)) result (read_as rdp template_at bytes.now) }
+    ensures { DecodingReturns (λ x. (operation_of x.0, x.1.now)) result (read_as rdp template_at bytes.now) }
 {
     match read_template(alloc, bytes) {
         Ok((template, rest)) => Ok((Op::Rdp(template), rest)),
@@ -131,7 +131,7 @@ fn read_rdp<'b, A: Allocator + Clone>(alloc: &A, bytes: &'b [u8]) -> Result<(Op<
 }
 
 fn read_inp<'b, A: Allocator + Clone>(alloc: &A, bytes: &'b [u8]) -> Result<(Op<A>, &'b [u8]), Bad>
-    ensures { DecodingGives (λ x. (operation_of x.0, x.1.now)) result (read_as inp template_at bytes.now) }
+    ensures { DecodingReturns (λ x. (operation_of x.0, x.1.now)) result (read_as inp template_at bytes.now) }
 {
     match read_template(alloc, bytes) {
         Ok((template, rest)) => Ok((Op::Inp(template), rest)),
@@ -141,7 +141,7 @@ fn read_inp<'b, A: Allocator + Clone>(alloc: &A, bytes: &'b [u8]) -> Result<(Op<
 
 #[tactic(auto, unfolding(crate::specs::Reading::cas_at))]
 fn read_cas<'b, A: Allocator + Clone>(alloc: &A, bytes: &'b [u8]) -> Result<(Op<A>, &'b [u8]), Bad>
-    ensures { DecodingGives (λ x. (operation_of x.0, x.1.now)) result (cas_at bytes.now) }
+    ensures { DecodingReturns (λ x. (operation_of x.0, x.1.now)) result (cas_at bytes.now) }
 {
     let (template, after) = read_template(alloc, bytes)?;
     let (tuple, rest) = read_tuple(alloc, after)?;
@@ -152,7 +152,7 @@ fn read_rd_all<'b, A: Allocator + Clone>(
     alloc: &A,
     bytes: &'b [u8],
 ) -> Result<(Op<A>, &'b [u8]), Bad>
-    ensures { DecodingGives (λ x. (operation_of x.0, x.1.now)) result
+    ensures { DecodingReturns (λ x. (operation_of x.0, x.1.now)) result
         (read_as (λ x. rd_all x.0 x.1) counted_template_at bytes.now) }
 {
     match read_counted(alloc, bytes) {
@@ -165,7 +165,7 @@ fn read_in_all<'b, A: Allocator + Clone>(
     alloc: &A,
     bytes: &'b [u8],
 ) -> Result<(Op<A>, &'b [u8]), Bad>
-    ensures { DecodingGives (λ x. (operation_of x.0, x.1.now)) result
+    ensures { DecodingReturns (λ x. (operation_of x.0, x.1.now)) result
         (read_as (λ x. in_all x.0 x.1) counted_template_at bytes.now) }
 {
     match read_counted(alloc, bytes) {
@@ -179,7 +179,7 @@ fn read_counted<'b, A: Allocator + Clone>(
     alloc: &A,
     bytes: &'b [u8],
 ) -> Result<((Max, Template<A>), &'b [u8]), Bad>
-    ensures { DecodingGives (λ x. ((x.0.0.count, x.0.1), x.1.now)) result (counted_template_at bytes.now) }
+    ensures { DecodingReturns (λ x. ((x.0.0.count, x.0.1), x.1.now)) result (counted_template_at bytes.now) }
 {
     let (count, after) = next_byte(bytes)?;
     match Max::new(count) {
@@ -198,7 +198,7 @@ pub fn read_answer<'b, A: Allocator + Clone>(
     alloc: &A,
     bytes: &'b [u8],
 ) -> Result<(Answer<A>, &'b [u8]), Bad>
-    ensures { DecodingGives (λ x. (outcome_of x.0, x.1.now)) result (outcome_at bytes.now) }
+    ensures { DecodingReturns (λ x. (outcome_of x.0, x.1.now)) result (outcome_at bytes.now) }
 {
     let (tag, rest) = next_byte(bytes)?;
     read_answer_behind(alloc, tag, rest)
@@ -210,7 +210,7 @@ fn read_answer_behind<'b, A: Allocator + Clone>(
     tag: u8,
     bytes: &'b [u8],
 ) -> Result<(Answer<A>, &'b [u8]), Bad>
-    ensures { DecodingGives (λ x. (outcome_of x.0, x.1.now)) result (outcome_behind tag bytes.now) }
+    ensures { DecodingReturns (λ x. (outcome_of x.0, x.1.now)) result (outcome_behind tag bytes.now) }
 {
     match tag {
         0x31 => Ok((Answer::Done, bytes)),
@@ -228,7 +228,7 @@ fn read_found<'b, A: Allocator + Clone>(
     alloc: &A,
     bytes: &'b [u8],
 ) -> Result<(Answer<A>, &'b [u8]), Bad>
-    ensures { DecodingGives (λ x. (outcome_of x.0, x.1.now)) result (found_at bytes.now) }
+    ensures { DecodingReturns (λ x. (outcome_of x.0, x.1.now)) result (found_at bytes.now) }
 {
     match read_tuple(alloc, bytes) {
         Ok((tuple, rest)) => Ok((Answer::Found(tuple), rest)),
@@ -237,7 +237,7 @@ fn read_found<'b, A: Allocator + Clone>(
 }
 
 fn read_swapped<A: Allocator>(bytes: &[u8]) -> Result<(Answer<A>, &[u8]), Bad>
-    ensures { DecodingGives (λ x. (outcome_of x.0, x.1.now)) result (swapped_at bytes.now) }
+    ensures { DecodingReturns (λ x. (outcome_of x.0, x.1.now)) result (swapped_at bytes.now) }
 {
     match read_flag(bytes) {
         Some((swapped, rest)) => Ok((Answer::Swapped(swapped), rest)),
@@ -249,7 +249,7 @@ fn read_all<'b, A: Allocator + Clone>(
     alloc: &A,
     bytes: &'b [u8],
 ) -> Result<(Answer<A>, &'b [u8]), Bad>
-    ensures { DecodingGives (λ x. (outcome_of x.0, x.1.now)) result (all_at bytes.now) }
+    ensures { DecodingReturns (λ x. (outcome_of x.0, x.1.now)) result (all_at bytes.now) }
 {
     match read_tuples(alloc, bytes) {
         Ok((tuples, rest)) => Ok((Answer::All(tuples), rest)),
@@ -262,7 +262,7 @@ fn read_tuples<'b, A: Allocator + Clone>(
     alloc: &A,
     bytes: &'b [u8],
 ) -> Result<(Tuples<A>, &'b [u8]), Bad>
-    ensures { DecodingGives (λ x. (x.0, x.1.now)) result (tuples_at bytes.now) }
+    ensures { DecodingReturns (λ x. (x.0, x.1.now)) result (tuples_at bytes.now) }
 {
     let (count, front) = next_byte(bytes)?;
     if count as usize > MAX_ANSWERS {

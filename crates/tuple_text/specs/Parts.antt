@@ -3,7 +3,7 @@ use Rattle.std.specs.Prelude.{◌≡◌, ℕ, Bool, codes, Result, Ok, Err, Opti
 use Rattle.tuple_tree.specs.Items.{TreeItem, inner, Items}
 use Rattle.tuple_tree.specs.Seen.{seen_datum}
 use Rattle.tuple_tree.specs.Values.{Datum, text, bytes, Slot, TupleTree, TemplateTree, datum_length, slot_length}
-use Rattle.tuple_text.specs.Reading.{◌>>=◌, got, stop, Reading, named, datum, slot, actual_slot, begins_datum, begins_slot, full, further, no_room, kept_with, leaf_item, item_at, items_at, close, ReadingGives}
+use Rattle.tuple_text.specs.Reading.{◌>>=◌, got, stop, Reading, named, datum, slot, actual_slot, begins_datum, begins_slot, full, further, no_room, kept_with, leaf_item, item_at, items_at, close, ReadingReturns}
 use Rattle.tuple_text.specs.declared.literals.Literal.{Literal}
 use Rattle.tuple_text.specs.declared.literals.Literal.TheVariants.{Scalar, Text, Bytes}
 use Rattle.tuple_text.specs.declared.reader.Reader.{Reader}
@@ -12,7 +12,7 @@ use Rattle.tuple_text.specs.declared.reader.Stop.TheVariants.{NoMemory}
 
 -- The method reads as the definition does, unless memory ran out. After it the reader has the bytes that are left.
 abbrev pub MethodReads : {X V : Type 0} → (X → V) → Result X Stop → Reading V → Reader → Reader → Type 0
-MethodReads view result reading old new = ReadingGives view result (reading old.rest.now) new.rest.now
+MethodReads view result reading old new = ReadingReturns view result (reading old.rest.now) new.rest.now
 
 -- the value that was read
 abbrev pub datum_read : {A : Type 0} → Literal A → Datum

@@ -295,9 +295,9 @@ abbrev pub ReadingStops : {V : Type 0} → Stop → Read V → List ℕ → Type
 ReadingStops NoMemory read rest = Unit {0}
 ReadingStops s read rest = read ≡ stop s rest
 
-abbrev pub ReadingGives : {X V : Type 0} → (X → V) → Result X Stop → Read V → List ℕ → Type 0
-ReadingGives view (Ok x) read rest = read ≡ got (view x) rest
-ReadingGives view (Err s) read rest = ReadingStops s read rest
+abbrev pub ReadingReturns : {X V : Type 0} → (X → V) → Result X Stop → Read V → List ℕ → Type 0
+ReadingReturns view (Ok x) read rest = read ≡ got (view x) rest
+ReadingReturns view (Err s) read rest = ReadingStops s read rest
 
 abbrev pub fault_at : ℕ → Stop → LineFault
 fault_at n BadByte = faults.BadByte n

@@ -29,7 +29,7 @@ others_written p = more_written slot_text p
 abbrev pub IsThere : {X : Type 0} → Option X → Type 0
 IsThere read = IsTrue (is_some read)
 
--- the text of what is read, and none if nothing is
+-- the text of the value that is read, and none if none is
 abbrev pub text_of : {X : Type 0} → (X → List ℕ) → Option (X × List ℕ) → List ℕ
 text_of text None = []
 text_of text (Some x) = text x.0

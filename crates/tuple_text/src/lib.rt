@@ -16,6 +16,7 @@ mod lines;
 mod literals;
 mod operations;
 mod reader;
+mod scalars;
 mod verbs;
 mod write;
 

@@ -11,7 +11,7 @@ pub mod TemplateView
 pub mod Puts
 pub mod Spelling
 pub mod Reading
-pub mod Gives
+pub mod Results
 pub mod Loose
 pub mod Flat
 pub mod Seen

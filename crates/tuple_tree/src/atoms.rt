@@ -35,8 +35,8 @@ pub enum Atom<A: Allocator> {
     Wide(i128),
 }
 
-// Each item of a slice of bytes is a byte.
-pub(crate) fn note_bytes(bytes: &[u8])
+/// Tells a proof that each item of a slice of bytes is a byte.
+pub fn note_bytes(bytes: &[u8])
     ensures { AreBytes bytes.now }
 {
     let _first = bytes.first();

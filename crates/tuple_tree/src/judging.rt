@@ -1,8 +1,8 @@
-//! Whether bytes spell a tuple or a template within the limits, and what is in it. Nothing here takes memory.
+//! Whether bytes spell a tuple or a template within the limits, and its parts. Nothing here takes memory.
 
 ghost use Rattle.std.specs.Prelude.{◌≡◌, ◌+◌, ◌*◌, ◌≤◌, ◌||◌, IfSome};
 ghost use Rattle.tuple_tree.specs.Values.{is_wide, is_wide_slot};
-ghost use Rattle.tuple_tree.specs.Gives.{Yields};
+ghost use Rattle.tuple_tree.specs.Results.{Yields};
 ghost use Rattle.tuple_tree.specs.Reading.{rest_of, datum_at, slot_at, item_at, items_at};
 ghost use Rattle.tuple_tree.specs.Judging.{judged, judged_one, judged_leaf, items_judged};
 

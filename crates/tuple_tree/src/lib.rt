@@ -10,11 +10,11 @@
 //!
 //! A `Tuple` is seen as the list of its values, a `Template` as that of its fields. Both keep the limits (32 items, 8
 //! levels, 1,024 bytes) by their types. `push` adds an item at the end, or hands it back with the first limit that it
-//! would pass and changes nothing; `push_atom` adds a value from where it lies, and `push_open` a formal or a field that
-//! each value matches. `copy_in` gives an equal one under another allocator; `same` holds exactly of equal ones, under
-//! two allocators. `len`, `depth`, `encoded_len`, `into_value` are exact. `has_wide` tells exactly whether a wide number,
-//! or in a template its formal, is at some level. `values` and `fields` see the items one after another, where they
-//! lie, and take no memory.
+//! would pass and changes nothing; `push_atom` adds a value from where it lies, and `push_open` a formal or a field
+//! that each value matches. `copy_in` gives an equal one under another allocator; `same` holds exactly of equal ones,
+//! under two allocators. `len`, `depth`, `encoded_len`, `into_value` are exact. `has_wide` tells exactly whether a wide
+//! number, or in a template its formal, is at some level. `values` and `fields` see the items one after another, where
+//! they lie, and take no memory.
 //!
 //! `bytes` are the spellings of the items, and `put_tuple` and `put_template` append the spelling of the whole.
 //! `fixed_bytes` are those of a template before its first open field, and `is_fixed` tells exactly whether there is
@@ -34,7 +34,7 @@ mod templates;
 mod tuples;
 mod values;
 
-pub use atoms::{Atom, Kind};
+pub use atoms::{Atom, Kind, note_bytes};
 pub use fields::{FieldRef, Fields};
 pub use judging::{behind_template, behind_tuple};
 pub use limits::{MAX_DEPTH, MAX_FIELDS, MAX_LEN, Refusal, Refused};

@@ -1,7 +1,7 @@
 //! The bytes after a value or a field. The bytes are a tuple's or a template's own, so that no text is tested again.
 
 ghost use Rattle.std.specs.Prelude.{◌≡◌, ◌+◌, ◌*◌};
-ghost use Rattle.tuple_tree.specs.Gives.{Yields};
+ghost use Rattle.tuple_tree.specs.Results.{Yields};
 ghost use Rattle.tuple_tree.specs.Reading.{rest_of, number_of, string_at, flag_at, item_at, items_at};
 ghost use Rattle.tuple_tree.specs.Loose.{loose_at, loose_slot_at};
 

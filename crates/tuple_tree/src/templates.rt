@@ -6,7 +6,7 @@ ghost use Rattle.tuple_tree.specs.Limits.{IsItem};
 ghost use Rattle.tuple_tree.specs.Pushes.{JudgesTemplate, AddsField};
 ghost use Rattle.tuple_tree.specs.Puts.{PutsText};
 ghost use Rattle.tuple_tree.specs.Fronts.{is_open, front_of};
-ghost use Rattle.tuple_tree.specs.Gives.{Yields};
+ghost use Rattle.tuple_tree.specs.Results.{Yields};
 ghost use Rattle.tuple_tree.specs.Reading.{slot_at, items_at};
 ghost use Rattle.tuple_tree.specs.Seen.{seen_datum, open_slot};
 ghost use Rattle.tuple_tree.specs.Spelling.{slot_spelling, items_spelling, template_spelling};

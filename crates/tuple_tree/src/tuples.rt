@@ -5,7 +5,7 @@ ghost use Rattle.tuple_tree.specs.Items.{none, leaf, inner, how_many, with_last,
 ghost use Rattle.tuple_tree.specs.Limits.{IsItem};
 ghost use Rattle.tuple_tree.specs.Pushes.{JudgesTuple, AddsValue};
 ghost use Rattle.tuple_tree.specs.Puts.{PutsText};
-ghost use Rattle.tuple_tree.specs.Gives.{Yields};
+ghost use Rattle.tuple_tree.specs.Results.{Yields};
 ghost use Rattle.tuple_tree.specs.Reading.{datum_at, items_at};
 ghost use Rattle.tuple_tree.specs.Seen.{seen_datum};
 ghost use Rattle.tuple_tree.specs.Spelling.{datum_spelling, items_spelling, tuple_spelling};

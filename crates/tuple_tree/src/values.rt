@@ -3,7 +3,7 @@
 ghost use Rattle.std.specs.Prelude.{◌≡◌, ◌+◌, IfSome, IfNone};
 ghost use Rattle.tuple_tree.specs.Items.{none, item};
 ghost use Rattle.tuple_tree.specs.Values.{kind_of, datum_length, is_wide, IsDatum, IsUtf8IfText};
-ghost use Rattle.tuple_tree.specs.Gives.{Yields};
+ghost use Rattle.tuple_tree.specs.Results.{Yields};
 ghost use Rattle.tuple_tree.specs.Reading.{inner_at, item_at};
 ghost use Rattle.tuple_tree.specs.Loose.{loose_at};
 ghost use Rattle.tuple_tree.specs.Seen.{seen_datum, seen_value};

@@ -8,7 +8,7 @@ use Rattle.wire_format.specs.Spelling.{SpellsFrame, is_signed}
 use Rattle.wire_format.specs.Words.{frame_of}
 use Rattle.wire_format.proofs.Saying.{reads_frames}
 use Rattle.authenticator.specs.Membership.{is_replica, has_sender, sends}
-use Rattle.signing.specs.Heard.{has_signature, is_signed_frame, signed_body}
+use Rattle.signing.specs.AuthenticBody.{has_signature, is_signed_frame, signed_body}
 use Rattle.protocol.specs.System.Configuration.{Configuration, members, replicas}
 use Rattle.protocol.specs.Replica.Selection.{change_in, signed_change}
 

@@ -5,7 +5,7 @@ use Rattle.wire_format.specs.Messages.{MessageData as Message, BodyData as Body,
 use Rattle.wire_format.specs.Words.{frame_of}
 use Rattle.wire_format.specs.Spelling.{is_signed}
 use Rattle.authenticator.specs.Membership.{sends}
-use Rattle.signing.specs.Heard.{has_signature, is_signed_frame, signed_body}
+use Rattle.signing.specs.AuthenticBody.{has_signature, is_signed_frame, signed_body}
 use Rattle.protocol.specs.System.Configuration.{Configuration, members, primary}
 use Rattle.protocol.specs.Replica.Certificates.{is_later}
 use Rattle.protocol.specs.Replica.Selection.{change_in, changes_of, count_in, is_quorum, is_within, list_of, may_select, signed_change}

@@ -12,12 +12,12 @@ ghost use Rattle.wire_format.specs.Views.{batch_text, new_view_data};
 
 use crate::changes::Selection;
 use crate::received::Received;
-use claims::note_digest;
 use ordering::HashedBatch;
 use std::alloc::Global;
 use std::sync::Arc;
 use terms::{NoMemory, View};
 use wire::{Batch, NewView};
+use wire_format::note_digest;
 
 /// The new view of a selection over the stored view changes for the view, with their frames.
 ///

@@ -3,7 +3,7 @@
 ghost use Rattle.std.specs.Prelude.{◌≡◌, IfOk, MatchOption, None};
 ghost use Rattle.std.specs.Option.{option_map};
 ghost use Rattle.protocol.specs.Replica.Selection.{change_in, signed_change};
-ghost use Rattle.signing.specs.Heard.{has_signature};
+ghost use Rattle.signing.specs.AuthenticBody.{has_signature};
 ghost use Rattle.wire_format.specs.Messages.{FrameData, view_change};
 ghost use Rattle.wire_format.specs.Spelling.{SpellsFrame};
 ghost use Rattle.wire_format.specs.Views.{frame_data, message_data, view_change_data};

@@ -78,7 +78,7 @@ at_most_16 text = cases (requests_at 0 text) refl
         let none : requests_of text ≡ [] = spare_byte text rest frames b e in
         omega (arith, ap length none)
 
--- ---- splitting what is known to be a batch
+-- ---- splitting a text that is known to be a batch
 
 known : (text : List ℕ) → IsBatch 0 text → requests_at 0 text ≡ Some (requests_of text, [])
 known text b =

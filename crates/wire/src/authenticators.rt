@@ -1,7 +1,7 @@
 //! Authenticators after the body of a frame.
 
 ghost use Rattle.std.specs.Prelude.{true, false};
-ghost use Rattle.tuple_tree.specs.Gives.{Yields};
+ghost use Rattle.tuple_tree.specs.Results.{Yields};
 ghost use Rattle.wire_format.specs.Messages.{macs, signature};
 ghost use Rattle.wire_format.specs.Reading.{authenticator_of};
 

@@ -4,7 +4,7 @@ ghost use Rattle.std.specs.Prelude.{◌≡◌, ◌↔◌, ◌≤◌, IsTrue, len
 ghost use Rattle.wire_format.specs.Reading.{requests_at, request_frame_at};
 ghost use Rattle.wire_format.specs.Spelling.{IsBatch, IsCarried, is_ordered_request};
 ghost use Rattle.wire_format.specs.Words.{requests_of};
-ghost use Rattle.wire.specs.Giving.{YieldsFront};
+ghost use Rattle.wire.specs.Results.{YieldsFront};
 
 use crate::carried::{MAX_REQUESTS, is_request_frame};
 use crate::reading::{read_byte, read_piece};

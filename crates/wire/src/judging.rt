@@ -1,7 +1,7 @@
 //! Whether bytes spell a frame. Nothing here copies them or takes memory.
 
 ghost use Rattle.std.specs.Prelude.{◌≡◌, ◌≢◌, ◌≤◌, ◌&&◌, ◌<◌, is_some, length, option_map, IfOk, IfErr, IsOk, [], nat_le, ◌==◌, ◌||◌};
-ghost use Rattle.tuple_tree.specs.Gives.{Yields};
+ghost use Rattle.tuple_tree.specs.Results.{Yields};
 ghost use Rattle.wire_format.specs.Messages.{FrameData};
 ghost use Rattle.wire_format.specs.Spelling as Spelling;
 ghost use Rattle.wire_format.specs.Spelling.{SpellsFrame};
@@ -9,7 +9,7 @@ ghost use Rattle.wire_format.specs.Faults.{IsTooLarge, limit_at};
 ghost use Rattle.wire.specs.Headers.{HasHeader, header_data, header_of, authenticator_bytes_data};
 ghost use Rattle.wire.specs.Judging.{JudgesFrame, ends};
 ghost use Rattle.wire_format.specs.Reading.{whole_value, message_at, message_by, request_at, reply_at, pre_prepare_at, vote_at, checkpoint_at, fetch_at, meta_at, page_at, digest_list_at, new_view_at, authenticator_of, frame_read, too_large};
-ghost use Rattle.wire.specs.Giving.{YieldsRest};
+ghost use Rattle.wire.specs.Results.{YieldsRest};
 
 use crate::authenticators::{read_mac_authenticator, read_signature_authenticator};
 use crate::carried::{read_batch, skip_batches, skip_changes};

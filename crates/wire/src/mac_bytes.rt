@@ -6,7 +6,7 @@ ghost use Rattle.wire.specs.Macs.{mac_in, macs_in};
 ghost use Rattle.wire_format.specs.Spelling.{mac_before};
 ghost use Rattle.wire_format.specs.Views.{mac_data};
 ghost use Rattle.wire_format.specs.Reading.{macs_at};
-ghost use Rattle.wire.specs.Giving.{YieldsFront};
+ghost use Rattle.wire.specs.Results.{YieldsFront};
 
 use crate::reading::{party, read_byte};
 use arrayvec::ArrayVec;

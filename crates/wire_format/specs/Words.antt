@@ -49,7 +49,7 @@ ReadsFrames = (bs : List ℕ) (f : FrameData) → (frame_of bs ≡ Some f) ↔ S
 abbrev pub ReadsBodies : Type 0
 ReadsBodies = (bs : List ℕ) (b : BodyData) → AreBytes bs → (body_of bs ≡ Some b) ↔ SpellsBody bs b
 
--- The definition said gives exactly the body of the frame that a list spells.
+-- `said` is exactly the body of the frame that a list spells.
 abbrev pub ReadsSaid : Type 0
 ReadsSaid =
     (bs : List ℕ) (b : BodyData)

@@ -13,6 +13,7 @@
 
 mod batches;
 mod bodies;
+mod digests;
 mod fault;
 mod frames;
 mod laws;
@@ -23,6 +24,7 @@ mod sealing;
 mod sizes;
 
 pub use bodies::encode;
+pub use digests::note_digest;
 pub use fault::{NoFrame, WireFault};
 pub use frames::{
     Authenticator, Frame, MAX_FRAME, MAX_RECEIVERS, MAX_VIEW_CHANGE, ReceiverMac, SIGNATURE_KEYS,

@@ -29,13 +29,13 @@ const OUT_OF_BOUNDS: usize = 4;
 
 const BROKEN: usize = 5;
 
-// The sender of a new view of view 1, and the view and the target of the replica that hears it.
+// The sender of a new view of view 1, and the view and the target of the replica that receives it.
 type Heard = (u8, (u64, u64));
 
 // From its primary, for who sent a view change for its view.
 const WELL: Heard = (1, (0, 1));
 
-// How a replica hears a new view that carries a frame which is none, and why it refuses the new view.
+// How a replica receives a new view that carries a frame which is none, and why it refuses the new view.
 static UNREAD: [(Heard, NewViewFault); 5] = [
     // It is not from its primary, whatever else is wrong.
     ((2, (1, 2)), NewViewFault::UnknownSender),
@@ -182,7 +182,7 @@ fn are_unread(alloc: Global, received: &Received, new: &NewView) -> bool {
 // What judges a new view.
 #[derive(Clone, Copy)]
 enum Wanted {
-    // It is heard and refused as UNREAD says.
+    // It is received and refused as UNREAD says.
     Unread,
     // It comes of this, if of anything.
     Heard(Heard, Option<NewViewFault>),

@@ -6,7 +6,7 @@ ghost use Rattle.wire_format.specs.Views.{message_data};
 
 use authenticator::{Ring, SealFault, signing_seed};
 use events::Output;
-use posting::{Endpoint, PostFault, view_change_message};
+use frame_endpoint::{Endpoint, SendFault, view_change_message};
 use signing::{PublicKeys, Signer};
 use std::alloc::Global;
 use terms::{Digest, NoMemory, Number, Party, ReplicaId, View};
@@ -49,7 +49,7 @@ pub fn frame_for_others(
     requires said { IsMessage (message_data message) }
     requires unsigned { is_signed (message_data message) ≡ false }
 {
-    match endpoint.post_to_others(alloc, message) {
+    match endpoint.send_to_others(alloc, message) {
         Ok(output) => sent(alloc, output),
         Err(SealFault::NoMemory) => Err(NoMemory),
         Err(SealFault::TooLarge) => Ok(Vec::new(alloc)),
@@ -71,14 +71,14 @@ fn view_change(alloc: Global) -> Message
 }
 
 // The frame of a view change, signed by the sender's next key.
-pub fn signed(endpoint: &mut Endpoint, alloc: Global) -> Result<Vec<u8>, PostFault> {
+pub fn signed(endpoint: &mut Endpoint, alloc: Global) -> Result<Vec<u8>, SendFault> {
     endpoint.sign(alloc, view_change(alloc))
 }
 
 // The answer of a test that lacks the frame it needs.
-pub fn without_frame(fault: PostFault) -> Result<bool, NoMemory> {
+pub fn without_frame(fault: SendFault) -> Result<bool, NoMemory> {
     match fault {
-        PostFault::NoMemory => Err(NoMemory),
-        PostFault::TooLarge | PostFault::KeysSpent => Ok(false),
+        SendFault::NoMemory => Err(NoMemory),
+        SendFault::TooLarge | SendFault::KeysSpent => Ok(false),
     }
 }

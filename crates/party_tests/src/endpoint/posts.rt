@@ -1,4 +1,4 @@
-//! The frames that replica 0 posts. The SHA-256 of each frame comes from Python's hashlib and hmac, by
+//! The frames that replica 0 sends. The SHA-256 of each frame comes from Python's hashlib and hmac, by
 //! docs/formats.md, under the seed 00 01 .. 1f.
 
 ghost use Rattle.std.specs.Prelude.{◌≡◌, false};
@@ -9,11 +9,11 @@ use crate::answers::{all_hold, holds};
 use crate::endpoint::endpoints::{DIGEST, new_endpoint, new_ring, signed, without_frame};
 use authenticator::SealFault;
 use events::Output;
-use hex::FromHex;
-use posting::{
-    Endpoint, PostFault, checkpoint_message, commit_message, fetch_message, meta_message,
+use frame_endpoint::{
+    Endpoint, SendFault, checkpoint_message, commit_message, fetch_message, meta_message,
     page_message, prepare_message, reply_message, seal_for_one,
 };
+use hex::FromHex;
 use sha2::{Digest, Sha256};
 use std::alloc::Global;
 use terms::{ClientId, Level, Mode, NoMemory, Number, Party, ReplicaId, Timestamp, View};
@@ -67,8 +67,8 @@ fn is_sent_once(output: Output, receivers: &[u16], digits: &str) -> bool {
     is_right
 }
 
-// Whether the posted frame goes to these parties and has these bytes.
-fn is_posted(
+// Whether the sent frame goes to these parties and has these bytes.
+fn is_outgoing(
     posted: Result<Output, SealFault>,
     receivers: &[u16],
     digits: &str,
@@ -90,7 +90,7 @@ pub fn goes_out(
     requires said { IsMessage (message_data message) }
     requires unsigned { is_signed (message_data message) ≡ false }
 {
-    is_posted(endpoint.post_to_others(alloc, message), &OTHERS, digits)
+    is_outgoing(endpoint.send_to_others(alloc, message), &OTHERS, digits)
 }
 
 // A message a function, since each way out of one drops all messages that it owns.
@@ -187,9 +187,9 @@ fn reply() -> Message
 // Whether the reply goes to the client alone, by an endpoint.
 fn reply_goes_out(alloc: Global) -> Result<bool, NoMemory> {
     let mut endpoint = new_endpoint(alloc, 0)?;
-    let posted = endpoint.post_to(alloc, reply(), Party::Client(CLIENT));
+    let posted = endpoint.send_to(alloc, reply(), Party::Client(CLIENT));
     drop(endpoint);
-    is_posted(posted, &[256], REPLY)
+    is_outgoing(posted, &[256], REPLY)
 }
 
 // The same by a ring.
@@ -203,7 +203,7 @@ fn reply_goes_out_by_ring(alloc: Global) -> Result<bool, NoMemory> {
         Party::Client(CLIENT),
     );
     drop(ring);
-    is_posted(posted, &[256], REPLY)
+    is_outgoing(posted, &[256], REPLY)
 }
 
 #[test]
@@ -220,7 +220,7 @@ fn a_reply(rt: HostRuntime) {
 // A frame has at most 4,194,304 bytes: here those of the text, 17 before it and 104 after it.
 fn refuses_page(endpoint: &mut Endpoint, alloc: Global) -> Result<bool, NoMemory> {
     let page = page_message(Number(16), 0, vec![in alloc; 0; 4_194_184]?);
-    match endpoint.post_to_others(alloc, page) {
+    match endpoint.send_to_others(alloc, page) {
         Ok(output) => {
             drop(output);
             Ok(false)
@@ -244,7 +244,7 @@ fn a_page_too_long(rt: HostRuntime) {
 
 // Whether the view change's frame goes to all others.
 fn frame_goes_out(endpoint: &Endpoint, alloc: Global, frame: &[u8]) -> Result<bool, NoMemory> {
-    match endpoint.post_frame(alloc, frame) {
+    match endpoint.send_frame_to_others(alloc, frame) {
         Ok(output) => Ok(is_sent_once(output, &OTHERS, VIEW_CHANGE)),
         Err(NoMemory) => Err(NoMemory),
     }
@@ -266,7 +266,7 @@ fn has_spent_all(endpoint: &mut Endpoint, alloc: Global) -> Result<bool, NoMemor
             drop(frame);
             Ok(false)
         }
-        Err(PostFault::KeysSpent) => Ok(true),
+        Err(SendFault::KeysSpent) => Ok(true),
         Err(fault) => without_frame(fault),
     }
 }
@@ -316,8 +316,8 @@ fn each_signed_message_spends_a_key(rt: HostRuntime) {
 
 // The output for the first commit of replica 0, at the second try if memory ran out at the first one.
 fn commit_output(endpoint: &mut Endpoint, alloc: Global) -> Result<Output, SealFault> {
-    match endpoint.post_to_others(alloc, first_commit()) {
-        Err(SealFault::NoMemory) => endpoint.post_to_others(alloc, first_commit()),
+    match endpoint.send_to_others(alloc, first_commit()) {
+        Err(SealFault::NoMemory) => endpoint.send_to_others(alloc, first_commit()),
         first => first,
     }
 }
@@ -333,7 +333,7 @@ fn commit_goes_out_again(alloc: Global) -> Result<bool, NoMemory> {
     let mut endpoint = made(alloc)?;
     let posted = commit_output(&mut *endpoint, alloc);
     drop(endpoint);
-    is_posted(posted, &OTHERS, COMMIT)
+    is_outgoing(posted, &OTHERS, COMMIT)
 }
 
 // Passes whichever growth is refused, as by `tools/growths`: the endpoint is as before.

@@ -9,7 +9,7 @@ use crate::answers::{all_hold, holds};
 use crate::endpoint::endpoints::{new_endpoint, new_ring};
 use crate::endpoint::posts::goes_out;
 use authenticator::SealFault;
-use posting::{Endpoint, pre_prepare_message};
+use frame_endpoint::{Endpoint, pre_prepare_message};
 use std::alloc::Global;
 use terms::{ClientId, Mode, NoMemory, Number, Party, ReplicaId, Timestamp, View};
 use tuple_codec::{Bad, decode_op};
@@ -82,7 +82,7 @@ fn without_frame(fault: SealFault) -> Result<bool, NoMemory> {
     }
 }
 
-// Whether the replica posts the pre-prepare of the frame's batch.
+// Whether the replica sends the pre-prepare of the frame's batch.
 fn posts_batch(endpoint: &mut Endpoint, alloc: Global, frame: Vec<u8>) -> Result<bool, NoMemory>
     requires { IsCarried is_ordered_request frame.items }
 {

@@ -1,4 +1,4 @@
-//! A worked frame, and the keys of those who hear it.
+//! A worked frame, and the keys of those who receive it.
 
 use authenticator::Ring;
 use std::alloc::Global;

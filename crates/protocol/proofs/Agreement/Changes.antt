@@ -10,7 +10,7 @@ use Rattle.wire_format.specs.Words.{said}
 use Rattle.protocol.specs.System.Trace.{Entry, Once, Always, Has}
 use Rattle.protocol.specs.System.Trace.Entry.{Invoke, Sent}
 use Rattle.protocol.specs.Replica.Certificates.{logged, target, is_in_marks, low, Prepared, proposal, taken, batch_begun, view, entry_proposal, change_from}
-use Rattle.protocol.specs.Replica.RightReplica.{Point, HistoryReaches, MaySay, MayViewChange, IsNewViewChange, SendsBytes}
+use Rattle.protocol.specs.Replica.RightReplica.{Point, HistoryReaches, MaySendMessage, MayViewChange, IsNewViewChange, SendsBytes}
 use Rattle.protocol.proofs.Words.Temporal.{once_weaker, once_always, once_order, once_stays, once_stays_from}
 use Rattle.protocol.proofs.Words.Options.{or_else_cases, given_once, some_injective}
 use Rattle.protocol.proofs.Words.Linking.{Speaks}
@@ -34,7 +34,7 @@ again_says body bytes is past _ h = absurd h
 
 says_change : (c : Configuration) (s : ℕ) (vc : ViewChangeData) (past : List Entry) (e : Entry) → RightAt c s past e → Speaks (changing s vc) past e
     → NewChangeAt c s vc past e ⊎ Once (Speaks (changing s vc)) past
-says_change c s vc past (Sent p bytes) r h = go (subst (λ (x : Body). MaySay c s past r.point (Sent p bytes) bytes x.message) (some_injective r.may.body (changing s vc) (sym r.may.says ∙ h)) r.may.say)
+says_change c s vc past (Sent p bytes) r h = go (subst (λ (x : Body). MaySendMessage c s past r.point (Sent p bytes) bytes x.message) (some_injective r.may.body (changing s vc) (sym r.may.says ∙ h)) r.may.allowed)
   where
     go : MayViewChange c s past r.point bytes vc → NewChangeAt c s vc past (Sent p bytes) ⊎ Once (Speaks (changing s vc)) past
     go (inl n) = inl (record { point = r.point; leaves = r.leaves; is_new = n; says = h })

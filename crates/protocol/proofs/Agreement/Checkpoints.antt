@@ -50,7 +50,7 @@ all_taken zero (m ∷ checkpoints) l = absurd (omega arith)
 all_taken (suc k) [] l = refl
 all_taken (suc k) (m ∷ checkpoints) l = ap (λ (xs : List CheckpointEntry). m ∷ xs) (all_taken k checkpoints (omega arith))
 
--- ---- what is inserted
+-- ---- the inserted entry
 
 -- where the new number stands to that of a checkpoint
 pub data Order (a b : ℕ) : Type 0 where

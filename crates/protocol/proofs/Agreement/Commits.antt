@@ -10,7 +10,7 @@ use Rattle.protocol.specs.System.Trace.{Entry, history_of, Once, Always, Unforge
 use Rattle.protocol.specs.System.Trace.Entry.{Sent}
 use Rattle.protocol.specs.Replica.Certificates.{prepare_from, commit_from, vote_in, prepare_of, commit_of, is_active_in, Prepared}
 use Rattle.quorum.specs.Votes.{has_digest}
-use Rattle.protocol.specs.Replica.RightReplica.{MaySay, MayCommit}
+use Rattle.protocol.specs.Replica.RightReplica.{MaySendMessage, MayCommit}
 use Rattle.protocol.specs.Laws.Histories.{AreReplicasSafe}
 use Rattle.protocol.proofs.Words.Temporal.{once_weaker}
 use Rattle.protocol.proofs.Words.Options.{then_some_gives, given_stays, given_once, some_injective}
@@ -69,11 +69,11 @@ pub record Commits (c : Configuration) (me v i : ℕ) (d : List ℕ) (past : Lis
   pub digest_is : sha256 batch ≡ d
 
 pub says_prepared : (c : Configuration) (me v i : ℕ) (d : List ℕ) (past : List Entry) (e : Entry) → RightAt c me past e → Speaks (committing me v i d) past e → Commits c me v i d past
-says_prepared c me v i d past (Sent p bytes) r h = go r.may.body (some_injective r.may.body (committing me v i d) (sym r.may.says ∙ h)) r.may.say
+says_prepared c me v i d past (Sent p bytes) r h = go r.may.body (some_injective r.may.body (committing me v i d) (sym r.may.says ∙ h)) r.may.allowed
   where
-    go : (body : Body) → body ≡ committing me v i d → MaySay c me past r.point (Sent p bytes) bytes body.message → Commits c me v i d past
-    go body is say =
-        let m : MayCommit c me past v i d = subst (λ (x : Body). MaySay c me past r.point (Sent p bytes) bytes x.message) is say in
+    go : (body : Body) → body ≡ committing me v i d → MaySendMessage c me past r.point (Sent p bytes) bytes body.message → Commits c me v i d past
+    go body is allowed =
+        let m : MayCommit c me past v i d = subst (λ (x : Body). MaySendMessage c me past r.point (Sent p bytes) bytes x.message) is allowed in
         record { active = m.active; batch = m.batch; prepared = m.prepared; digest_is = m.digest_is }
 says_prepared c me v i d past _ r h = absurd h
 

@@ -5,7 +5,7 @@ use Rattle.std.specs.Option.{option_map_or}
 use Rattle.std.proofs.lemmas.Bool.{and_parts, ltb-true, leb-true}
 use Rattle.protocol.specs.System.Configuration.{Configuration, span, primary, is_number, members}
 use Rattle.wire_format.specs.Messages.{BodyData as Body, MessageData as Message, NewViewData, ViewChangeData, BatchEntryData as BatchEntry, new_view as NewView}
-use Rattle.signing.specs.Heard.{heard}
+use Rattle.signing.specs.AuthenticBody.{authentic}
 use Rattle.wire_format.specs.Words.{said}
 use Rattle.protocol.specs.System.Trace.{Entry}
 use Rattle.protocol.specs.System.Trace.Entry.{Got, Sent}
@@ -176,6 +176,6 @@ proposes c v i new batch h = go ((new.view == v) && nat_lt new.start i) refl h
     go false e h = absurd cc
 
 pub selected_in : (c : Configuration) (e : Entry) (new : NewViewData) → new_view_in c e ≡ Some new → may_select c new ≡ true
-selected_in c (Got p bytes) new h = let r = and_then_some (new_view_from c) (heard (members c) p bytes) new h in (begins c r.0 new r.2).selected
+selected_in c (Got p bytes) new h = let r = and_then_some (new_view_from c) (authentic (members c) p bytes) new h in (begins c r.0 new r.2).selected
 selected_in c (Sent p bytes) new h = let r = and_then_some (new_view_from c) (said bytes) new h in (begins c r.0 new r.2).selected
 selected_in c _ new h = absurd cc

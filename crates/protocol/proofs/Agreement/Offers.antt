@@ -5,14 +5,14 @@ use Rattle.std.specs.Prelude.{option_and_then, ◌==◌, nat_lt, nat_le}
 use Rattle.std.proofs.lemmas.Bool.{and_parts, and_cases, ltb-true, ltb-false, leb-false}
 use Rattle.protocol.specs.System.Configuration.{Configuration, span, primary, is_number, members}
 use Rattle.wire_format.specs.Messages.{BodyData as Body, MessageData as Message, NewViewData, pre_prepare as PrePrepare, new_view as NewView}
-use Rattle.signing.specs.Heard.{heard}
+use Rattle.signing.specs.AuthenticBody.{authentic}
 use Rattle.wire_format.specs.Words.{said}
 use Rattle.protocol.specs.System.Trace.{Entry, Once, Always}
 use Rattle.protocol.specs.System.Trace.Entry.{Invoke, Got, Sent}
 use Rattle.std.specs.Bool.{then_some}
 use Rattle.quorum.specs.Votes.{or_else}
 use Rattle.protocol.specs.Replica.Certificates.{first_given, view, target, taken, new_view_in, new_view_from, low, is_in_marks, is_active_in, batch_begun, are_genuine, entry_proposal, proposal, logged, batch_from, counts_at, brought}
-use Rattle.protocol.specs.Replica.RightReplica.{Point, MaySay, MayPrePrepare, SentBefore, SendsBytes}
+use Rattle.protocol.specs.Replica.RightReplica.{Point, MaySendMessage, MayPrePrepare, SentBefore, SendsBytes}
 use Rattle.protocol.proofs.Words.Temporal.{once_weaker, once_always, once_stays_from}
 use Rattle.protocol.proofs.Words.Options.{and_then_some, then_some_gives, or_else_cases, or_else_first, given_once, given_stays, some_injective}
 use Rattle.protocol.proofs.Agreement.Voting.{RightAt, Brings, logged_stays}
@@ -53,7 +53,7 @@ begun_offer v i new batch sender message is h = rw is h
 
 taken_offer : (c : Configuration) (me v i : ℕ) (past : List Entry) (batch : List ℕ) (e : Entry) (new : NewViewData) → new_view_in c e ≡ Some new → batch_begun v i new ≡ Some batch → Offers c me v i batch past e
 taken_offer c me v i past batch (Got p bytes) new h b =
-    let r = and_then_some (new_view_from c) (heard (members c) p bytes) new h in
+    let r = and_then_some (new_view_from c) (authentic (members c) p bytes) new h in
     let g = begins c r.0 new r.2 in
     record { body = r.0; brings = r.1; sender_is = g.sender_is ∙ ap (primary c) (proposes c v i new batch b).view_is; offers = begun_offer v i new batch r.0.sender r.0.message g.message_is b }
 taken_offer c me v i past batch (Sent p bytes) new h b =
@@ -128,8 +128,8 @@ same_bytes v i batch bytes h past s = once_weaker (SendsBytes bytes) (λ earlier
 
 offer_by : (c : Configuration) (me v i : ℕ) (batch : List ℕ) (past : List Entry) (point : Point) (p : ℕ) (bytes : List ℕ) (sender : ℕ) (message : Message)
     → option_and_then (offer_from v i) (said bytes) ≡ Some batch
-    → offer_from v i (record { sender = sender; message = message }) ≡ Some batch → MaySay c me past point (Sent p bytes) bytes message → IsOffer c me v i batch past (Sent p bytes)
-offer_by c me v i batch past point p bytes sender (PrePrepare view number b) whole h say =
+    → offer_from v i (record { sender = sender; message = message }) ≡ Some batch → MaySendMessage c me past point (Sent p bytes) bytes message → IsOffer c me v i batch past (Sent p bytes)
+offer_by c me v i batch past point p bytes sender (PrePrepare view number b) whole h allowed =
     let g = then_some_gives ((view == v) && (number == i)) b batch h in
     let q = and_parts (view == v) (number == i) g.0 in
     let ev : view ≡ v = eqb-true view v q.0 in
@@ -137,22 +137,22 @@ offer_by c me v i batch past point p bytes sender (PrePrepare view number b) who
     let m : MayPrePrepare c me past point (Sent p bytes) v i batch =
     subst (λ (x : ℕ). MayPrePrepare c me past point (Sent p bytes) x i batch) ev
     (subst (λ (x : ℕ). MayPrePrepare c me past point (Sent p bytes) view x batch) ei
-    (subst (λ (x : List ℕ). MayPrePrepare c me past point (Sent p bytes) view number x) g.1 say)) in
+    (subst (λ (x : List ℕ). MayPrePrepare c me past point (Sent p bytes) view number x) g.1 allowed)) in
     fresh m.active m.in_marks m.one
-offer_by c me v i batch past point p bytes sender (NewView new) whole h say = go say.1
+offer_by c me v i batch past point p bytes sender (NewView new) whole h allowed = go allowed.1
   where
     go : (taken c past (Sent p bytes) ≡ Some new) ⊎ ((is_active_in c past new.view ≡ true) × SentBefore bytes past) → IsOffer c me v i batch past (Sent p bytes)
     go (inl t) = begun new t h
     go (inr t) = again (same_bytes v i batch bytes whole past t.1)
-offer_by c me v i batch past point p bytes sender _ whole h say = absurd cc
+offer_by c me v i batch past point p bytes sender _ whole h allowed = absurd cc
 
 is_offer : (c : Configuration) (me v i : ℕ) (batch : List ℕ) (past : List Entry) (e : Entry) → RightAt c me past e → offer_in v i e ≡ Some batch → IsOffer c me v i batch past e
 is_offer c me v i batch past (Sent p bytes) r h =
     let t = and_then_some (offer_from v i) (said bytes) batch h in
     let m = r.may in
     let is : m.body ≡ t.0 = some_injective m.body t.0 (sym m.says ∙ t.1) in
-    let say : MaySay c me past r.point (Sent p bytes) bytes t.0.message = subst (λ (x : Body). MaySay c me past r.point (Sent p bytes) bytes x.message) is m.say in
-    offer_by c me v i batch past r.point p bytes t.0.sender t.0.message h t.2 say
+    let allowed : MaySendMessage c me past r.point (Sent p bytes) bytes t.0.message = subst (λ (x : Body). MaySendMessage c me past r.point (Sent p bytes) bytes x.message) is m.allowed in
+    offer_by c me v i batch past r.point p bytes t.0.sender t.0.message h t.2 allowed
 is_offer c me v i batch past (Invoke x y z) r h = absurd cc
 is_offer c me v i batch past _ r h = absurd cc
 
@@ -162,15 +162,15 @@ begun_view : (c : Configuration) (me v i : ℕ) (batch : List ℕ) (past : List 
 begun_view c me v i batch past e new t b = (takes c me past e new t).view_is ∙ (proposes c v i new batch b).view_is
 
 sent_view : (c : Configuration) (me v i : ℕ) (past : List Entry) (point : Point) (e : Entry) (bytes batch : List ℕ) (sender : ℕ) (message : Message)
-    → batch_from c me v i (record { sender = sender; message = message }) ≡ Some batch → MaySay c me past point e bytes message
+    → batch_from c me v i (record { sender = sender; message = message }) ≡ Some batch → MaySendMessage c me past point e bytes message
     → (view c past ≡ v) × (is_in_marks c (low c me past) i ≡ true)
-sent_view c me v i past point e bytes batch sender (PrePrepare view number b) h say =
+sent_view c me v i past point e bytes batch sender (PrePrepare view number b) h allowed =
     let g = then_some_gives ((view == v) && (number == i) && (sender == primary c v) && are_genuine c me b) b batch h in
     let o = and_parts ((view == v) && (number == i) && (sender == primary c v)) (are_genuine c me b) g.0 in
     let q = and_parts ((view == v) && (number == i)) (sender == primary c v) o.0 in
     let p = and_parts (view == v) (number == i) q.0 in
-    (active_view c past view say.active ∙ eqb-true view v p.0, subst (λ (x : ℕ). is_in_marks c (low c me past) x ≡ true) (eqb-true number i p.1) say.in_marks)
-sent_view c me v i past point e bytes batch sender _ h say = absurd cc
+    (active_view c past view allowed.active ∙ eqb-true view v p.0, subst (λ (x : ℕ). is_in_marks c (low c me past) x ≡ true) (eqb-true number i p.1) allowed.in_marks)
+sent_view c me v i past point e bytes batch sender _ h allowed = absurd cc
 
 -- a batch that a pre-prepare logs is of the replica's view, and within the marks
 pub entry_within : (c : Configuration) (me v i : ℕ) (batch : List ℕ) (past : List Entry) (e : Entry) → RightAt c me past e
@@ -183,8 +183,8 @@ entry_within c me v i batch past (Sent p bytes) r h =
     let t = (entry_batch c me v i batch past (Sent p bytes) h).1 in
     let m = r.may in
     let is : m.body ≡ t.0 = some_injective m.body t.0 (sym m.says ∙ t.1) in
-    let say : MaySay c me past r.point (Sent p bytes) bytes t.0.message = subst (λ (x : Body). MaySay c me past r.point (Sent p bytes) bytes x.message) is m.say in
-    sent_view c me v i past r.point (Sent p bytes) bytes batch t.0.sender t.0.message t.2 say
+    let allowed : MaySendMessage c me past r.point (Sent p bytes) bytes t.0.message = subst (λ (x : Body). MaySendMessage c me past r.point (Sent p bytes) bytes x.message) is m.allowed in
+    sent_view c me v i past r.point (Sent p bytes) bytes batch t.0.sender t.0.message t.2 allowed
 entry_within c me v i batch past (Invoke x y z) r h = absurd cc
 entry_within c me v i batch past _ r h = absurd cc
 

@@ -4,7 +4,7 @@ use Rattle.std.specs.Prelude.{◌==◌, ⊤}
 use Rattle.protocol.specs.System.Configuration.{Configuration, is_correct, is_correct_replica, members}
 use Rattle.wire_format.specs.Messages.{BodyData as Body, MessageData as Message, NewViewData, ViewChangeData, view_change as ViewChange, new_view as NewView}
 use Rattle.wire_format.specs.Words.{carried, requests_of_all, said}
-use Rattle.signing.specs.Heard.{heard, signed_body}
+use Rattle.signing.specs.AuthenticBody.{authentic, signed_body}
 use Rattle.protocol.specs.System.Trace.{Entry, party_of, history_of, Once, Always, SendsBody, IsFromSender, IsUnforgedAt, Unforged, frames_in, carried_by, Has}
 use Rattle.protocol.specs.System.Trace.Entry.{Invoke, Got, Sent}
 use Rattle.protocol.specs.Replica.Certificates.{new_view_in, new_view_from, taken}
@@ -102,7 +102,7 @@ taken_seen c new bytes h past e t = go e (takes c 0 past e new t).brought
   where
     go : (e : Entry) → new_view_in c e ≡ Some new → HasSeen bytes past e
     go (Got p whole) b =
-        let r = and_then_some (new_view_from c) (heard (members c) p whole) new b in
+        let r = and_then_some (new_view_from c) (authentic (members c) p whole) new b in
         let is : said whole ≡ Some r.0 = heard_said c p whole r.0 r.1 in
         inr (begin_seen new bytes whole r.0 is (begins c r.0 new r.2).message_is h)
     go (Sent p whole) b =

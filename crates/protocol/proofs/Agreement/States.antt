@@ -9,12 +9,12 @@ use Rattle.protocol.specs.System.Configuration.{Configuration, IsConfiguration, 
 use Rattle.wire_format.specs.Messages.{BodyData as Body, MessageData as Message, CheckpointEntryData as CheckpointEntry, NewViewData, ViewChangeData, checkpoint as Checkpoint, page as Page}
 use Rattle.protocol.specs.System.Trace.{Entry, party_of, history_of, Once, Always, Unforged, IsUnforgedAt, Has}
 use Rattle.protocol.specs.System.Trace.Entry.{Invoke, Got, Tick, Executed, Installed, Sent, Accepted}
-use Rattle.protocol.specs.Replica.Certificates.{checkpoint_from, checkpoint_in, insert_checkpoint, with_checkpoint, checkpoints_of, says_checkpoint, count_checkpoints, brought}
+use Rattle.protocol.specs.Replica.Certificates.{checkpoint_from, checkpoint_in, insert_checkpoint, with_checkpoint, checkpoints_of, lists_checkpoint, count_checkpoints, brought}
 use Rattle.protocol.specs.Replica.Selection.{is_quorum, changes_of, passes_by, count_in, may_select}
 use Rattle.std.specs.List.{list_any}
 use Rattle.protocol.specs.Replica.State.{State, IsReplicatedState, opening, execute, after_batches, page_text, root_of}
 use Rattle.protocol.specs.Replica.Transfers.{in_place}
-use Rattle.protocol.specs.Replica.RightReplica.{Point, first_point, HistoryReaches, SafeReplica, May, MaySay, MayCheckpoint, MayInstall, MovesPoint, GetsPage, StartsAt, kept_states, checkpoint_of, waiting_after, HadQuorum, executed_point}
+use Rattle.protocol.specs.Replica.RightReplica.{Point, first_point, HistoryReaches, SafeReplica, May, MaySendMessage, MayCheckpoint, MayInstall, MovesPoint, GetsPage, StartsAt, kept_states, checkpoint_of, waiting_after, HadQuorum, executed_point}
 use Rattle.protocol.specs.System.Texts.{NoCollision, IsText, IsUnder, InstallsOver, EntryHasPart, AreFirstBatches}
 use Rattle.protocol.specs.System.Texts.IsText.{part, page_of, under, installed}
 use Rattle.protocol.specs.Space.Linear.{reached}
@@ -61,20 +61,20 @@ executed_append c trace first (x ∷ batches) batch k is a h =
 abbrev pub checking : ℕ → ℕ → List ℕ → Body
 checking s k root = record { sender = s; message = Checkpoint k root }
 
-pub has_take : (checkpoint : CheckpointEntry) (n : ℕ) (checkpoints : List CheckpointEntry) → says_checkpoint checkpoint (take n checkpoints) ≡ true → says_checkpoint checkpoint checkpoints ≡ true
+pub has_take : (checkpoint : CheckpointEntry) (n : ℕ) (checkpoints : List CheckpointEntry) → lists_checkpoint checkpoint (take n checkpoints) ≡ true → lists_checkpoint checkpoint checkpoints ≡ true
 has_take checkpoint zero [] h = h
 has_take checkpoint zero (m ∷ checkpoints) h = absurd cc
 has_take checkpoint (suc n) [] h = h
 has_take checkpoint (suc n) (m ∷ checkpoints) h = go ((m.number == checkpoint.number) && bytes_eq m.digest checkpoint.digest) h (has_take checkpoint n checkpoints)
   where
-    go : (b : Bool) → (b || says_checkpoint checkpoint (take n checkpoints)) ≡ true → (says_checkpoint checkpoint (take n checkpoints) ≡ true → says_checkpoint checkpoint checkpoints ≡ true) → (b || says_checkpoint checkpoint checkpoints) ≡ true
+    go : (b : Bool) → (b || lists_checkpoint checkpoint (take n checkpoints)) ≡ true → (lists_checkpoint checkpoint (take n checkpoints) ≡ true → lists_checkpoint checkpoint checkpoints ≡ true) → (b || lists_checkpoint checkpoint checkpoints) ≡ true
     go true k below = refl
     go false k below = below k
 
 abbrev pub is_checkpoint : CheckpointEntry → CheckpointEntry → Bool
 is_checkpoint checkpoint m = (m.number == checkpoint.number) && bytes_eq m.digest checkpoint.digest
 
-pub has_insert : (checkpoint new : CheckpointEntry) (checkpoints : List CheckpointEntry) → says_checkpoint checkpoint (insert_checkpoint new checkpoints) ≡ true → (is_checkpoint checkpoint new ≡ true) ⊎ (says_checkpoint checkpoint checkpoints ≡ true)
+pub has_insert : (checkpoint new : CheckpointEntry) (checkpoints : List CheckpointEntry) → lists_checkpoint checkpoint (insert_checkpoint new checkpoints) ≡ true → (is_checkpoint checkpoint new ≡ true) ⊎ (lists_checkpoint checkpoint checkpoints ≡ true)
 has_insert checkpoint new [] h = go (is_checkpoint checkpoint new) h
   where
     go : (b : Bool) → (b || false) ≡ true → (b ≡ true) ⊎ (false ≡ true)
@@ -82,26 +82,26 @@ has_insert checkpoint new [] h = go (is_checkpoint checkpoint new) h
     go false k = inr k
 has_insert checkpoint new (m ∷ checkpoints) h = go (m.number == new.number) (nat_lt m.number new.number) h (has_insert checkpoint new checkpoints)
   where
-    keep : (x : Bool) → (x || says_checkpoint checkpoint (insert_checkpoint new checkpoints)) ≡ true → (says_checkpoint checkpoint (insert_checkpoint new checkpoints) ≡ true → (is_checkpoint checkpoint new ≡ true) ⊎ (says_checkpoint checkpoint checkpoints ≡ true))
-        → (is_checkpoint checkpoint new ≡ true) ⊎ ((x || says_checkpoint checkpoint checkpoints) ≡ true)
+    keep : (x : Bool) → (x || lists_checkpoint checkpoint (insert_checkpoint new checkpoints)) ≡ true → (lists_checkpoint checkpoint (insert_checkpoint new checkpoints) ≡ true → (is_checkpoint checkpoint new ≡ true) ⊎ (lists_checkpoint checkpoint checkpoints ≡ true))
+        → (is_checkpoint checkpoint new ≡ true) ⊎ ((x || lists_checkpoint checkpoint checkpoints) ≡ true)
     keep true k below = inr refl
     keep false k below = below k
 
-    go : (a b : Bool) → says_checkpoint checkpoint (cond a (m ∷ checkpoints) (cond b (new ∷ m ∷ checkpoints) (m ∷ insert_checkpoint new checkpoints))) ≡ true
-        → (says_checkpoint checkpoint (insert_checkpoint new checkpoints) ≡ true → (is_checkpoint checkpoint new ≡ true) ⊎ (says_checkpoint checkpoint checkpoints ≡ true))
-        → (is_checkpoint checkpoint new ≡ true) ⊎ (says_checkpoint checkpoint (m ∷ checkpoints) ≡ true)
+    go : (a b : Bool) → lists_checkpoint checkpoint (cond a (m ∷ checkpoints) (cond b (new ∷ m ∷ checkpoints) (m ∷ insert_checkpoint new checkpoints))) ≡ true
+        → (lists_checkpoint checkpoint (insert_checkpoint new checkpoints) ≡ true → (is_checkpoint checkpoint new ≡ true) ⊎ (lists_checkpoint checkpoint checkpoints ≡ true))
+        → (is_checkpoint checkpoint new ≡ true) ⊎ (lists_checkpoint checkpoint (m ∷ checkpoints) ≡ true)
     go true b k below = inr k
-    go false true k below = or_cases (is_checkpoint checkpoint new) (says_checkpoint checkpoint (m ∷ checkpoints)) k
+    go false true k below = or_cases (is_checkpoint checkpoint new) (lists_checkpoint checkpoint (m ∷ checkpoints)) k
     go false false k below = keep (is_checkpoint checkpoint m) k below
 
-checkpoints_source : (c : Configuration) (s : ℕ) (checkpoint : CheckpointEntry) (xs : List Entry) → says_checkpoint checkpoint (checkpoints_of c xs s) ≡ true
+checkpoints_source : (c : Configuration) (s : ℕ) (checkpoint : CheckpointEntry) (xs : List Entry) → lists_checkpoint checkpoint (checkpoints_of c xs s) ≡ true
     → Once (λ past e. (m : CheckpointEntry) × (checkpoint_in c e ≡ Some (s, m)) × (is_checkpoint checkpoint m ≡ true)) xs
 unfolding checkpoints_of
 checkpoints_source c s checkpoint [] h = absurd cc
 checkpoints_source c s checkpoint (e ∷ past) h = go (checkpoint_in c e) refl h (checkpoints_source c s checkpoint past)
   where
-    go : (o : Option (ℕ × CheckpointEntry)) → checkpoint_in c e ≡ o → says_checkpoint checkpoint (with_checkpoint s o (checkpoints_of c past s)) ≡ true
-        → (says_checkpoint checkpoint (checkpoints_of c past s) ≡ true → Once (λ past e. (m : CheckpointEntry) × (checkpoint_in c e ≡ Some (s, m)) × (is_checkpoint checkpoint m ≡ true)) past)
+    go : (o : Option (ℕ × CheckpointEntry)) → checkpoint_in c e ≡ o → lists_checkpoint checkpoint (with_checkpoint s o (checkpoints_of c past s)) ≡ true
+        → (lists_checkpoint checkpoint (checkpoints_of c past s) ≡ true → Once (λ past e. (m : CheckpointEntry) × (checkpoint_in c e ≡ Some (s, m)) × (is_checkpoint checkpoint m ≡ true)) past)
         → Once (λ past e. (m : CheckpointEntry) × (checkpoint_in c e ≡ Some (s, m)) × (is_checkpoint checkpoint m ≡ true)) (e ∷ past)
     go None is k below = inr (below k)
     go (Some x) is k below = from (x.0 == s) refl k
@@ -109,11 +109,11 @@ checkpoints_source c s checkpoint (e ∷ past) h = go (checkpoint_in c e) refl h
         here : x.0 ≡ s → checkpoint_in c e ≡ Some (s, x.1)
         here own = is ∙ ap (λ (t : ℕ). Some (let p : ℕ × CheckpointEntry = (t, x.1) in p)) own
 
-        pick : x.0 ≡ s → (is_checkpoint checkpoint x.1 ≡ true) ⊎ (says_checkpoint checkpoint (checkpoints_of c past s) ≡ true) → Once (λ past e. (m : CheckpointEntry) × (checkpoint_in c e ≡ Some (s, m)) × (is_checkpoint checkpoint m ≡ true)) (e ∷ past)
+        pick : x.0 ≡ s → (is_checkpoint checkpoint x.1 ≡ true) ⊎ (lists_checkpoint checkpoint (checkpoints_of c past s) ≡ true) → Once (λ past e. (m : CheckpointEntry) × (checkpoint_in c e ≡ Some (s, m)) × (is_checkpoint checkpoint m ≡ true)) (e ∷ past)
         pick own (inl y) = inl (x.1, here own, y)
         pick own (inr y) = inr (below y)
 
-        from : (b : Bool) → (x.0 == s) ≡ b → says_checkpoint checkpoint (cond b (take 3 (insert_checkpoint x.1 (checkpoints_of c past s))) (checkpoints_of c past s)) ≡ true
+        from : (b : Bool) → (x.0 == s) ≡ b → lists_checkpoint checkpoint (cond b (take 3 (insert_checkpoint x.1 (checkpoints_of c past s))) (checkpoints_of c past s)) ≡ true
             → Once (λ past e. (m : CheckpointEntry) × (checkpoint_in c e ≡ Some (s, m)) × (is_checkpoint checkpoint m ≡ true)) (e ∷ past)
         from true own k = pick (eqb-true x.0 s own) (has_insert checkpoint x.1 (checkpoints_of c past s) (has_take checkpoint 3 (insert_checkpoint x.1 (checkpoints_of c past s)) k))
         from false own k = inr (below k)
@@ -214,7 +214,7 @@ says_known : (c : Configuration) (trace : List Entry) (s k : ℕ) (root : List �
     → Speaks (checking s k root) past e → Known c trace k root
 says_known c trace s k root past (Sent p bytes) r good h =
     let is = some_injective r.may.body (checking s k root) (sym r.may.says ∙ h) in
-    let m : MayCheckpoint c past r.point k root = subst (λ (x : Body). MaySay c s past r.point (Sent p bytes) bytes x.message) is r.may.say in
+    let m : MayCheckpoint c past r.point k root = subst (λ (x : Body). MaySendMessage c s past r.point (Sent p bytes) bytes x.message) is r.may.allowed in
     known_snapshot c trace k root r.point (good r.point r.leaves) m.state
 says_known c trace s k root past (Invoke x y z) r good h = absurd h
 says_known c trace s k root past _ r good h = absurd h
@@ -286,10 +286,10 @@ module _ (c : Configuration) (setting : IsConfiguration c) (trace ys : List Entr
       one : (past : List Entry) (e : Entry) → is_quorum c (count_checkpoints c (e ∷ past) (record { number = k; digest = root })) ≡ true
           → (s : ℕ) × Once (λ past e. (m : CheckpointEntry) × (checkpoint_in c e ≡ Some (s, m)) × (is_checkpoint (record { number = k; digest = root }) m ≡ true)) (e ∷ past) × (is_correct_replica c s ≡ true)
       one past e q =
-          let enough : 2 * c.faults + 1 ≤ count_below (λ s. says_checkpoint (record { number = k; digest = root }) (checkpoints_of c (e ∷ past) s)) (3 * c.faults + 1) =
+          let enough : 2 * c.faults + 1 ≤ count_below (λ s. lists_checkpoint (record { number = k; digest = root }) (checkpoints_of c (e ∷ past) s)) (3 * c.faults + 1) =
           leb-true (2 * c.faults + 1) (count_checkpoints c (e ∷ past) (record { number = k; digest = root })) q in
-          let more : c.faults < count_below (λ s. says_checkpoint (record { number = k; digest = root }) (checkpoints_of c (e ∷ past) s)) (3 * c.faults + 1) = omega arith in
-          let s = correct_of c setting (λ s. says_checkpoint (record { number = k; digest = root }) (checkpoints_of c (e ∷ past) s)) more in
+          let more : c.faults < count_below (λ s. lists_checkpoint (record { number = k; digest = root }) (checkpoints_of c (e ∷ past) s)) (3 * c.faults + 1) = omega arith in
+          let s = correct_of c setting (λ s. lists_checkpoint (record { number = k; digest = root }) (checkpoints_of c (e ∷ past) s)) more in
           (s.0, checkpoints_source c s.0 (record { number = k; digest = root }) (e ∷ past) s.2, s.1)
 
   by_new_view : Once (StartsAt c k root) (history_of r ys) → Known c trace k root

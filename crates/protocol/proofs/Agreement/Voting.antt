@@ -5,11 +5,11 @@ use Rattle.std.proofs.lemmas.Bool.{and_parts}
 use Rattle.sha2.specs.Sha256.{sha256}
 use Rattle.protocol.specs.System.Configuration.{Configuration, is_correct, is_correct_replica, primary, members}
 use Rattle.wire_format.specs.Messages.{BodyData as Body, MessageData as Message, pre_prepare as PrePrepare, prepare as Prepare}
-use Rattle.signing.specs.Heard.{heard}
-use Rattle.protocol.specs.System.Trace.{Entry, party_of, history_of, Once, Always, Unforged, Hears}
+use Rattle.signing.specs.AuthenticBody.{authentic}
+use Rattle.protocol.specs.System.Trace.{Entry, party_of, history_of, Once, Always, Unforged, Receives}
 use Rattle.protocol.specs.System.Trace.Entry.{Invoke, Got, Sent}
 use Rattle.protocol.specs.Replica.Certificates.{proposal, logged, batch_from, are_genuine, prepare_from, vote_in, prepare_of, brought, counts_at}
-use Rattle.protocol.specs.Replica.RightReplica.{Point, HistoryReaches, May, MaySay, MayPrepare, SafeReplica}
+use Rattle.protocol.specs.Replica.RightReplica.{Point, HistoryReaches, May, MaySendMessage, MayPrepare, SafeReplica}
 use Rattle.protocol.specs.Laws.Histories.{AreReplicasSafe}
 use Rattle.protocol.proofs.Words.Temporal.{once_weaker, once_always, once_stays}
 use Rattle.protocol.proofs.Words.Options.{and_then_some, then_some_gives, given_stays, given_once, some_injective}
@@ -112,8 +112,8 @@ once_either P Q (e ∷ past) (inr h) = go (once_either P Q past h)
 pub correct_replica : (c : Configuration) (p : ℕ) → is_correct_replica c p ≡ true → is_correct c p ≡ true
 correct_replica c p h = rw h refl
 
-brings_either : (c : Configuration) (p : ℕ) (body : Body) (past : List Entry) (e : Entry) → party_of e ≡ p → Brings c body past e → Hears c p body past e ⊎ Speaks body past e
-brings_either c p body past (Got q bytes) own h = inl (subst (λ (x : ℕ). heard (members c) x bytes ≡ Some body) own h)
+brings_either : (c : Configuration) (p : ℕ) (body : Body) (past : List Entry) (e : Entry) → party_of e ≡ p → Brings c body past e → Receives c p body past e ⊎ Speaks body past e
+brings_either c p body past (Got q bytes) own h = inl (subst (λ (x : ℕ). authentic (members c) x bytes ≡ Some body) own h)
 brings_either c p body past (Sent q bytes) own h = inr h
 brings_either c p body past _ own h = absurd cc
 
@@ -121,16 +121,16 @@ brings_either c p body past _ own h = absurd cc
 pub brought_was_said : (c : Configuration) (trace : List Entry) (p : ℕ) (body : Body) → AreReplicasSafe c trace → Unforged c trace
     → is_correct_replica c p ≡ true → is_correct_replica c body.sender ≡ true
     → Once (Brings c body) (history_of p trace) → Once (Speaks body) (history_of body.sender trace)
-brought_was_said c trace p body right unforged correct from h = go (once_either (Hears c p body) (Speaks body) (history_of p trace) either)
+brought_was_said c trace p body right unforged correct from h = go (once_either (Receives c p body) (Speaks body) (history_of p trace) either)
   where
-    either : Once (λ past e. Hears c p body past e ⊎ Speaks body past e) (history_of p trace)
-    either = once_weaker (λ past e. RightAt c p past e × Brings c body past e × Always (RightAt c p) past) (λ past e. Hears c p body past e ⊎ Speaks body past e)
+    either : Once (λ past e. Receives c p body past e ⊎ Speaks body past e) (history_of p trace)
+    either = once_weaker (λ past e. RightAt c p past e × Brings c body past e × Always (RightAt c p) past) (λ past e. Receives c p body past e ⊎ Speaks body past e)
         (λ past e t. brings_either c p body past e t.0.own t.1) (history_of p trace) (once_right c p (Brings c body) (history_of p trace) (right p correct) h)
 
     own : Once (λ past e. body.sender ≡ p) (history_of p trace) → body.sender ≡ p
     own h = once_stays (λ past. body.sender ≡ p) (λ e past x. x) (history_of p trace) h
 
-    go : Once (Hears c p body) (history_of p trace) ⊎ Once (Speaks body) (history_of p trace) → Once (Speaks body) (history_of body.sender trace)
+    go : Once (Receives c p body) (history_of p trace) ⊎ Once (Speaks body) (history_of p trace) → Once (Speaks body) (history_of body.sender trace)
     go (inl h) = heard_was_said c trace p body unforged (correct_replica c p correct) (correct_replica c body.sender from) h
     go (inr h) =
         let is : body.sender ≡ p = own (once_weaker (λ past e. RightAt c p past e × Speaks body past e × Always (RightAt c p) past) (λ past e. body.sender ≡ p)
@@ -153,11 +153,11 @@ pub logs_stay : (c : Configuration) (me v i : ℕ) (digest : List ℕ) (e : Entr
 logs_stay c me v i digest e past h = record { batch = h.batch; is_logged = logged_stays c me v i h.batch e past h.is_logged; digest = h.digest }
 
 pub says_logged : (c : Configuration) (me v i : ℕ) (d : List ℕ) (past : List Entry) (e : Entry) → RightAt c me past e → Speaks (preparing me v i d) past e → Logs c me v i d past
-says_logged c me v i d past (Sent p bytes) r h = go r.may.body (some_injective r.may.body (preparing me v i d) (sym r.may.says ∙ h)) r.may.say
+says_logged c me v i d past (Sent p bytes) r h = go r.may.body (some_injective r.may.body (preparing me v i d) (sym r.may.says ∙ h)) r.may.allowed
   where
-    go : (body : Body) → body ≡ preparing me v i d → MaySay c me past r.point (Sent p bytes) bytes body.message → Logs c me v i d past
-    go body is say =
-        let m : MayPrepare c me past v i d = subst (λ (x : Body). MaySay c me past r.point (Sent p bytes) bytes x.message) is say in
+    go : (body : Body) → body ≡ preparing me v i d → MaySendMessage c me past r.point (Sent p bytes) bytes body.message → Logs c me v i d past
+    go body is allowed =
+        let m : MayPrepare c me past v i d = subst (λ (x : Body). MaySendMessage c me past r.point (Sent p bytes) bytes x.message) is allowed in
         record { batch = m.batch; is_logged = m.is_logged; digest = m.digest_is }
 says_logged c me v i d past _ r h = absurd h
 

@@ -10,15 +10,15 @@ use Rattle.protocol.specs.System.Configuration.{Configuration, is_replica, is_co
 use Rattle.terms.specs.declared.order.Mode.{Mode}
 use Rattle.terms.specs.declared.order.Mode.TheVariants as modes
 use Rattle.wire_format.specs.Messages.{BodyData as Body, MessageData as Message, reply as Reply}
-use Rattle.signing.specs.Heard.{heard}
-use Rattle.protocol.specs.System.Trace.{Entry, party_of, history_of, Once, Always, Hears}
+use Rattle.signing.specs.AuthenticBody.{authentic}
+use Rattle.protocol.specs.System.Trace.{Entry, party_of, history_of, Once, Always, Receives}
 use Rattle.protocol.specs.System.Trace.Entry.{Invoke, Got, Executed, Sent, Accepted}
 use Rattle.space.specs.Applying.{is_read_only, outcome}
 use Rattle.protocol.specs.Replica.State.{State, Ran, opening, tuples, kept_of, execute}
 use Rattle.reply_cache.specs.Replies.{Kept}
 use Rattle.reply_cache.proofs.Determining.{outcome_same}
-use Rattle.protocol.specs.Replica.RightReplica.{HistoryReaches, MaySay, MayReply}
-use Rattle.protocol.specs.Client.RightClient.{SafeClient, OpenCall, open_call, last_call, Vote, latest, is_alike, count_alike, newest_vote, MayAccept, vote_of}
+use Rattle.protocol.specs.Replica.RightReplica.{HistoryReaches, MaySendMessage, MayReply}
+use Rattle.protocol.specs.Client.RightClient.{SafeClient, OpenCall, open_call, last_call, Vote, latest, is_alike, count_alike, newest_vote, MayAccept, reply_vote}
 use Rattle.protocol.specs.Laws.Histories.{ExecutesBatch}
 use Rattle.protocol.specs.Space.Linear.{batch_of, first_position, is_level, Invokes, Accepts}
 use Rattle.std.specs.Bool.{then_some}
@@ -28,7 +28,7 @@ use Rattle.protocol.proofs.Words.Options.{some_injective, given_stays, then_some
 use Rattle.protocol.proofs.Words.Linking.{Speaks, heard_was_said}
 use Rattle.protocol.proofs.Agreement.Voting.{RightAt, once_right, correct_replica}
 use Rattle.protocol.proofs.Agreement.States.{GoodHere, GoodAll, states_agree, correct_of, once_append}
-use Rattle.protocol.proofs.Points.Reading.{own_entries, asking, correct_client, latest_heard, last_of, last_of-history, read_level_after, read_level_before}
+use Rattle.protocol.proofs.Points.Reading.{own_entries, asking, correct_client, latest_received, last_of, last_of-history, read_level_after, read_level_before}
 use Rattle.protocol.proofs.Points.Ordering.{ordered_level, replies_to}
 use Rattle.protocol.proofs.Points.Running.{Run, run_earlier, state_by, is_by, executed_greatest}
 use Rattle.protocol.proofs.Points.Ran.{place_before}
@@ -181,7 +181,7 @@ reply_may : (c : Configuration) (s p t : ℕ) (mode : Mode) (number : ℕ) (answ
     → (point : RightReplica.Point) × HistoryReaches c s past point × MayReply c s past point p t mode number answer
 reply_may c s p t mode number answer past (Sent q bytes) r h =
     let is = some_injective r.may.body (record { sender = s; message = Reply p t mode number answer }) (sym r.may.says ∙ h) in
-    (r.point, r.leaves, subst (λ (x : Body). MaySay c s past r.point (Sent q bytes) bytes x.message) is r.may.say)
+    (r.point, r.leaves, subst (λ (x : Body). MaySendMessage c s past r.point (Sent q bytes) bytes x.message) is r.may.allowed)
 reply_may c s p t mode number answer past (Invoke x y z) r h = absurd h
 reply_may c s p t mode number answer past _ r h = absurd h
 
@@ -218,9 +218,9 @@ pub read_replied : (c : Configuration) (trace : List Entry) (s p t number : ℕ)
     → Replied c trace s p t modes.ReadOnly number answer → IsSpaceAnswer c trace p t number answer
 read_replied c trace s p t number answer run correct client r =
     let m : MayReplyRead c s r.past r.point p t number answer = r.may in
-    let hears : Once (Hears c s (asking p t modes.ReadOnly m.op)) (history_of s trace) =
-    subst (λ (ys : List Entry). Once (Hears c s (asking p t modes.ReadOnly m.op)) ys) (sym r.is) (once_append (Hears c s (asking p t modes.ReadOnly m.op)) r.later (r.entry ∷ r.past) (inr m.heard)) in
-    let said' = heard_was_said c trace s (asking p t modes.ReadOnly m.op) run.runs.unforged (correct_replica c s correct) (correct_client c p client) hears in
+    let receives : Once (Receives c s (asking p t modes.ReadOnly m.op)) (history_of s trace) =
+    subst (λ (ys : List Entry). Once (Receives c s (asking p t modes.ReadOnly m.op)) ys) (sym r.is) (once_append (Receives c s (asking p t modes.ReadOnly m.op)) r.later (r.entry ∷ r.past) (inr m.authentic)) in
+    let said' = heard_was_said c trace s (asking p t modes.ReadOnly m.op) run.runs.unforged (correct_replica c s correct) (correct_client c p client) receives in
     let by = is_by c trace r.point.state run (r.good.0 r.point r.leaves).state in
     let state : r.point.state ≡ state_by c trace opening 1 number = by.is ∙ ap (state_by c trace opening 1) (sym m.number_is) in
     record {
@@ -293,16 +293,16 @@ ordered_replied c trace s p t number answer run correct client r = go r.may
         (is_client', time, text, number'))
         (kept_ran-opening c trace r.point.state.number h.0 h.1 there)
 
--- ---- answers that are heard are within the limits
+-- ---- answers that are received are within the limits
 
-pub heard_answer : (c : Configuration) (p s t : ℕ) (mode : Mode) (number : ℕ) (answer : Outcome) (xs : List Entry) → Once (Hears c p (record { sender = s; message = Reply p t mode number answer })) xs → IsOutcome answer
-heard_answer c p s t mode number answer xs h = once_stays (λ past. IsOutcome answer) (λ e past k. k) xs (once_weaker (Hears c p (record { sender = s; message = Reply p t mode number answer })) (λ past e. IsOutcome answer) step xs h)
+pub heard_answer : (c : Configuration) (p s t : ℕ) (mode : Mode) (number : ℕ) (answer : Outcome) (xs : List Entry) → Once (Receives c p (record { sender = s; message = Reply p t mode number answer })) xs → IsOutcome answer
+heard_answer c p s t mode number answer xs h = once_stays (λ past. IsOutcome answer) (λ e past k. k) xs (once_weaker (Receives c p (record { sender = s; message = Reply p t mode number answer })) (λ past e. IsOutcome answer) step xs h)
   where
-    step : (past : List Entry) (e : Entry) → Hears c p (record { sender = s; message = Reply p t mode number answer }) past e → IsOutcome answer
+    step : (past : List Entry) (e : Entry) → Receives c p (record { sender = s; message = Reply p t mode number answer }) past e → IsOutcome answer
     step past (Got q bytes) h = heard_fits c p bytes (record { sender = s; message = Reply p t mode number answer }) h
     step past _ h = absurd h
 
-vote_answer : (me t s : ℕ) (vote : Vote) (sender : ℕ) (message : Message) → vote_of me t s (record { sender = sender; message = message }) ≡ Some vote → FitsMessage message → IsOutcome vote.answer
+vote_answer : (me t s : ℕ) (vote : Vote) (sender : ℕ) (message : Message) → reply_vote me t s (record { sender = sender; message = message }) ≡ Some vote → FitsMessage message → IsOutcome vote.answer
 vote_answer me t s vote sender (Reply client timestamp mode number answer) h f =
     let g = then_some_gives ((sender == s) && (client == me) && (timestamp == t)) (record { mode = mode; number = number; answer = answer }) vote h in
     subst IsOutcome (ap (λ (v : Vote). v.answer) g.1) f
@@ -310,7 +310,7 @@ vote_answer me t s vote sender _ h f = absurd cc
 
 pub newest_answer : (c : Configuration) (me t : ℕ) (vote : Vote) (xs : List Entry) → newest_vote c me xs t ≡ Some vote → IsOutcome vote.answer
 newest_answer c me t vote (Got p bytes ∷ past) h =
-    let r = and_then_some (λ (body : Body). vote_of me t body.sender body) (heard (members c) me bytes) vote h in
+    let r = and_then_some (λ (body : Body). reply_vote me t body.sender body) (authentic (members c) me bytes) vote h in
     vote_answer me t r.0.sender vote r.0.sender r.0.message r.2 (heard_fits c me bytes r.0 r.1)
 newest_answer c me t vote _ h = absurd cc
 
@@ -331,8 +331,8 @@ voted c past p t a x =
     own : Always (λ past e. party_of e ≡ p) (history_of p past)
     own = own_entries c p (history_of p past) (x.run.runs.clients p x.client)
 
-    hears : (s : ℕ) (mode : Mode) (v : Vote) → latest c p (history_of p past) t mode s ≡ Some v → Once (Hears c p (record { sender = s; message = Reply p t mode v.number v.answer })) (history_of p past)
-    hears s mode v is = latest_heard c p t mode s v (history_of p past) own is
+    receives : (s : ℕ) (mode : Mode) (v : Vote) → latest c p (history_of p past) t mode s ≡ Some v → Once (Receives c p (record { sender = s; message = Reply p t mode v.number v.answer })) (history_of p past)
+    receives s mode v is = latest_received c p t mode s v (history_of p past) own is
 
     go : (s : ℕ) → is_correct_replica c s ≡ true → (mode : Mode) (o : Option Vote) → latest c p (history_of p past) t mode s ≡ o → is_alike x.vote o ≡ true
         → Once (Speaks (record { sender = s; message = Reply p t mode x.vote.number x.vote.answer })) (history_of s past)
@@ -341,8 +341,8 @@ voted c past p t a x =
         let q = and_parts (v.number == x.vote.number) (bytes_eq (outcome_spelling v.answer) (outcome_spelling x.vote.answer)) k in
         let n : v.number ≡ x.vote.number = eqb-true v.number x.vote.number q.0 in
         let m : v.answer ≡ x.vote.answer =
-        outcome_same v.answer x.vote.answer (heard_answer c p s t mode v.number v.answer (history_of p past) (hears s mode v is)) (newest_answer c p t x.vote (history_of p past) x.newest)
+        outcome_same v.answer x.vote.answer (heard_answer c p s t mode v.number v.answer (history_of p past) (receives s mode v is)) (newest_answer c p t x.vote (history_of p past) x.newest)
         ((bytes_eq-Decides (outcome_spelling v.answer) (outcome_spelling x.vote.answer)).0 q.1) in
-        let said' = heard_was_said c past p (record { sender = s; message = Reply p t mode v.number v.answer }) x.run.runs.unforged (correct_client c p x.client) (correct_replica c s correct) (hears s mode v is) in
+        let said' = heard_was_said c past p (record { sender = s; message = Reply p t mode v.number v.answer }) x.run.runs.unforged (correct_client c p x.client) (correct_replica c s correct) (receives s mode v is) in
         subst (λ (i : ℕ). Once (Speaks (record { sender = s; message = Reply p t mode i x.vote.answer })) (history_of s past)) n
         (subst (λ (b : Outcome). Once (Speaks (record { sender = s; message = Reply p t mode v.number b })) (history_of s past)) m said')

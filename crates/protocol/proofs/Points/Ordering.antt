@@ -13,7 +13,7 @@ use Rattle.protocol.specs.System.Trace.{Entry, history_of, Once, Always, Has}
 use Rattle.protocol.specs.System.Trace.Entry.{Invoke, Got, Tick, Executed, Installed, Sent, Accepted}
 use Rattle.protocol.specs.Replica.State.{State, Call, Ran, opening, runs, run_call, call_of, run_frame, execute, ran_by, ran_in, kept_by, kept_of}
 use Rattle.reply_cache.specs.Replies.{Kept}
-use Rattle.protocol.specs.Replica.RightReplica.{HistoryReaches, May, MovesPoint, MaySay, MayReply}
+use Rattle.protocol.specs.Replica.RightReplica.{HistoryReaches, May, MovesPoint, MaySendMessage, MayReply}
 use Rattle.protocol.specs.Client.RightClient.{Vote, latest, is_alike}
 use Rattle.protocol.specs.Space.Linear.{reached, is_level}
 use Rattle.protocol.proofs.Words.Temporal.{once_weaker, once_always, once_stays}
@@ -21,7 +21,7 @@ use Rattle.protocol.proofs.Words.Options.{some_injective}
 use Rattle.protocol.proofs.Words.Linking.{Speaks, heard_was_said}
 use Rattle.protocol.proofs.Agreement.Voting.{RightAt, once_right, correct_replica}
 use Rattle.protocol.proofs.Points.Levels.{reached_grows, reached_history, number_reached, level_after}
-use Rattle.protocol.proofs.Points.Reading.{Runs, correct_client, own_entries, latest_heard}
+use Rattle.protocol.proofs.Points.Reading.{Runs, correct_client, own_entries, latest_received}
 use Rattle.protocol.specs.Replica.State.{after_batches, ran_call}
 use Rattle.protocol.specs.Replica.RightReplica.{executed_point, waiting_after, reply_of}
 use Rattle.protocol.specs.System.Texts.{NoCollision}
@@ -135,7 +135,7 @@ says_ordered : (c : Configuration) (trace : List Entry) (s p t number : ℕ) (an
     → Speaks (ordering s p t number answer) past e → number ≤ reached past s
 says_ordered c trace s p t number answer past (Sent q bytes) r good h =
     let is = some_injective r.may.body (ordering s p t number answer) (sym r.may.says ∙ h) in
-    go (subst (λ (x : Body). MaySay c s past r.point (Sent q bytes) bytes x.message) is r.may.say)
+    go (subst (λ (x : Body). MaySendMessage c s past r.point (Sent q bytes) bytes x.message) is r.may.allowed)
   where
     at : r.point.state.number ≡ reached past s
     at = number_reached c s past r.point r.leaves
@@ -174,7 +174,7 @@ ordered_level c setting past runs apart p t client vote enough =
         go (Some v) is k =
             let q = and_parts (v.number == vote.number) (bytes_eq (outcome_spelling v.answer) (outcome_spelling vote.answer)) k in
             let n : v.number ≡ vote.number = eqb-true v.number vote.number q.0 in
-            let hears = latest_heard c p t modes.Ordered s v (history_of p past) (own_entries c p (history_of p past) (runs.clients p client)) is in
-            let said' = heard_was_said c past p (ordering s p t v.number v.answer) runs.unforged (correct_client c p client) (correct_replica c s correct) hears in
+            let receives = latest_received c p t modes.Ordered s v (history_of p past) (own_entries c p (history_of p past) (runs.clients p client)) is in
+            let said' = heard_was_said c past p (ordering s p t v.number v.answer) runs.unforged (correct_client c p client) (correct_replica c s correct) receives in
             let m = ordered_reached c setting s p t v.number v.answer past runs apart correct said' in
             omega arith

@@ -7,12 +7,12 @@ use Rattle.protocol.specs.System.Configuration.{Configuration, IsConfiguration, 
 use Rattle.terms.specs.declared.order.Mode.{Mode}
 use Rattle.terms.specs.declared.order.Mode.TheVariants as modes
 use Rattle.wire_format.specs.Messages.{BodyData as Body, MessageData as Message, request as Request, reply as Reply}
-use Rattle.signing.specs.Heard.{heard}
+use Rattle.signing.specs.AuthenticBody.{authentic}
 use Rattle.protocol.specs.System.Frames.{same_mode}
-use Rattle.protocol.specs.System.Trace.{Entry, party_of, history_of, Once, Always, Unforged, Hears}
+use Rattle.protocol.specs.System.Trace.{Entry, party_of, history_of, Once, Always, Unforged, Receives}
 use Rattle.protocol.specs.System.Trace.Entry.{Invoke, Got, Tick, Executed, Installed, Sent, Accepted}
-use Rattle.protocol.specs.Replica.RightReplica.{MaySay, MayReply}
-use Rattle.protocol.specs.Client.RightClient.{SafeClient, MayAsk, MayRequest, OpenCall, open_call, last_call, Vote, vote_of, later_vote, latest, is_alike}
+use Rattle.protocol.specs.Replica.RightReplica.{MaySendMessage, MayReply}
+use Rattle.protocol.specs.Client.RightClient.{SafeClient, MayAsk, MayRequest, OpenCall, open_call, last_call, Vote, reply_vote, later_vote, latest, is_alike}
 use Rattle.protocol.specs.Space.Linear.{reached, is_level}
 use Rattle.protocol.specs.Laws.Histories.{AreReplicasSafe}
 use Rattle.protocol.proofs.Words.Modes.{same_mode-true}
@@ -96,14 +96,14 @@ abbrev pub replying : ℕ → ℕ → ℕ → Mode → ℕ → Outcome → Body
 replying s p t mode number answer = record { sender = s; message = Reply p t mode number answer }
 
 pub ReadAt : Configuration → ℕ → ℕ → ℕ → ℕ → List Entry → Entry → Type 0
-ReadAt c s p t number past e = (reached past s ≡ number) × ((text : Operation) × Once (Hears c s (asking p t modes.ReadOnly text)) past)
+ReadAt c s p t number past e = (reached past s ≡ number) × ((text : Operation) × Once (Receives c s (asking p t modes.ReadOnly text)) past)
 
 says_read : (c : Configuration) (s p t number : ℕ) (answer : Outcome) (past : List Entry) (e : Entry) → RightAt c s past e → Speaks (replying s p t modes.ReadOnly number answer) past e → ReadAt c s p t number past e
 unfolding ReadAt
 says_read c s p t number answer past (Sent q bytes) r h =
     let is = some_injective r.may.body (replying s p t modes.ReadOnly number answer) (sym r.may.says ∙ h) in
-    let m : MayReply c s past r.point p t modes.ReadOnly number answer = subst (λ (x : Body). MaySay c s past r.point (Sent q bytes) bytes x.message) is r.may.say in
-    (sym (m.number_is ∙ number_reached c s past r.point r.leaves), (m.op, m.heard))
+    let m : MayReply c s past r.point p t modes.ReadOnly number answer = subst (λ (x : Body). MaySendMessage c s past r.point (Sent q bytes) bytes x.message) is r.may.allowed in
+    (sym (m.number_is ∙ number_reached c s past r.point r.leaves), (m.op, m.authentic))
 says_read c s p t number answer past (Invoke x y z) r h = absurd h
 says_read c s p t number answer past _ r h = absurd h
 
@@ -126,7 +126,7 @@ read_answered c s p t number answer xs runs correct client h =
     once_weaker (λ past e. Runs c past × ((party_of e ≡ s) × ReadAt c s p t number (history_of s past) e)) (Answered s p t number) step xs
     (once_runs c (λ past e. (party_of e ≡ s) × ReadAt c s p t number (history_of s past) e) xs runs (once_in_trace (ReadAt c s p t number) s xs reads))
   where
-    step : (past : List Entry) (e : Entry) → Runs c past × ((party_of e ≡ s) × ((reached (history_of s past) s ≡ number) × ((text : Operation) × Once (Hears c s (asking p t modes.ReadOnly text)) (history_of s past))))
+    step : (past : List Entry) (e : Entry) → Runs c past × ((party_of e ≡ s) × ((reached (history_of s past) s ≡ number) × ((text : Operation) × Once (Receives c s (asking p t modes.ReadOnly text)) (history_of s past))))
         → (reached past s ≡ number) × Once (InvokesAt p t) past
     step past e u =
         let said' = heard_was_said c past s (asking p t modes.ReadOnly u.1.1.1.0) u.0.unforged (correct_replica c s correct) (correct_client c p client) u.1.1.1.1 in
@@ -137,7 +137,7 @@ read_answered c s p t number answer xs runs correct client h =
 
 -- ---- the votes of a client
 
-vote_body : (me t s : ℕ) (vote : Vote) (sender : ℕ) (message : Message) → vote_of me t s (record { sender = sender; message = message }) ≡ Some vote
+vote_body : (me t s : ℕ) (vote : Vote) (sender : ℕ) (message : Message) → reply_vote me t s (record { sender = sender; message = message }) ≡ Some vote
     → ◌≡◌ {A = Body} (record { sender = sender; message = message }) (replying s me t vote.mode vote.number vote.answer)
 vote_body me t s vote sender (Reply client timestamp mode number answer) h =
     let g = then_some_gives ((sender == s) && (client == me) && (timestamp == t)) (record { mode = mode; number = number; answer = answer }) vote h in
@@ -152,26 +152,26 @@ vote_body me t s vote sender (Reply client timestamp mode number answer) h =
     rw (es, ec, et, er, en, ea) refl
 vote_body me t s vote sender _ h = absurd cc
 
-pub latest_heard : (c : Configuration) (me t : ℕ) (mode : Mode) (s : ℕ) (vote : Vote) (xs : List Entry) → Always (λ past e. party_of e ≡ me) xs → latest c me xs t mode s ≡ Some vote
-    → Once (Hears c me (replying s me t mode vote.number vote.answer)) xs
+pub latest_received : (c : Configuration) (me t : ℕ) (mode : Mode) (s : ℕ) (vote : Vote) (xs : List Entry) → Always (λ past e. party_of e ≡ me) xs → latest c me xs t mode s ≡ Some vote
+    → Once (Receives c me (replying s me t mode vote.number vote.answer)) xs
 unfolding latest
-latest_heard c me t mode s vote [] own h = absurd cc
-latest_heard c me t mode s vote (Invoke x y z ∷ past) own h = absurd cc
-latest_heard c me t mode s vote (Got p bytes ∷ past) own h = go (option_and_then (vote_of me t s) (heard (members c) me bytes)) refl h (latest_heard c me t mode s vote past own.1)
+latest_received c me t mode s vote [] own h = absurd cc
+latest_received c me t mode s vote (Invoke x y z ∷ past) own h = absurd cc
+latest_received c me t mode s vote (Got p bytes ∷ past) own h = go (option_and_then (reply_vote me t s) (authentic (members c) me bytes)) refl h (latest_received c me t mode s vote past own.1)
   where
-    go : (o : Option Vote) → option_and_then (vote_of me t s) (heard (members c) me bytes) ≡ o → later_vote mode o (latest c me past t mode s) ≡ Some vote
-        → (latest c me past t mode s ≡ Some vote → Once (Hears c me (replying s me t mode vote.number vote.answer)) past) → Once (Hears c me (replying s me t mode vote.number vote.answer)) (Got p bytes ∷ past)
+    go : (o : Option Vote) → option_and_then (reply_vote me t s) (authentic (members c) me bytes) ≡ o → later_vote mode o (latest c me past t mode s) ≡ Some vote
+        → (latest c me past t mode s ≡ Some vote → Once (Receives c me (replying s me t mode vote.number vote.answer)) past) → Once (Receives c me (replying s me t mode vote.number vote.answer)) (Got p bytes ∷ past)
     go None is k below = inr (below k)
     go (Some v) is k below = test (same_mode v.mode mode) refl k
       where
-        test : (b : Bool) → same_mode v.mode mode ≡ b → cond b (Some v) (latest c me past t mode s) ≡ Some vote → Once (Hears c me (replying s me t mode vote.number vote.answer)) (Got p bytes ∷ past)
+        test : (b : Bool) → same_mode v.mode mode ≡ b → cond b (Some v) (latest c me past t mode s) ≡ Some vote → Once (Receives c me (replying s me t mode vote.number vote.answer)) (Got p bytes ∷ past)
         test false e k = inr (below k)
         test true e k =
             let same : v ≡ vote = some_injective v vote k in
-            let r = and_then_some (vote_of me t s) (heard (members c) me bytes) v is in
+            let r = and_then_some (reply_vote me t s) (authentic (members c) me bytes) v is in
             let body = vote_body me t s v r.0.sender r.0.message r.2 in
             inl (r.1 ∙ ap Some body ∙ ap (λ (m : Mode). Some (replying s me t m v.number v.answer)) (same_mode-true v.mode mode e) ∙ ap (λ (x : Vote). Some (replying s me t mode x.number x.answer)) same)
-latest_heard c me t mode s vote (_ ∷ past) own h = inr (latest_heard c me t mode s vote past own.1 h)
+latest_received c me t mode s vote (_ ∷ past) own h = inr (latest_received c me t mode s vote past own.1 h)
 
 -- ---- the latest invocation
 
@@ -302,8 +302,8 @@ module _ (c : Configuration) (setting : IsConfiguration c) (past : List Entry) (
       go (Some v) is k =
           let q = and_parts (v.number == vote.number) (bytes_eq (outcome_spelling v.answer) (outcome_spelling vote.answer)) k in
           let n : v.number ≡ vote.number = eqb-true v.number vote.number q.0 in
-          let hears = latest_heard c p t modes.ReadOnly s v (history_of p past) (own_entries c p (history_of p past) (runs.clients p client)) is in
-          let said' = heard_was_said c past p (replying s p t modes.ReadOnly v.number v.answer) runs.unforged (correct_client c p client) (correct_replica c s correct) hears in
+          let receives = latest_received c p t modes.ReadOnly s v (history_of p past) (own_entries c p (history_of p past) (runs.clients p client)) is in
+          let said' = heard_was_said c past p (replying s p t modes.ReadOnly v.number v.answer) runs.unforged (correct_client c p client) (correct_replica c s correct) receives in
           subst (λ (x : ℕ). Once (Answered s p t x) past) n (read_answered c s p t v.number v.answer past runs correct client said')
 
   -- the level at the acceptance is at least the number

@@ -13,7 +13,7 @@ use Rattle.wire_format.specs.Reading.{passing, more_at, anyhow, piece_at, is_req
 use Rattle.wire_format.specs.Words.{requests_of, said}
 use Rattle.wire_format.proofs.Saying.{says_what_is_spelled}
 use Rattle.protocol.specs.System.Configuration.{Configuration, members}
-use Rattle.signing.specs.Heard.{heard}
+use Rattle.signing.specs.AuthenticBody.{authentic}
 use Rattle.protocol.proofs.Words.Options.{some_injective}
 use Rattle.protocol.proofs.Words.Linking.{heard_said}
 use Rattle.wire_format.proofs.Forms.{passed_on}
@@ -36,7 +36,7 @@ said_fits bytes body h =
     let w = (says_what_is_spelled bytes body).0 h in
     subst (λ (b : Body). FitsMessage b.message) w.2 (message_fits w.0.body.message w.1.valid.message)
 
-pub heard_fits : (c : Configuration) (me : ℕ) (bytes : List ℕ) (body : Body) → heard (members c) me bytes ≡ Some body → FitsMessage body.message
+pub heard_fits : (c : Configuration) (me : ℕ) (bytes : List ℕ) (body : Body) → authentic (members c) me bytes ≡ Some body → FitsMessage body.message
 heard_fits c me bytes body h = said_fits bytes body (heard_said c me bytes body h)
 
 -- ---- batches

@@ -1,7 +1,7 @@
 -- Inputs that give a replica no reason to move to a view.
 use Rattle.std.proofs.Common.{◌≡◌, ℕ, inl, inr, List, ◌∷◌, Some, ap}
 use Rattle.wire_format.specs.Messages.{ViewChangeData, view_change as ViewChange}
-use Rattle.signing.specs.Heard.{heard}
+use Rattle.signing.specs.AuthenticBody.{authentic}
 use Rattle.protocol.specs.System.Configuration.{Configuration, members}
 use Rattle.protocol.specs.System.Trace.{Entry}
 use Rattle.protocol.specs.System.Trace.Entry.{Got, Tick}
@@ -15,9 +15,9 @@ pub no_time : (c : Configuration) (me p : ℕ) (before : List Entry) (bytes : Li
 no_time c me p before bytes waiting v t =
     absurd (let bad : Got p bytes ≡ Tick me = ap (λ (x : Entry × List Entry). x.0) (some_injective (Got p bytes, before) (Tick me, t.before) t.tick) in cc)
 
--- Bytes that are heard as no view change give no reason.
+-- Bytes that are received as no view change give no reason.
 pub no_reason : (c : Configuration) (me : ℕ) (before : List Entry) (bytes : List ℕ) (waiting : List Call) (v : ℕ)
-    → ((s : ℕ) (vc : ViewChangeData) → heard (members c) me bytes ≡ Some (record { sender = s; message = ViewChange vc }) → ⊥)
+    → ((s : ℕ) (vc : ViewChangeData) → authentic (members c) me bytes ≡ Some (record { sender = s; message = ViewChange vc }) → ⊥)
     → HasToMove c me before (Got me bytes) waiting v → ⊥
 no_reason c me before bytes waiting v none (inl t) = no_time c me me before bytes waiting v t
 no_reason c me before bytes waiting v none (inr (taken, joins)) = none taken.0 taken.1 taken.2

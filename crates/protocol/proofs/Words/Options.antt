@@ -35,16 +35,16 @@ and_then_some f (Some x) y e = (x, refl, e)
 
 -- ---- the first that is given
 
-pub given_stays : {A : Type 0} (give : List Entry → Entry → Option A) (x : A) (e : Entry) (past : List Entry)
-    → first_given give past ≡ Some x → first_given give (e ∷ past) ≡ Some x
-given_stays give x e past h = or_else_first (first_given give past) (give past e) x h
+pub given_stays : {A : Type 0} (emit : List Entry → Entry → Option A) (x : A) (e : Entry) (past : List Entry)
+    → first_given emit past ≡ Some x → first_given emit (e ∷ past) ≡ Some x
+given_stays emit x e past h = or_else_first (first_given emit past) (emit past e) x h
 
-pub given_once : {A : Type 0} (give : List Entry → Entry → Option A) (x : A) (xs : List Entry)
-    → first_given give xs ≡ Some x → Once (λ past e. give past e ≡ Some x) xs
-given_once give x [] h = absurd cc
-given_once give x (e ∷ past) h = go (or_else_cases (first_given give past) (give past e) x h) (given_once give x past)
+pub given_once : {A : Type 0} (emit : List Entry → Entry → Option A) (x : A) (xs : List Entry)
+    → first_given emit xs ≡ Some x → Once (λ past e. emit past e ≡ Some x) xs
+given_once emit x [] h = absurd cc
+given_once emit x (e ∷ past) h = go (or_else_cases (first_given emit past) (emit past e) x h) (given_once emit x past)
   where
-    go : (first_given give past ≡ Some x) ⊎ (give past e ≡ Some x) → (first_given give past ≡ Some x → Once (λ past e. give past e ≡ Some x) past)
-        → Once (λ past e. give past e ≡ Some x) (e ∷ past)
+    go : (first_given emit past ≡ Some x) ⊎ (emit past e ≡ Some x) → (first_given emit past ≡ Some x → Once (λ past e. emit past e ≡ Some x) past)
+        → Once (λ past e. emit past e ≡ Some x) (e ∷ past)
     go (inl h) below = inr (below h)
     go (inr h) below = inl h

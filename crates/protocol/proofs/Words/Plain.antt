@@ -6,7 +6,7 @@ use Rattle.std.specs.Prelude.{option_and_then, ⊤}
 use Rattle.std.specs.Bool.{then_some}
 use Rattle.protocol.specs.System.Configuration.{Configuration, members}
 use Rattle.wire_format.specs.Messages.{BodyData as Body, MessageData as Message, CheckpointEntryData as CheckpointEntry, NewViewData, request as Request, pre_prepare as PrePrepare, prepare as Prepare, commit as Commit, reply as Reply, fetch as Fetch, meta as Meta, page as Page, checkpoint as Checkpoint, view_change as ViewChange, new_view as NewView}
-use Rattle.signing.specs.Heard.{heard}
+use Rattle.signing.specs.AuthenticBody.{authentic}
 use Rattle.wire_format.specs.Words.{said}
 use Rattle.protocol.specs.System.Trace.{Entry}
 use Rattle.protocol.specs.System.Trace.Entry.{Got, Sent}
@@ -37,7 +37,7 @@ none_changes : (sender : ℕ) (message : Message) → IsPlain message → change
 none_changes sender (ViewChange change) h = absurd h
 none_changes sender _ h = refl
 
-pub heard_plain : (c : Configuration) (past : List Entry) (p : ℕ) (bytes : List ℕ) (body : Body) → heard (members c) p bytes ≡ Some body → IsPlain body.message → Plain c past (Got p bytes)
+pub heard_plain : (c : Configuration) (past : List Entry) (p : ℕ) (bytes : List ℕ) (body : Body) → authentic (members c) p bytes ≡ Some body → IsPlain body.message → Plain c past (Got p bytes)
 heard_plain c past p bytes body h o = record {
   view = ap (option_and_then (new_view_from c)) h ∙ none_begins c body.sender body.message o;
   change = refl;

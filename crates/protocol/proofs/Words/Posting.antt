@@ -1,4 +1,4 @@
--- Sealed and signed frames are posted, and may be sent if their message may be said. A leaf signs one frame.
+-- Sealed and signed frames are sent, and may be sent if their message may be said. A leaf signs one frame.
 use Rattle.std.proofs.Common.{◌≡◌, ℕ, inl, inr, Bool, true, false, List, [], ◌∷◌, Option, Some, None, ◌∙◌, refl, sym, ap, subst}
 use Rattle.std.specs.Prelude.{option_and_then}
 use Rattle.std.proofs.lemmas.List.Elements.{All-map}
@@ -6,23 +6,23 @@ use Rattle.wire_format.specs.Messages.{BodyData as Body, MessageData as Message,
 use Rattle.wire_format.specs.Spelling.{body_spelling, SpellsFrame, is_signed, authenticator_is_signed}
 use Rattle.authenticator.specs.Authentic.{mac_of}
 use Rattle.authenticator.specs.Sealing.{entry_for, sealed_for}
-use Rattle.signing.specs.Heard.{has_signature}
+use Rattle.signing.specs.AuthenticBody.{has_signature}
 use Rattle.protocol.specs.System.Configuration.{Configuration}
 use Rattle.wire_format.specs.Words.{receivers_of, frame_of, said}
-use Rattle.protocol.specs.System.Frames.{IsSealed, IsPosted, leaf_in, leaf_of}
+use Rattle.protocol.specs.System.Frames.{IsSealed, IsOutgoing, leaf_in, leaf_of}
 use Rattle.protocol.specs.System.Trace.{Entry}
 use Rattle.protocol.specs.System.Trace.Entry.{Invoke, Sent}
 use Rattle.protocol.specs.Replica.RightReplica.{Point, HistoryReaches, IsStep, MaySend, IsFor, IsAddressed, SendsBytes, SentBefore, HasOwnLeaf}
-use Rattle.protocol.specs.Laws.Histories.{PostedMaySend, LeavesSignOnce}
+use Rattle.protocol.specs.Laws.Histories.{OutgoingMaySend, LeavesSignOnce}
 use Rattle.protocol.proofs.Words.Options.{some_injective}
 use Rattle.wire_format.proofs.Saying.{reads_frames, reads_said}
 
--- ---- posted frames
+-- ---- sent frames
 
 -- a frame that the bytes spell, if it is sealed well
-pub frame_is_posted : (c : Configuration) (bytes : List ℕ) (frame : Frame) → SpellsFrame bytes frame → IsSealed c frame
-    → IsPosted c frame.body.sender frame.body.message (receivers_of frame.authenticator) bytes
-frame_is_posted c bytes frame spells well = record {
+pub frame_is_outgoing : (c : Configuration) (bytes : List ℕ) (frame : Frame) → SpellsFrame bytes frame → IsSealed c frame
+    → IsOutgoing c frame.body.sender frame.body.message (receivers_of frame.authenticator) bytes
+frame_is_outgoing c bytes frame spells well = record {
   says = reads_said bytes frame spells;
   is_sealed = λ other is.
       let same : frame ≡ other = some_injective frame other (sym ((reads_frames bytes frame).1 spells) ∙ is) in
@@ -37,16 +37,16 @@ sealed_receivers c body [] = refl
 sealed_receivers c body (p ∷ ps) = ap (λ (xs : List ℕ). p ∷ xs) (sealed_receivers c body ps)
 
 -- a frame that is sealed for these parties
-pub sealed_is_posted : (c : Configuration) (body : Body) (parties bytes : List ℕ) → SpellsFrame bytes (sealed_for c.seed body parties)
-    → IsPosted c body.sender body.message parties bytes
-sealed_is_posted c body parties bytes spells =
-    subst (λ (xs : List ℕ). IsPosted c body.sender body.message xs bytes) (sealed_receivers c body parties)
-    (frame_is_posted c bytes (sealed_for c.seed body parties) spells (sealed_well c body parties))
+pub sealed_is_outgoing : (c : Configuration) (body : Body) (parties bytes : List ℕ) → SpellsFrame bytes (sealed_for c.seed body parties)
+    → IsOutgoing c body.sender body.message parties bytes
+sealed_is_outgoing c body parties bytes spells =
+    subst (λ (xs : List ℕ). IsOutgoing c body.sender body.message xs bytes) (sealed_receivers c body parties)
+    (frame_is_outgoing c bytes (sealed_for c.seed body parties) spells (sealed_well c body parties))
 
 -- a frame that is signed
-pub signed_is_posted : (c : Configuration) (body : Body) (text bytes : List ℕ) → SpellsFrame bytes (record { body = body; authenticator = signature text })
-    → has_signature c.seed (record { body = body; authenticator = signature text }) ≡ true → IsPosted c body.sender body.message [] bytes
-signed_is_posted c body text bytes spells signed = frame_is_posted c bytes (record { body = body; authenticator = signature text }) spells signed
+pub signed_is_outgoing : (c : Configuration) (body : Body) (text bytes : List ℕ) → SpellsFrame bytes (record { body = body; authenticator = signature text })
+    → has_signature c.seed (record { body = body; authenticator = signature text }) ≡ true → IsOutgoing c body.sender body.message [] bytes
+signed_is_outgoing c body text bytes spells signed = frame_is_outgoing c bytes (record { body = body; authenticator = signature text }) spells signed
 
 -- ---- frames without a leaf
 
@@ -79,20 +79,20 @@ unsigned_no_leaf bytes body says unsigned = go (frame_of bytes) refl
 pub unsigned_have_no_leaf : (past : List Entry) (bytes : List ℕ) (body : Body) → said bytes ≡ Some body → is_signed body.message ≡ false → HasOwnLeaf bytes past
 unsigned_have_no_leaf past bytes body says unsigned = none_by past bytes (unsigned_no_leaf bytes body says unsigned)
 
--- ---- posted frames may be sent
+-- ---- sent frames may be sent
 
 addressed : (c : Configuration) (me : ℕ) (past : List Entry) (message : Message) (authenticator : Authenticator) (receivers : List ℕ) → receivers_of authenticator ≡ receivers → IsFor c me past message receivers
     → IsAddressed c me past message authenticator
 addressed c me past message (macs entries) receivers is for = subst (IsFor c me past message) (sym is) for
 addressed c me past message (signature s) receivers is for = tt
 
-pub may_send : PostedMaySend
-may_send c me past point e bytes receivers message posted for seen say leaf once = record {
+pub may_send : OutgoingMaySend
+may_send c me past point e bytes receivers message posted for seen allowed leaf once = record {
   body = record { sender = me; message = message };
   says = posted.says;
   own = refl;
   seen = seen;
-  say = say;
+  allowed = allowed;
   is_sealed = λ frame is. let sealed = posted.is_sealed frame is in (sealed.0, addressed c me past message frame.authenticator receivers sealed.1 for);
   leaf = own (is_signed message) refl;
   once = once;

@@ -57,7 +57,7 @@ past_is c w v _ _ (flushed i p g) = past_is c _ _ _ _ g
 pub past_of : (c : Configuration) (v : World) (steps : List Step) (trace : List Entry) → StepsLead c new_world steps (reverse trace) v → v.past ≡ trace
 past_of c v steps trace g = past_is c new_world v steps (reverse trace) g ∙ reverse-reverse trace
 
--- ---- what is sent may be delivered
+-- ---- a sent frame may be delivered
 
 -- each frame that was sent was made
 made_there : (c : Configuration) (w : World) (e : Entry) → length (filter is_sent w.past) ≤ length w.frames → length (filter is_sent (e ∷ w.past)) ≤ length (w.frames ++ made_by c e)

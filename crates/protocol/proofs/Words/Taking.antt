@@ -8,7 +8,7 @@ use Rattle.quorum.specs.Votes.{or_else}
 use Rattle.partition_tree.specs.Digests.{inner_digests, page_digests}
 use Rattle.protocol.specs.System.Configuration.{Configuration, members}
 use Rattle.wire_format.specs.Messages.{BodyData as Body, MessageData as Message, page as Page}
-use Rattle.signing.specs.Heard.{heard}
+use Rattle.signing.specs.AuthenticBody.{authentic}
 use Rattle.protocol.specs.System.Trace.{Entry, Once}
 use Rattle.protocol.specs.System.Trace.Entry.{Invoke, Got, Tick, Executed, Installed, Sent, Accepted}
 use Rattle.protocol.specs.Replica.State.{State, page_text, all_pages}
@@ -30,10 +30,10 @@ given_page past k i sender (Page number index t) text h =
 given_page past k i sender _ text h = absurd cc
 
 answered : (c : Configuration) (me i : ℕ) (next : Option ℕ) (past : List Entry) (text bytes : List ℕ) → answer c me next past i bytes ≡ Some text
-    → (sender number : ℕ) × (heard (members c) me bytes ≡ Some (record { sender = sender; message = Page number i text }))
+    → (sender number : ℕ) × (authentic (members c) me bytes ≡ Some (record { sender = sender; message = Page number i text }))
 answered c me i None past text bytes h = absurd cc
 answered c me i (Some k) past text bytes h =
-    let a = and_then_some (text_given past k i) (heard (members c) me bytes) text h in
+    let a = and_then_some (text_given past k i) (authentic (members c) me bytes) text h in
     let g = given_page past k i a.0.sender a.0.message text a.2 in
     (a.0.sender, g.0, a.1 ∙ ap (λ (m : Message). let body : Body = record { sender = a.0.sender; message = m } in Some body) g.1)
 

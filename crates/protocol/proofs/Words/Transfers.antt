@@ -8,7 +8,7 @@ use Rattle.std.proofs.lemmas.Bool.{and_parts, le-leb, leb-true, false_from_ne_tr
 use Rattle.terms.specs.declared.state.Level.{Level}
 use Rattle.terms.specs.declared.state.Level.TheVariants as levels
 use Rattle.wire_format.specs.Messages.{BodyData as Body, MessageData as Message, page as Page}
-use Rattle.signing.specs.Heard.{heard}
+use Rattle.signing.specs.AuthenticBody.{authentic}
 use Rattle.protocol.specs.System.Configuration.{Configuration, members}
 use Rattle.protocol.specs.System.Trace.{Entry, Once}
 use Rattle.protocol.specs.System.Trace.Entry.{Invoke, Got, Tick, Executed, Installed, Sent, Accepted}
@@ -41,7 +41,7 @@ was_asked past k i h = go (asked_last past) h
         let ei : index ≡ i = eqb-true index i q.1 in
         rw (en, el, ei) refl
 
--- what is given answers what was asked for
+-- a given part answers the fetch for it
 record Gives (past : List Entry) (k i : ℕ) (text : List ℕ) (message : Message) : Type 0 where
   pub is : message ≡ Page k i text
   pub asked : asked_last past ≡ Some (k, (levels.Page, i))
@@ -60,12 +60,12 @@ gives past k i sender _ text h = absurd cc
 -- bytes that answer say so
 record Answers (c : Configuration) (me k i : ℕ) (past : List Entry) (bytes text : List ℕ) : Type 0 where
   pub sender : ℕ
-  pub says : heard (members c) me bytes ≡ Some (record { sender = sender; message = Page k i text })
+  pub says : authentic (members c) me bytes ≡ Some (record { sender = sender; message = Page k i text })
   pub asked : asked_last past ≡ Some (k, (levels.Page, i))
 
 answers : (c : Configuration) (me k i : ℕ) (past : List Entry) (bytes text : List ℕ) → answer c me (Some k) past i bytes ≡ Some text → Answers c me k i past bytes text
 answers c me k i past bytes text h =
-    let a = and_then_some (text_given past k i) (heard (members c) me bytes) text h in
+    let a = and_then_some (text_given past k i) (authentic (members c) me bytes) text h in
     let g = gives past k i a.0.sender a.0.message text a.2 in
     record {
       sender = a.0.sender;

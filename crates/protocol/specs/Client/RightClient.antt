@@ -13,9 +13,9 @@ use Rattle.protocol.specs.System.Configuration.{Configuration, replicas, members
 use Rattle.terms.specs.declared.order.Mode.{Mode}
 use Rattle.terms.specs.declared.order.Mode.TheVariants as modes
 use Rattle.wire_format.specs.Messages.{BodyData as Body, MessageData as Message, request as Request, reply as Reply}
-use Rattle.signing.specs.Heard.{heard}
+use Rattle.signing.specs.AuthenticBody.{authentic}
 use Rattle.wire_format.specs.Words.{said}
-use Rattle.protocol.specs.System.Frames.{same_mode, IsPosted}
+use Rattle.protocol.specs.System.Frames.{same_mode, IsOutgoing}
 use Rattle.protocol.specs.System.Trace.{Entry, party_of, is_output, Always, either}
 use Rattle.protocol.specs.System.Trace.Entry.{Invoke, Got, Tick, Sent, Accepted}
 use Rattle.protocol.specs.Replica.Selection.{is_quorum}
@@ -49,8 +49,8 @@ pub record Vote : Type 0 where
   pub answer : Outcome
 
 -- the vote in a body, if it is replica s's reply to the client's call of this timestamp
-abbrev pub vote_of : ℕ → ℕ → ℕ → Body → Option Vote
-vote_of me timestamp s body = elim body.message [
+abbrev pub reply_vote : ℕ → ℕ → ℕ → Body → Option Vote
+reply_vote me timestamp s body = elim body.message [
   | Reply client t mode number answer ↦ then_some ((body.sender == s) && (client == me) && (t == timestamp))
       (record { mode = mode; number = number; answer = answer })
   | _ ↦ None
@@ -66,7 +66,7 @@ unfoldable pub latest : Configuration → ℕ → List Entry → ℕ → Mode �
 latest c me [] timestamp mode s = None
 latest c me (Invoke client t op ∷ past) timestamp mode s = None
 latest c me (Got p bytes ∷ past) timestamp mode s =
-    later_vote mode (option_and_then (vote_of me timestamp s) (heard (members c) me bytes))
+    later_vote mode (option_and_then (reply_vote me timestamp s) (authentic (members c) me bytes))
     (latest c me past timestamp mode s)
 latest c me (_ ∷ past) timestamp mode s = latest c me past timestamp mode s
 
@@ -90,7 +90,7 @@ abbrev pub newest_vote : Configuration → ℕ → List Entry → ℕ → Option
 newest_vote c me past timestamp = elim past [
   | [] ↦ None
   | e ∷ earlier ↦ (elim e [
-    | Got p bytes ↦ option_and_then (λ body. vote_of me timestamp body.sender body) (heard (members c) me bytes)
+    | Got p bytes ↦ option_and_then (λ body. reply_vote me timestamp body.sender body) (authentic (members c) me bytes)
     | _ ↦ None
   ])
 ]
@@ -157,7 +157,7 @@ reaction c me (_ ∷ past) = nothing
 -- the bytes are a request of the call, sealed for all replicas
 abbrev pub IsRequest : Configuration → ℕ → Mode → OpenCall → List ℕ → Type 0
 IsRequest c me mode call bytes =
-    IsPosted c me (Request call.timestamp mode call.op) (range_with_len 0 (replicas c)) bytes
+    IsOutgoing c me (Request call.timestamp mode call.op) (range_with_len 0 (replicas c)) bytes
 
 -- the outputs of an event, the oldest first, are those of the reaction
 abbrev pub IsReaction : Configuration → ℕ → Reaction → List Entry → Type 0

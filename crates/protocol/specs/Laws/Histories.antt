@@ -6,11 +6,11 @@ use Rattle.protocol.specs.System.Configuration.{Configuration, IsConfiguration, 
 use Rattle.wire_format.specs.Messages.{MessageData as Message, NewViewData, ViewChangeData, view_change as ViewChange}
 use Rattle.wire_format.specs.Spelling.{is_signed}
 use Rattle.wire_format.specs.Words.{carried}
-use Rattle.protocol.specs.System.Frames.{IsPosted, leaf_of}
+use Rattle.protocol.specs.System.Frames.{IsOutgoing, leaf_of}
 use Rattle.protocol.specs.System.Trace.{Entry, party_of, history_of, Once, Always, Has, SendsBody, Unforged}
 use Rattle.protocol.specs.System.Trace.Entry.{Executed, Installed}
 use Rattle.protocol.specs.Replica.Certificates.{Prepared, Committed, view, taken, batch_begun}
-use Rattle.protocol.specs.Replica.RightReplica.{Point, HistoryReaches, HasSeen, SentBefore, SentInEvent, HasOwnLeaf, SafeReplica, HadQuorum, StartsAt, MaySay, IsFor, MaySend}
+use Rattle.protocol.specs.Replica.RightReplica.{Point, HistoryReaches, HasSeen, SentBefore, SentInEvent, HasOwnLeaf, SafeReplica, HadQuorum, StartsAt, MaySendMessage, IsFor, MaySend}
 use Rattle.protocol.specs.Client.RightClient.{SafeClient}
 use Rattle.protocol.specs.Space.Linear.{points, IsLinear}
 use Rattle.protocol.specs.Replica.State.{State, IsReplicatedState, opening, after_batches, page_text, root_of}
@@ -19,14 +19,14 @@ use Rattle.wire_format.specs.Lists.{Each}
 
 -- ---- what may be sent
 
--- A replica may send a frame that it posts for the right receivers, over frames that it has seen, if it may say the
+-- A replica may send a frame to the right receivers, over frames that it has seen, if it may send the
 -- message and the event has not sent the frame. A signed frame needs a leaf of its own.
-abbrev pub PostedMaySend : Type 0
-PostedMaySend =
+abbrev pub OutgoingMaySend : Type 0
+OutgoingMaySend =
     (c : Configuration) (me : ℕ) (past : List Entry) (point : Point) (e : Entry) (bytes receivers : List ℕ)
     (message : Message)
-    → IsPosted c me message receivers bytes → IsFor c me past message receivers
-    → Each (λ frame. Once (HasSeen frame) past) (carried message) → MaySay c me past point e bytes message
+    → IsOutgoing c me message receivers bytes → IsFor c me past message receivers
+    → Each (λ frame. Once (HasSeen frame) past) (carried message) → MaySendMessage c me past point e bytes message
     → (is_signed message ≡ true → HasOwnLeaf bytes past) → (SentInEvent bytes past → ⊥)
     → MaySend c me past point e bytes
 
@@ -162,8 +162,8 @@ Installs k root past (Installed r number digest) = (number ≡ k) × (digest ≡
 Installs k root past _ = ⊥
 
 -- if this happens at a correct replica with a number and a root, the root is that of the executed batches
-abbrev pub GivesRoots : (Configuration → ℕ → List ℕ → List Entry → Type 0) → Type 0
-GivesRoots Happens =
+abbrev pub RootsAreOfBatches : (Configuration → ℕ → List ℕ → List Entry → Type 0) → Type 0
+RootsAreOfBatches Happens =
     (c : Configuration) → IsConfiguration c → (trace : List Entry) → AreReplicasSafe c trace → Unforged c trace
     → NoCollision c trace
     → (r k : ℕ) (root : List ℕ) → is_correct_replica c r ≡ true → Happens c k root (history_of r trace)
@@ -172,13 +172,13 @@ GivesRoots Happens =
 -- A root is that of the executed batches if a quorum of checkpoints has it, a replica installed it, or a new view
 -- starts with it.
 abbrev pub StableAgree : Type 0
-StableAgree = GivesRoots (λ c k root history. HadQuorum c (record { number = k; digest = root }) history)
+StableAgree = RootsAreOfBatches (λ c k root history. HadQuorum c (record { number = k; digest = root }) history)
 
 abbrev pub InstalledAgree : Type 0
-InstalledAgree = GivesRoots (λ c k root history. Once (Installs k root) history)
+InstalledAgree = RootsAreOfBatches (λ c k root history. Once (Installs k root) history)
 
 abbrev pub StartsAgree : Type 0
-StartsAgree = GivesRoots (λ c k root history. Once (StartsAt c k root) history)
+StartsAgree = RootsAreOfBatches (λ c k root history. Once (StartsAt c k root) history)
 
 -- ---- points
 

@@ -4,7 +4,7 @@ use Rattle.terms.specs.declared.state.Level.{Level}
 use Rattle.terms.specs.declared.state.Level.TheVariants as levels
 use Rattle.wire_format.specs.Messages.{fetch as Fetch, page as Page}
 use Rattle.wire_format.specs.Words.{said}
-use Rattle.signing.specs.Heard.{heard}
+use Rattle.signing.specs.AuthenticBody.{authentic}
 use Rattle.protocol.specs.System.Configuration.{Configuration, members}
 use Rattle.protocol.specs.System.Trace.{Entry, Once}
 use Rattle.protocol.specs.System.Trace.Entry.{Got, Tick, Executed, Installed, Sent}
@@ -14,7 +14,7 @@ use Rattle.protocol.specs.Replica.Transfers.{place_from, fetching, asked_last, t
 abbrev pub AnswersAreTaken : Type 0
 AnswersAreTaken =
     (c : Configuration) (me sender k i : ℕ) (past : List Entry) (bytes text : List ℕ)
-    → heard (members c) me bytes ≡ Some (record { sender = sender; message = Page k i text })
+    → authentic (members c) me bytes ≡ Some (record { sender = sender; message = Page k i text })
     → asked_last past ≡ Some (k, (levels.Page, i))
     → took c me (Some k) (Got me bytes ∷ past) i ≡ Some text
 
@@ -23,15 +23,15 @@ abbrev pub OthersAreLeft : Type 0
 OthersAreLeft =
     (c : Configuration) (me k i : ℕ) (past : List Entry) (bytes : List ℕ)
     → ((sender : ℕ) (text : List ℕ)
-    → heard (members c) me bytes ≡ Some (record { sender = sender; message = Page k i text })
+    → authentic (members c) me bytes ≡ Some (record { sender = sender; message = Page k i text })
     → asked_last past ≡ Some (k, (levels.Page, i)) → ⊥)
     → took c me (Some k) (Got me bytes ∷ past) i ≡ took c me None past i
 
--- what is taken of a place was got for it, where it was asked for last.
+-- a place's digests or page were received for it, where it was asked for last.
 abbrev pub FetchIsAnswered : Configuration → ℕ → ℕ → List ℕ → List Entry → Entry → Type 0
 FetchIsAnswered c me i text past (Got p bytes) =
     (sender k : ℕ)
-    × (heard (members c) me bytes ≡ Some (record { sender = sender; message = Page k i text }))
+    × (authentic (members c) me bytes ≡ Some (record { sender = sender; message = Page k i text }))
     × (asked_last past ≡ Some (k, (levels.Page, i)))
 FetchIsAnswered c me i text past _ = ⊥
 

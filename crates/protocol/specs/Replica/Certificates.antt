@@ -11,14 +11,14 @@ use Rattle.quorum.specs.Votes.{or_else, has_digest}
 use Rattle.protocol.specs.System.Configuration.{Configuration, replicas, primary, span, is_number, members}
 use Rattle.wire_format.specs.Messages.{BodyData as Body, NewViewData, CheckpointEntryData as CheckpointEntry, pre_prepare as PrePrepare, prepare as Prepare, commit as Commit, checkpoint as Checkpoint, view_change as ViewChange, new_view as NewView}
 use Rattle.wire_format.specs.Words.{requests_of, said}
-use Rattle.signing.specs.Heard.{heard}
+use Rattle.signing.specs.AuthenticBody.{authentic}
 use Rattle.protocol.specs.System.Trace.{Entry}
 use Rattle.protocol.specs.System.Trace.Entry.{Got, Installed, Sent}
 use Rattle.protocol.specs.Replica.Selection.{is_quorum, may_select, signed_change, is_within}
 
 -- the body that an entry brings: of a frame that a party receives and that is authentic to it, or of one that it sends
 abbrev pub brought : Configuration → Entry → Option Body
-brought c (Got p bytes) = heard (members c) p bytes
+brought c (Got p bytes) = authentic (members c) p bytes
 brought c (Sent p bytes) = said bytes
 brought c _ = None
 
@@ -29,8 +29,8 @@ greatest number (e ∷ past) = max (number e) (greatest number past)
 
 -- the value at the earliest entry that gives one
 abbrev pub first_given : {A : Type 0} → (List Entry → Entry → Option A) → List Entry → Option A
-first_given give [] = None
-first_given give (e ∷ past) = or_else (first_given give past) (give past e)
+first_given emit [] = None
+first_given emit (e ∷ past) = or_else (first_given emit past) (emit past e)
 
 -- ---- the view
 
@@ -128,19 +128,19 @@ checkpoints_of c [] s = []
 checkpoints_of c (e ∷ past) s = with_checkpoint s (checkpoint_in c e) (checkpoints_of c past s)
 
 -- one of these checkpoints has this number and digest
-abbrev pub says_checkpoint : CheckpointEntry → List CheckpointEntry → Bool
-says_checkpoint checkpoint checkpoints =
+abbrev pub lists_checkpoint : CheckpointEntry → List CheckpointEntry → Bool
+lists_checkpoint checkpoint checkpoints =
     list_any (λ m. (m.number == checkpoint.number) && bytes_eq m.digest checkpoint.digest) checkpoints
 
 -- how many replicas have this one among their checkpoints
 abbrev pub count_checkpoints : Configuration → List Entry → CheckpointEntry → ℕ
 count_checkpoints c past checkpoint =
-    count_below (λ s. says_checkpoint checkpoint (checkpoints_of c past s)) (replicas c)
+    count_below (λ s. lists_checkpoint checkpoint (checkpoints_of c past s)) (replicas c)
 
 -- The checkpoint is stable: a quorum of replicas sent it, and so did this replica.
 abbrev pub is_stable : Configuration → ℕ → List Entry → CheckpointEntry → Bool
 is_stable c me past checkpoint =
-    is_quorum c (count_checkpoints c past checkpoint) && says_checkpoint checkpoint (checkpoints_of c past me)
+    is_quorum c (count_checkpoints c past checkpoint) && lists_checkpoint checkpoint (checkpoints_of c past me)
 
 -- ---- the low mark
 
@@ -176,7 +176,7 @@ counts_at c me past _ v i = false
 
 -- whether each request of the batch is authentic to the replica
 abbrev pub are_genuine : Configuration → ℕ → List ℕ → Bool
-are_genuine c me batch = list_all (λ request. is_some (heard (members c) me request)) (requests_of batch)
+are_genuine c me batch = list_all (λ request. is_some (authentic (members c) me request)) (requests_of batch)
 
 -- the batch in a pre-prepare by the primary of view v for number i, if its requests are authentic to the replica
 abbrev pub batch_from : Configuration → ℕ → ℕ → ℕ → Body → Option (List ℕ)

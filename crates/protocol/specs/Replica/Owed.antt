@@ -16,9 +16,9 @@ use Rattle.terms.specs.declared.state.Level.TheVariants as levels
 use Rattle.wire_format.specs.Spelling.{has_children}
 use Rattle.wire_format.specs.Messages.{BodyData as Body, MessageData as Message, ViewChangeData, NewViewData, CheckpointEntryData as CheckpointEntry, request as Request, pre_prepare as PrePrepare, prepare as Prepare, commit as Commit, checkpoint as Checkpoint, view_change as ViewChange, new_view as NewView, reply as Reply, fetch as Fetch, meta as Meta, page as Page}
 use Rattle.wire_format.specs.Words.{requests_of, frame_of, said, receivers_of}
-use Rattle.signing.specs.Heard.{heard}
+use Rattle.signing.specs.AuthenticBody.{authentic}
 use Rattle.protocol.specs.System.Frames.{leaf_of}
-use Rattle.protocol.specs.System.Trace.{Entry, party_of, is_output, Once, Has, either, Hears}
+use Rattle.protocol.specs.System.Trace.{Entry, party_of, is_output, Once, Has, either, Receives}
 use Rattle.protocol.specs.System.Trace.Entry.{Got, Tick, Sent}
 use Rattle.protocol.specs.Replica.Selection.{is_quorum, is_within, changes_of, null_batch, may_select, signed_change}
 use Rattle.protocol.specs.Replica.Certificates.{view, target, is_active_in, taken, latest_change, checkpoints_of, count_checkpoints, low, is_in_marks, entry_proposal, logged, prepare_from, commit_from, vote_in, prepare_of, commit_of, Prepared, Committed}
@@ -31,24 +31,24 @@ use Rattle.wire_format.specs.Lists.{Each}
 -- ---- words on outputs
 
 -- the replica sends a frame of this message in this entry
-abbrev pub IsSaying : ℕ → Message → Entry → Type 0
-IsSaying me message (Sent p bytes) = said bytes ≡ Some (record { sender = me; message = message })
-IsSaying me message _ = ⊥
+abbrev pub IsSending : ℕ → Message → Entry → Type 0
+IsSending me message (Sent p bytes) = said bytes ≡ Some (record { sender = me; message = message })
+IsSending me message _ = ⊥
 
 -- one of the outputs is a frame of this message
 abbrev pub SendsMessage : ℕ → Message → List Entry → Type 0
-SendsMessage me message outputs = Has (IsSaying me message) outputs
+SendsMessage me message outputs = Has (IsSending me message) outputs
 
 -- the replica sends a frame of this message in this entry, for replica s alone
-abbrev pub IsSayingTo : ℕ → ℕ → Message → Entry → Type 0
-IsSayingTo me s message (Sent p bytes) =
+abbrev pub IsSendingTo : ℕ → ℕ → Message → Entry → Type 0
+IsSendingTo me s message (Sent p bytes) =
     (said bytes ≡ Some (record { sender = me; message = message }))
     × (option_map_or (λ frame. receivers_of frame.authenticator) (frame_of bytes) [] ≡ s ∷ [])
-IsSayingTo me s message _ = ⊥
+IsSendingTo me s message _ = ⊥
 
 -- one of the outputs is a frame of this message, for replica s alone
-abbrev pub GivesTo : ℕ → ℕ → Message → List Entry → Type 0
-GivesTo me s message outputs = Has (IsSayingTo me s message) outputs
+abbrev pub SendsMessageTo : ℕ → ℕ → Message → List Entry → Type 0
+SendsMessageTo me s message outputs = Has (IsSendingTo me s message) outputs
 
 -- P holds at each of the outputs, the oldest first, with its past
 abbrev pub AtOutputs : (List Entry → Entry → Type 0) → List Entry → List Entry → Type 0
@@ -192,14 +192,15 @@ Counts c me past point bytes s (Page k index text) = IsAwaited c me past point k
 -- The bytes are dropped: no rule takes what they say to the replica, if anything.
 abbrev pub IsDropped : Configuration → ℕ → List Entry → Point → List ℕ → Type 0
 IsDropped c me past point bytes =
-    (body : Body) → heard (members c) me bytes ≡ Some body → Counts c me past point bytes body.sender body.message → ⊥
+    (body : Body) → authentic (members c) me bytes ≡ Some body → Counts c me past point bytes body.sender body.message
+    → ⊥
 
 -- ---- view changes that are due (Castro and Liskov, TOCS 2002, 4.5.2)
 
 -- the input is another replica's view change, and it counts
 abbrev pub TakesChange : Configuration → ℕ → List Entry → Entry → Type 0
 TakesChange c me before input =
-    (s : ℕ) × (vc : ViewChangeData) × Hears c me (record { sender = s; message = ViewChange vc }) before input
+    (s : ℕ) × (vc : ViewChangeData) × Receives c me (record { sender = s; message = ViewChange vc }) before input
     × IsLatestChange c before s vc
 
 -- The replica has to move to view v: by a timeout, or because it took a view change and f + 1 others are ahead.
@@ -223,7 +224,7 @@ BringsChange c x past _ = ⊥
 abbrev pub HasLatestChange : Configuration → ℕ → List Entry → ℕ × ViewChangeData → Type 0
 HasLatestChange c me past x =
     ((x.0 ≢ me) × Once (BringsChange c x) past × (latest_change c past x.0 ≡ x.1.view))
-    ⊎ ((x.0 ≡ me) × Once (λ earlier e. IsSaying me (ViewChange x.1) e) past × (target past ≡ x.1.view))
+    ⊎ ((x.0 ≡ me) × Once (λ earlier e. IsSending me (ViewChange x.1) e) past × (target past ≡ x.1.view))
 
 -- the batch is logged for a number in the marks, or it is the null batch
 abbrev pub HasBatch : Configuration → ℕ → List Entry → List ℕ → Type 0
@@ -247,9 +248,9 @@ pub record CanBeginView (c : Configuration) (me : ℕ) (past : List Entry) (new 
 abbrev pub WaitsAlready : Configuration → ℕ → List Entry → Entry → Point → Type 0
 WaitsAlready c me before input old =
     (call : Call) × Has (λ x. x ≡ call) old.waiting
-    × Hears c me (record { sender = client_party call.client; message = Request call.timestamp modes.Ordered call.op })
-    before
-    input
+    × Receives c me
+    (record { sender = client_party call.client; message = Request call.timestamp modes.Ordered call.op })
+    before input
 
 -- the new view that began view v, if one did, assigns only numbers below i
 abbrev pub IsBegunBelow : Configuration → ℕ → ℕ → List Entry → Type 0
@@ -315,24 +316,24 @@ pub record Owes (c : Configuration) (me : ℕ) (before : List Entry) (input : En
       → Has (λ st. (st.number ≡ k) × SendsMessage me (Checkpoint k (root_of st)) outputs) new.snapshots
   -- a request of the last timestamp gets its kept reply again
   pub again : (k timestamp : ℕ) (op : Operation) (kept : Kept)
-      → Hears c me (record { sender = client_party k; message = Request timestamp modes.Ordered op }) before input
+      → Receives c me (record { sender = client_party k; message = Request timestamp modes.Ordered op }) before input
       → kept_of old.state k ≡ Some kept → kept.timestamp ≡ timestamp → SendsMessage me (reply_of k kept) outputs
   -- a request that waits already makes the replica send again what others may lack
   pub says_again : WaitsAlready c me before input old → SendsAgain c me before old.state.number outputs
   pub reads : (client timestamp : ℕ) (op : Operation)
-      → Hears c me (record { sender = client; message = Request timestamp modes.ReadOnly op }) before input
+      → Receives c me (record { sender = client; message = Request timestamp modes.ReadOnly op }) before input
       → is_read_only op ≡ true
       → SendsMessage me
       (Reply client timestamp modes.ReadOnly old.state.number (outcome (tuples old.state) (client_number client) op))
       outputs
   pub fetched_digests : (s k index : ℕ) (level : Level) → has_children level ≡ true
-      → Hears c me (record { sender = s; message = Fetch k level index }) before input
+      → Receives c me (record { sender = s; message = Fetch k level index }) before input
       → (st : State) → KeptState c me before old k (λ x. x ≡ st)
-      → GivesTo me s (Meta k level index (digests_at st level index)) outputs
+      → SendsMessageTo me s (Meta k level index (digests_at st level index)) outputs
   pub fetched_page : (s k index : ℕ)
-      → Hears c me (record { sender = s; message = Fetch k levels.Page index }) before input
+      → Receives c me (record { sender = s; message = Fetch k levels.Page index }) before input
       → (st : State) → KeptState c me before old k (λ x. x ≡ st)
-      → GivesTo me s (Page k index (page_text st index)) outputs
+      → SendsMessageTo me s (Page k index (page_text st index)) outputs
   -- a quorum of checkpoints above the state, and above an open transfer, starts a state transfer
   pub fetches : (k : ℕ) (root : List ℕ)
       → is_quorum c (count_checkpoints c now (record { number = k; digest = root })) ≡ true
@@ -345,11 +346,11 @@ pub record Owes (c : Configuration) (me : ℕ) (before : List Entry) (input : En
       → old.state.number < k → SendsMessage me (Fetch k level index) outputs
   -- a part that the transfer awaits makes it go on
   pub goes_on_by_digests : (s k index : ℕ) (level : Level) (digests : List (List ℕ))
-      → Hears c me (record { sender = s; message = Meta k level index digests }) before input
+      → Receives c me (record { sender = s; message = Meta k level index digests }) before input
       → IsAwaitedAlone c me before old k level index (digest_of_children digests)
       → TransferGoesOn c me (input ∷ before) old outputs new.state.number k
   pub goes_on_by_page : (s k index : ℕ) (text : List ℕ)
-      → Hears c me (record { sender = s; message = Page k index text }) before input
+      → Receives c me (record { sender = s; message = Page k index text }) before input
       → IsAwaitedAlone c me before old k levels.Page index (sha256 text)
       → TransferGoesOn c me (input ∷ before) old outputs new.state.number k
   -- A replica that has to move to a view has sent a view change for that view or for a later one, unless its keys are

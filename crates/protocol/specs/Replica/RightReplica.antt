@@ -18,9 +18,9 @@ use Rattle.terms.specs.declared.state.Level.{Level}
 use Rattle.terms.specs.declared.state.Level.TheVariants as levels
 use Rattle.wire_format.specs.Messages.{BodyData as Body, FrameData as Frame, MessageData as Message, AuthenticatorData as Authenticator, macs, signature, ViewChangeData, NewViewData, CheckpointEntryData as CheckpointEntry, BatchEntryData as BatchEntry, request as Request, pre_prepare as PrePrepare, prepare as Prepare, commit as Commit, checkpoint as Checkpoint, view_change as ViewChange, new_view as NewView, reply as Reply, fetch as Fetch, meta as Meta, page as Page}
 use Rattle.wire_format.specs.Words.{carried, requests_of, frame_of, said, receivers_of}
-use Rattle.signing.specs.Heard.{heard}
+use Rattle.signing.specs.AuthenticBody.{authentic}
 use Rattle.protocol.specs.System.Frames.{IsSealed, leaf_of}
-use Rattle.protocol.specs.System.Trace.{Entry, party_of, is_output, Once, Has, either, frames_in, Hears}
+use Rattle.protocol.specs.System.Trace.{Entry, party_of, is_output, Once, Has, either, frames_in, Receives}
 use Rattle.protocol.specs.System.Trace.Entry.{Invoke, Got, Tick, Executed, Installed, Sent, Accepted}
 use Rattle.protocol.specs.Replica.Selection.{is_quorum, is_weak_quorum}
 use Rattle.protocol.specs.Replica.Certificates.{view, target, is_active_in, taken, latest_change, count_checkpoints, low, is_in_marks, are_genuine, logged, Prepared, Committed}
@@ -65,7 +65,8 @@ HasOwnLeaf bytes past =
 -- the replica receives a page of this index and text in this entry
 abbrev pub GetsPage : Configuration → ℕ → ℕ → List ℕ → List Entry → Entry → Type 0
 GetsPage c me i text past (Got p bytes) =
-    (sender number : ℕ) × (heard (members c) me bytes ≡ Some (record { sender = sender; message = Page number i text }))
+    (sender number : ℕ)
+    × (authentic (members c) me bytes ≡ Some (record { sender = sender; message = Page number i text }))
 GetsPage c me i text past _ = ⊥
 
 -- P holds at the input of the running event, the newest entry that is no output, with its past
@@ -79,11 +80,11 @@ IsTick e = elim e [ Tick p ↦ ⊤ | _ ↦ ⊥ ]
 -- the replica receives the client's ordered request of this timestamp in this entry
 abbrev pub GetsOrdered : Configuration → ℕ → ℕ → ℕ → List Entry → Entry → Type 0
 GetsOrdered c me client timestamp past e =
-    (op : Operation) × Hears c me (record { sender = client; message = Request timestamp modes.Ordered op }) past e
+    (op : Operation) × Receives c me (record { sender = client; message = Request timestamp modes.Ordered op }) past e
 
 -- the replica received a fetch by replica s for this part of checkpoint k
 abbrev pub WasAsked : Configuration → ℕ → List Entry → ℕ → ℕ → Level → ℕ → Type 0
-WasAsked c me past s k level index = Once (Hears c me (record { sender = s; message = Fetch k level index })) past
+WasAsked c me past s k level index = Once (Receives c me (record { sender = s; message = Fetch k level index })) past
 
 -- ---- a replica's state between entries
 
@@ -113,8 +114,8 @@ with_waiting st waiting call =
 -- the requests that wait once the bytes are received
 abbrev pub waiting_after : Configuration → ℕ → Point → List ℕ → List Call
 waiting_after c me point bytes =
-    option_map_or (with_waiting point.state point.waiting) (option_and_then (call_in c) (heard (members c) me bytes))
-    point.waiting
+    option_map_or (with_waiting point.state point.waiting)
+    (option_and_then (call_in c) (authentic (members c) me bytes)) point.waiting
 
 -- A request waits until its client's last timestamp is at least its own.
 abbrev pub still_waiting : State → List Call → List Call
@@ -334,7 +335,7 @@ pub record MayReplyRead (c : Configuration) (me : ℕ) (past : List Entry) (poin
     (answer : Outcome) : Type 0 where
   pub op : Operation
   pub is_read : is_read_only op ≡ true
-  pub heard : Once (Hears c me (record { sender = client; message = Request timestamp modes.ReadOnly op })) past
+  pub authentic : Once (Receives c me (record { sender = client; message = Request timestamp modes.ReadOnly op })) past
   pub answer_is : answer ≡ outcome (tuples point.state) (client_number client) op
   pub number_is : number ≡ point.state.number
 
@@ -366,19 +367,19 @@ MayPage c me past point k index text =
     KeptState c me past point k (λ st. text ≡ page_text st index) × ((s : ℕ) × WasAsked c me past s k levels.Page index)
 
 -- Each message has its rule. A replica makes no requests.
-abbrev pub MaySay : Configuration → ℕ → List Entry → Point → Entry → List ℕ → Message → Type 0
-MaySay c me past point e bytes (Request timestamp mode op) = ⊥
-MaySay c me past point e bytes (PrePrepare v i batch) = MayPrePrepare c me past point e v i batch
-MaySay c me past point e bytes (Prepare v i digest) = MayPrepare c me past v i digest
-MaySay c me past point e bytes (Commit v i digest) = MayCommit c me past v i digest
-MaySay c me past point e bytes (Checkpoint k root) = MayCheckpoint c past point k root
-MaySay c me past point e bytes (ViewChange vc) = MayViewChange c me past point bytes vc
-MaySay c me past point e bytes (NewView new) = MayNewView c me past e bytes new
-MaySay c me past point e bytes (Reply client timestamp mode number answer) =
+abbrev pub MaySendMessage : Configuration → ℕ → List Entry → Point → Entry → List ℕ → Message → Type 0
+MaySendMessage c me past point e bytes (Request timestamp mode op) = ⊥
+MaySendMessage c me past point e bytes (PrePrepare v i batch) = MayPrePrepare c me past point e v i batch
+MaySendMessage c me past point e bytes (Prepare v i digest) = MayPrepare c me past v i digest
+MaySendMessage c me past point e bytes (Commit v i digest) = MayCommit c me past v i digest
+MaySendMessage c me past point e bytes (Checkpoint k root) = MayCheckpoint c past point k root
+MaySendMessage c me past point e bytes (ViewChange vc) = MayViewChange c me past point bytes vc
+MaySendMessage c me past point e bytes (NewView new) = MayNewView c me past e bytes new
+MaySendMessage c me past point e bytes (Reply client timestamp mode number answer) =
     MayReply c me past point client timestamp mode number answer
-MaySay c me past point e bytes (Fetch k level index) = MayFetch c me past point k level index
-MaySay c me past point e bytes (Meta k level index digests) = MayMeta c me past point k level index digests
-MaySay c me past point e bytes (Page k index text) = MayPage c me past point k index text
+MaySendMessage c me past point e bytes (Fetch k level index) = MayFetch c me past point k level index
+MaySendMessage c me past point e bytes (Meta k level index digests) = MayMeta c me past point k level index digests
+MaySendMessage c me past point e bytes (Page k index text) = MayPage c me past point k index text
 
 -- ---- whom a frame is for
 
@@ -408,7 +409,7 @@ pub record MaySend (c : Configuration) (me : ℕ) (past : List Entry) (point : P
   pub says : said bytes ≡ Some body
   pub own : body.sender ≡ me
   pub seen : Each (λ frame. Once (HasSeen frame) past) (carried body.message)
-  pub say : MaySay c me past point e bytes body.message
+  pub allowed : MaySendMessage c me past point e bytes body.message
   pub is_sealed : (frame : Frame) → frame_of bytes ≡ Some frame
       → IsSealed c frame × IsAddressed c me past body.message frame.authenticator
   pub leaf : HasOwnLeaf bytes past

@@ -6,7 +6,7 @@ use Rattle.sha2.specs.Sha256.{sha256}
 use Rattle.quorum.specs.Quorum.{count_below}
 use Rattle.protocol.specs.System.Configuration.{Configuration, replicas, span, is_number, members}
 use Rattle.wire_format.specs.Messages.{BodyData as Body, NewViewData, ViewChangeData, CheckpointEntryData as CheckpointEntry, BatchEntryData as BatchEntry, view_change as ViewChange}
-use Rattle.signing.specs.Heard.{signed_body}
+use Rattle.signing.specs.AuthenticBody.{signed_body}
 
 -- At least 2f + 1 replicas are a quorum. Any two quorums have a correct replica in common.
 abbrev pub is_quorum : Configuration → ℕ → Bool

@@ -10,9 +10,9 @@ use Rattle.terms.specs.declared.state.Level.{Level}
 use Rattle.terms.specs.declared.state.Level.TheVariants as levels
 use Rattle.wire_format.specs.Messages.{BodyData as Body, fetch as Fetch, meta as Meta, page as Page}
 use Rattle.wire_format.specs.Words.{said}
-use Rattle.signing.specs.Heard.{heard}
+use Rattle.signing.specs.AuthenticBody.{authentic}
 use Rattle.protocol.specs.System.Configuration.{Configuration, members}
-use Rattle.protocol.specs.System.Trace.{Entry, is_output, Once, either, Hears}
+use Rattle.protocol.specs.System.Trace.{Entry, is_output, Once, either, Receives}
 use Rattle.protocol.specs.System.Trace.Entry.{Got, Tick, Executed, Installed, Sent}
 use Rattle.protocol.specs.Replica.Certificates.{greatest}
 use Rattle.protocol.specs.Replica.State.{State, all_pages, page_text}
@@ -57,7 +57,7 @@ text_given past k i body = elim body.message [
 -- the text of page i in the bytes that answer the last fetch, if their event goes on for some number
 abbrev pub answer : Configuration → ℕ → Option ℕ → List Entry → ℕ → List ℕ → Option (List ℕ)
 answer c me None past i bytes = None
-answer c me (Some k) past i bytes = option_and_then (text_given past k i) (heard (members c) me bytes)
+answer c me (Some k) past i bytes = option_and_then (text_given past k i) (authentic (members c) me bytes)
 
 -- the number of a fetch that the bytes spell
 abbrev pub number_asked : List ℕ → Option ℕ
@@ -97,7 +97,7 @@ NoneAsked (e ∷ past) = either (is_output e) ((is_fetch e ≡ false) × NoneAsk
 abbrev pub GotBelow : Configuration → ℕ → List Entry → Level → ℕ → List ℕ → List (List ℕ) → Type 0
 GotBelow c me past level index digest digests =
     (digest_of_children digests ≡ digest)
-    × ((s n : ℕ) × Once (Hears c me (record { sender = s; message = Meta n level index digests })) past)
+    × ((s n : ℕ) × Once (Receives c me (record { sender = s; message = Meta n level index digests })) past)
 
 -- Child i of a part is the first whose wanted digest differs from its digest in the pages in place (here).
 pub record IsFirstToDiffer (wanted : List (List ℕ)) (here : ℕ → List ℕ) (i : ℕ) : Type 0 where

@@ -12,7 +12,7 @@ use Rattle.terms.specs.declared.order.Mode.{Mode}
 use Rattle.terms.specs.declared.order.Mode.TheVariants as modes
 use Rattle.wire_format.specs.Messages.{request as Request}
 use Rattle.wire_format.specs.Words.{requests_of}
-use Rattle.signing.specs.Heard.{heard}
+use Rattle.signing.specs.AuthenticBody.{authentic}
 use Rattle.protocol.specs.System.Frames.{same_mode}
 use Rattle.protocol.specs.System.Trace.{Entry, history_of, frames_in, Once, Always, Has}
 use Rattle.protocol.specs.System.Trace.Entry.{Invoke, Got, Executed, Installed, Accepted}
@@ -61,7 +61,7 @@ Accepts p timestamp answer past _ = ⊥
 -- In this entry a correct replica receives the client's ordered request, alone or carried, authentic to the replica.
 abbrev pub EntryAsks : Configuration → ℕ → ℕ → Operation → List Entry → Entry → Type 0
 EntryAsks c client timestamp op past (Got p bytes) =
-    (is_correct_replica c p ≡ true) × Has (λ frame. heard (members c) p frame
+    (is_correct_replica c p ≡ true) × Has (λ frame. authentic (members c) p frame
     ≡ Some (record { sender = client; message = Request timestamp modes.Ordered op })) (frames_in bytes)
 EntryAsks c client timestamp op past _ = ⊥
 

@@ -6,7 +6,7 @@ use Rattle.terms.specs.declared.order.Mode.TheVariants as modes
 use Rattle.wire_format.specs.Messages.{MessageData as Message, AuthenticatorData as Authenticator, macs, signature, FrameData as Frame}
 use Rattle.wire_format.specs.Words.{frame_of, said, receivers_of}
 use Rattle.authenticator.specs.Authentic.{mac_of}
-use Rattle.signing.specs.Heard.{has_signature}
+use Rattle.signing.specs.AuthenticBody.{has_signature}
 use Rattle.protocol.specs.System.Configuration.{Configuration}
 
 -- each MAC is over the body, under the key from its sender to the MAC's receiver; a signature is the sender's
@@ -17,7 +17,7 @@ IsSealed c frame = elim frame.authenticator [
 ]
 
 -- The bytes are party me's own frame of this message, signed or with MACs for these receivers. A signed one names none.
-pub record IsPosted (c : Configuration) (me : ℕ) (message : Message) (receivers bytes : List ℕ) : Type 0 where
+pub record IsOutgoing (c : Configuration) (me : ℕ) (message : Message) (receivers bytes : List ℕ) : Type 0 where
   pub says : said bytes ≡ Some (record { sender = me; message = message })
   pub is_sealed : (frame : Frame) → frame_of bytes ≡ Some frame
       → IsSealed c frame × (receivers_of frame.authenticator ≡ receivers)

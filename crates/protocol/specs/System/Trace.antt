@@ -7,7 +7,7 @@ use Rattle.tuple_codec.specs.Operations.{Operation, Outcome}
 use Rattle.protocol.specs.System.Configuration.{Configuration, is_correct, members}
 use Rattle.wire_format.specs.Messages.{BodyData as Body}
 use Rattle.wire_format.specs.Words.{carried, said}
-use Rattle.signing.specs.Heard.{heard, signed_body}
+use Rattle.signing.specs.AuthenticBody.{authentic, signed_body}
 use Rattle.wire_format.specs.Lists.{Each}
 
 -- An input or output of a correct party. A field client has the client's number k, which is 256 + k as a party.
@@ -77,16 +77,16 @@ SendsBody body past (Sent party bytes) = (party ≡ body.sender) × (said bytes 
 SendsBody body past _ = ⊥
 
 -- in this entry the party receives a frame of this body that is authentic to it
-abbrev pub Hears : Configuration → ℕ → Body → List Entry → Entry → Type 0
-Hears c me body past (Got p bytes) = heard (members c) me bytes ≡ Some body
-Hears c me body past _ = ⊥
+abbrev pub Receives : Configuration → ℕ → Body → List Entry → Entry → Type 0
+Receives c me body past (Got p bytes) = authentic (members c) me bytes ≡ Some body
+Receives c me body past _ = ⊥
 
 -- ---- no message of a correct party is forged
 
 -- If the frame is authentic to party me as a correct sender's, or has a correct sender's signature, that sender sent a
 -- frame of its body before. A body has one spelling, over which MACs and signatures are made.
 pub record IsFromSender (c : Configuration) (me : ℕ) (past : List Entry) (bytes : List ℕ) : Type 0 where
-  pub hears : (body : Body) → heard (members c) me bytes ≡ Some body → is_correct c body.sender ≡ true
+  pub receives : (body : Body) → authentic (members c) me bytes ≡ Some body → is_correct c body.sender ≡ true
       → Once (SendsBody body) past
   pub signed : (body : Body) → signed_body (members c) bytes ≡ Some body → is_correct c body.sender ≡ true
       → Once (SendsBody body) past

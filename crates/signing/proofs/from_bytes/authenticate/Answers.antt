@@ -1,57 +1,29 @@
-use Rattle.std.proofs.Common.{◌∙◌, ap, sym, subst}
+use Rattle.std.proofs.Common.{◌≡◌, ◌∙◌, Some, sym}
 use Rattle.std.proofs.lemmas.Result.{err_from_is_err_and}
 use Rattle.terms.specs.Parties.{party_number}
-use Rattle.wire.specs.Headers.{header_data}
-use Rattle.signing.specs.Hearing.{RefusesBytes, signature_holds}
-use Rattle.signing.proofs.Heard.{heard_was_opened}
-use Rattle.signing.proofs.Opened.{own_not_heard, refused_not_heard, refused_by_header, heard_by_header, unsigned_by_header, unsigned_not_heard}
-use Rattle.signing.proofs.Whether.{hears_nothing, hears_something}
+use Rattle.wire_format.specs.Views.{body_data}
+use Rattle.signing.proofs.Whether.{nothing_heard, something_heard, authentic_frame, authentic_of_body}
 use Rattle.signing.proofs.from_bytes.authenticate.Goals as goal
 
-pub returns-in_err-header-clause-heard : goal.returns-in_err-header-clause-heard
-returns-in_err-header-clause-heard c =
-    let p = err_from_is_err_and c.from_residual.result c.from_residual.ensures.1 in
-    rw p.1 (hears_nothing c.args.ring.now (party_number c.args.me) c.args.bytes.now (λ body e.
-    let w = heard_was_opened c.args.ring.now (party_number c.args.me) c.args.bytes.now body e in
-    let is_ok = c.in_err-header.ensures.only w.frame w.opens.spelled in
-    let k : ⊥ = cc in k))
+pub returns-in_err-check_authentic-clause-all : goal.returns-in_err-check_authentic-clause-all
+returns-in_err-check_authentic-clause-all c body e =
+    absurd (nothing_heard c.args.ring.now (party_number c.args.me) c.args.bytes.now c.in_err-check_authentic.ensures.authentic body e)
 
-pub returns-then-number-clause-heard : goal.returns-then-number-clause-heard
-returns-then-number-clause-heard c =
-    hears_nothing c.args.ring.now (party_number c.args.me) c.args.bytes.now
-    (own_not_heard c.args.ring.now (party_number c.args.me) c.args.bytes.now (header_data c.in_ok-header.header) c.in_ok-header.ensures.found
-    (sym c.number.ensures ∙ c.if-number.true ∙ c.number-2.ensures))
+pub decode_judged_body-requires : goal.decode_judged_body-requires
+decode_judged_body-requires c =
+    authentic_frame c.args.ring.now (party_number c.args.me) c.args.bytes.now c.in_ok-check_authentic.ensures.authentic
 
-pub returns-in-Some-clause-heard : goal.returns-in-Some-clause-heard
-returns-in-Some-clause-heard c =
-    hears_nothing c.args.ring.now (party_number c.args.me) c.args.bytes.now
-    (refused_not_heard c.args.ring.now (party_number c.args.me) c.args.bytes.now (header_data c.in_ok-header.header) c.in_ok-header.ensures.found c.in-Some.fault c.in-Some.ensures.value)
+pub returns-in_err-body-clause-refused : goal.returns-in_err-body-clause-refused
+returns-in_err-body-clause-refused c =
+    let p = err_from_is_err_and c.from_residual-in_err-body.result c.from_residual-in_err-body.ensures.1 in
+    rw (p.1, p.2) (something_heard c.args.ring.now (party_number c.args.me) c.args.bytes.now c.in_ok-check_authentic.ensures.authentic)
 
-pub returns-in-Some-clause-refused : goal.returns-in-Some-clause-refused
-returns-in-Some-clause-refused c =
-    subst (RefusesBytes c.args.ring.now (party_number c.args.me) c.args.bytes.now) (sym c.into.ensures)
-    (refused_by_header c.args.ring.now (party_number c.args.me) c.args.bytes.now (header_data c.in_ok-header.header) c.in_ok-header.ensures.found c.in-Some.fault c.in-Some.ensures.value
-    (λ e. c.if-number.false (c.number.ensures ∙ e ∙ sym c.number-2.ensures)))
+pub returns-clause-authentic : goal.returns-clause-authentic
+returns-clause-authentic c =
+    authentic_of_body c.args.ring.now (party_number c.args.me) c.args.bytes.now c.in_ok-check_authentic.ensures.authentic (body_data c.in_ok-body.body) c.in_ok-body.ensures
 
-pub returns-then-not-signature_holds-clause-heard : goal.returns-then-not-signature_holds-clause-heard
-returns-then-not-signature_holds-clause-heard c =
-    let header = header_data c.in_ok-header.header in
-    hears_nothing c.args.ring.now (party_number c.args.me) c.args.bytes.now
-    (unsigned_not_heard c.args.ring.now (party_number c.args.me) c.args.bytes.now header c.in_ok-header.ensures.found c.in_default.ensures.value
-    (ap (λ s. signature_holds s header) (sym c.requires) ∙ sym c.signature_holds.ensures ∙ c.if-not-signature_holds.true))
-
-pub returns-then-not-signature_holds-clause-refused : goal.returns-then-not-signature_holds-clause-refused
-returns-then-not-signature_holds-clause-refused c =
-    let header = header_data c.in_ok-header.header in
-    unsigned_by_header c.args.ring.now (party_number c.args.me) c.args.bytes.now header c.in_ok-header.ensures.found c.in_default.ensures.value
-    (λ e. c.if-number.false (c.number.ensures ∙ e ∙ sym c.number-2.ensures))
-    (ap (λ s. signature_holds s header) (sym c.requires) ∙ sym c.signature_holds.ensures ∙ c.if-not-signature_holds.true)
-
-pub returns-clause-heard : goal.returns-clause-heard
-returns-clause-heard c =
-    let header = header_data c.in_ok-header.header in
-    let has = c.in_ok-header.ensures.found in
-    hears_something c.args.ring.now (party_number c.args.me) c.args.bytes.now has.0.body
-    (heard_by_header c.args.ring.now (party_number c.args.me) c.args.bytes.now header has c.in_default.ensures.value has.0 has.1
-    (λ e. c.if-number.false (c.number.ensures ∙ e ∙ sym c.number-2.ensures))
-    (ap (λ s. signature_holds s header) (sym c.requires) ∙ sym c.signature_holds.ensures ∙ c.if-not-signature_holds.false))
+pub returns-clause-all : goal.returns-clause-all
+returns-clause-all c body e =
+    let mine = authentic_of_body c.args.ring.now (party_number c.args.me) c.args.bytes.now c.in_ok-check_authentic.ensures.authentic (body_data c.in_ok-body.body) c.in_ok-body.ensures in
+    let same : Some (body_data c.in_ok-body.body) ≡ Some body = sym mine ∙ e in
+    cc

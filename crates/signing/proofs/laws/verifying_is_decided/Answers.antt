@@ -1,4 +1,4 @@
-use Rattle.signing.proofs.Heard.{verifies-Decides}
+use Rattle.signing.proofs.AuthenticBody.{verifies-Decides}
 use Rattle.signing.proofs.laws.verifying_is_decided.Goals as goal
 
 pub returns : goal.returns

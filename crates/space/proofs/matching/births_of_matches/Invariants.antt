@@ -5,7 +5,7 @@ use Rattle.space.specs.Births.{oldest_births}
 use Rattle.space.specs.Found.{entries_at}
 use Rattle.space.proofs.matching.births_of_matches.Given as goal
 
--- The births that were found, and those of the first matches of what is left to look at, are those of all.
+-- The births that were found, and those of the first matches of the tuples left to look at, are those of all.
 abbrev pub invariant-loop-birth : goal.invariant-loop-birth
 invariant-loop-birth g l = record {
   few : length l.matched.items ≤ l.max.count;

@@ -4,7 +4,7 @@ use Rattle.template_match.specs.Tests.{is_match}
 use Rattle.space.specs.Found.{entries_at}
 use Rattle.space.proofs.matching.copies_of_matches.Given as goal
 
--- The copies, and the first matches of what is left to look at, are the first matches of all.
+-- The copies, and the first matches of the tuples left to look at, are the first matches of all.
 abbrev pub invariant-loop-birth : goal.invariant-loop-birth
 invariant-loop-birth g l = record {
   few : length l.copies ≤ l.max.count;

@@ -8,7 +8,7 @@ use Rattle.std.below.std_heap.specs.contracts.GlobalAllocator.TheImpl.{ghosts}
 use Rattle.std.specs.contracts.sync.Arc as arc
 use Rattle.crossbeam_channel.specs.contracts.channel.Receiver as receiver
 use Rattle.terms.specs.contracts.parties.ReplicaId as replica
-use Rattle.space_node.specs.contracts.note.Note as note
+use Rattle.space_node.specs.contracts.inbox.InboxMessage as note
 use Rattle.space_node.specs.contracts.shared.Shared as shared
 use Rattle.space_node.proofs.Captures.{closure_send}
 use Rattle.space_node.proofs.Sends.{counted_send, heap_send}

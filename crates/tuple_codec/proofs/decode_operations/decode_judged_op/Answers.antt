@@ -1,5 +1,5 @@
 use Rattle.std.proofs.Common.{◌≡◌, [], Some, None, subst, sym, ◌∙◌}
-use Rattle.tuple_codec.specs.Gives.{DecodingFails}
+use Rattle.tuple_codec.specs.Results.{DecodingFails}
 use Rattle.tuple_codec.specs.Operations.{IsOperation}
 use Rattle.tuple_codec.specs.Reading.{operation_at}
 use Rattle.tuple_codec.specs.Spelling.{SpellsOperation, operation_spelling}

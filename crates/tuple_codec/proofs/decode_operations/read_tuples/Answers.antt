@@ -1,6 +1,6 @@
 use Rattle.std.proofs.Common.{◌∙◌, ◌∷◌, [], ap, subst, arith, length, length-append}
 use Rattle.std.proofs.lemmas.Result.{err_from_is_err_and}
-use Rattle.tuple_codec.specs.Gives.{DecodingFails}
+use Rattle.tuple_codec.specs.Results.{DecodingFails}
 use Rattle.tuple_tree.specs.Reading.{tuple_at}
 use Rattle.tuple_codec.specs.Reading.{with_last_tuple}
 use Rattle.tuple_tree.proofs.Steps.{starts, ends, goes_on}

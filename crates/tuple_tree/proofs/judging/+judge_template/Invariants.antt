@@ -5,7 +5,7 @@ use Rattle.tuple_tree.specs.Judging.{items_judged}
 use Rattle.tuple_tree.proofs.Telling.{combine}
 use Rattle.tuple_tree.proofs.judging.+judge_template.Given as goal
 
--- What is told of all fields is told of the fields so far and of those that are left.
+-- A fact on all fields is one on the fields so far and on those that are left.
 abbrev pub invariant-judge_fields-loop-i : goal.invariant-judge_fields-loop-i
 invariant-judge_fields-loop-i l = record {
   judged : combine l.below l.wide (items_judged is_wide_slot slot_at l.levels (l.count - l._i) l.rest) ≡ items_judged is_wide_slot slot_at l.levels l.count l.bytes;

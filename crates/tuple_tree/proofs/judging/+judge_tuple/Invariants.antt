@@ -5,7 +5,7 @@ use Rattle.tuple_tree.specs.Judging.{items_judged}
 use Rattle.tuple_tree.proofs.Telling.{combine}
 use Rattle.tuple_tree.proofs.judging.+judge_tuple.Given as goal
 
--- What is told of all values is told of the values so far and of those that are left.
+-- A fact on all values is one on the values so far and on those that are left.
 abbrev pub invariant-judge_values-loop-i : goal.invariant-judge_values-loop-i
 invariant-judge_values-loop-i l = record {
   judged : combine l.below l.wide (items_judged is_wide datum_at l.levels (l.count - l._i) l.rest) ≡ items_judged is_wide datum_at l.levels l.count l.bytes;

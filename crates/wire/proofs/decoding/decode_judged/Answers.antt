@@ -1,5 +1,5 @@
 use Rattle.std.proofs.Common.{subst, arith}
-use Rattle.tuple_codec.specs.Gives.{DecodingFails}
+use Rattle.tuple_codec.specs.Results.{DecodingFails}
 use Rattle.wire_format.specs.Reading.{frame_read}
 use Rattle.wire_format.specs.Views.{frame_data}
 use Rattle.wire_format.proofs.Carriers.{frame_of_found}

@@ -1,5 +1,5 @@
 use Rattle.std.proofs.Common.{subst}
-use Rattle.tuple_codec.specs.Gives.{DecodingFails}
+use Rattle.tuple_codec.specs.Results.{DecodingFails}
 use Rattle.wire_format.specs.Reading.{body_of}
 use Rattle.wire_format.specs.Views.{body_data}
 use Rattle.wire.proofs.Whole.{body_reads, has_body}

@@ -18,7 +18,7 @@ returns-clause-ok c =
     let number = c.in_ok-ran.ensures.number ∙ ap (λ (e : ExecutedData). e.state.number + 1) lent in
     let kept_is : kept ≡ keeping_due (record old { executed = c.execute.new.self }) = c.self-2.view_is ∙ c.in_ok-keep_due.ensures.ok in
     rw (← c.self.view_is)
-    (runs_batch old c.close_reached.new.self c.execute.new.self c.args.text.now c.in_ok-ran.ran.items _ c.args.outputs.now.items c.give.new.outputs.items
+    (runs_batch old c.close_reached.new.self c.execute.new.self c.args.text.now c.in_ok-ran.ran.items _ c.args.outputs.now.items c.emit.new.outputs.items
     (ran_so old kept c.close_reached.new.self c.execute.new.self c.forget.new.self kept_is
     (c.forget.ensures ∙ ap (λ (e : ExecutedData). forgotten e.state kept.waiting) shown) c.close_reached.ensures)
     (record {
@@ -31,4 +31,4 @@ returns-clause-ok c =
     (ap (λ (n : ℕ). Executed old.me n c.in_ok-batch.batch)
     (c.number.ensures.value ∙ ap (λ (e : ExecutedData). e.state.number) shown ∙ ap (λ e. e.state.number) (kept_executed (record old { executed = c.execute.new.self }) kept kept_is) ∙ number ∙ one_more old.executed.state.number)
     ∙ ap (Executed old.me (suc old.executed.state.number)) (c.in_ok-batch.ensures ∙ c.in_ok-copy.ensures.items))
-    c.in_ok-give.ensures.given)
+    c.in_ok-emit.ensures.given)

@@ -12,7 +12,7 @@ use Rattle.state_transfer.specs.Taking.{DigestIsKnown, IsMetaAsked, RefusesMeta}
 use Rattle.state_transfer.specs.Transfer.{TransferData, wanted, with_digests}
 use Rattle.desk.specs.OpenTransferView.{open_data}
 use Rattle.desk.specs.State.{OpenData}
-use Rattle.desk.specs.Transferring.{MayBeSaid, TakesDigestsOf}
+use Rattle.desk.specs.Transferring.{MayBeSent, TakesDigestsOf}
 use Rattle.desk.proofs.open_transfer.OpenTransfer.take_digests.Goals as goal
 
 no_page : (level : Level) → IsTrue (has_children level) → level ≢ levels.Page
@@ -22,7 +22,7 @@ no_page _ has same = absurd cc
 abbrev place_of : Meta → Place
 place_of meta = record { level = meta.level; index = meta.index }
 
-takes : (o : OpenData) (t : TransferData) (meta : Meta) (digests : List (List ℕ)) (r : Result (Unit {0}) PartFault) → MayBeSaid meta → digests ≡ meta.digests.items → DigestIsKnown o.transfer
+takes : (o : OpenData) (t : TransferData) (meta : Meta) (digests : List (List ℕ)) (r : Result (Unit {0}) PartFault) → MayBeSent meta → digests ≡ meta.digests.items → DigestIsKnown o.transfer
     → OnOk r (IsMetaAsked o.transfer meta.number.0 (place_of meta)) → OnOk r (wanted o.transfer (place_of meta) ≡ Some (digest_of_children digests)) → OnOk r (t ≡ with_digests o.transfer (place_of meta) digests)
     → IfErr r (RefusesMeta o.transfer meta.number.0 (place_of meta) digests) → OnErr r (t ≡ o.transfer) → TakesDigestsOf o meta (record o { transfer = t }) (is_ok r)
 takes o t meta digests (Ok x) may same known asked fits ok fault err = (

@@ -6,7 +6,7 @@ use Rattle.wire_format.specs.Lists.{Each}
 use Rattle.wire_format.specs.Spelling.{IsBatch}
 use Rattle.view_change.specs.Sets.{texts_of}
 use Rattle.orderer.specs.State.{OrdererData}
-use Rattle.orderer.specs.EnteringViews.{LogsBatches}
+use Rattle.orderer.specs.EnterView.{LogsBatches}
 use Rattle.orderer.proofs.EnteringViews.{log_passed, log_added, all_logged}
 use Rattle.orderer.proofs.Parties.{party_kept, party_kept_twice}
 use Rattle.orderer.proofs.orderer.Orderer.log_begun.Goals as goal

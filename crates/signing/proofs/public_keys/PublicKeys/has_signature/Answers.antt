@@ -6,7 +6,7 @@ use Rattle.wire_format.specs.Views.{body_data, frame_data, authenticator_data}
 use Rattle.authenticator.specs.Keys.{signing_seed}
 use Rattle.authenticator.proofs.Frames.{body-short}
 use Rattle.signing.specs.Signatures.{public_key, verifies}
-use Rattle.signing.proofs.Heard.{signs-signature, verifies-Decides}
+use Rattle.signing.proofs.AuthenticBody.{signs-signature, verifies-Decides}
 use Rattle.signing.proofs.public_keys.PublicKeys.has_signature.Goals as goal
 
 pub returns-in-Signature : goal.returns-in-Signature

@@ -3,7 +3,7 @@ use Rattle.std.specs.Prelude.{vec_len}
 use Rattle.space.specs.Filing.{KeepsTable}
 use Rattle.space.proofs.birth_table.BirthTable.reach.Given as goal
 
--- what was listed is
+-- listed births stay listed
 abbrev pub invariant-loop-self : goal.invariant-loop-self
 invariant-loop-self l = KeepsTable l.fn.self l.self
 

@@ -3,8 +3,8 @@ use Rattle.std.specs.Prelude.{IfOk}
 use Rattle.terms.specs.declared.parties.Party.TheVariants as parties
 use Rattle.wire_format.specs.Views.{message_data}
 use Rattle.authenticator.specs.Membership.{Membership}
-use Rattle.posting.specs.Endpoint.{SealsForOne}
-use Rattle.read_only.specs.Hearing.{HearsRead}
+use Rattle.frame_endpoint.specs.Endpoint.{SealsForOne}
+use Rattle.read_only.specs.Receiving.{AuthenticatesRead}
 use Rattle.space_node.specs.Drills.{IsStale}
 use Rattle.space_node.proofs.Stale.{if_some, stale}
 use Rattle.space_node.proofs.drilling.Stale.answer.Goals as goal
@@ -16,9 +16,9 @@ returns c =
     let request = c.in_ok-request.request in
     let receiver = parties.Client request.client in
     let message = message_data c.reply_message-message.result in
-    let hears : HearsRead s.ring s.me.0 bytes request.client.number request.timestamp.0 request.op.now = search rules in
+    let receives : AuthenticatesRead s.ring s.me.0 bytes request.client.number request.timestamp.0 request.op.now = search rules in
     let posted : IfOk c.seal_for_one.result (SealsForOne s.ring s.me.0 message receiver) =
-    subst (λ (m : Membership). IfOk c.seal_for_one.result (SealsForOne m s.me.0 message receiver)) c.hear_read.ensures.same c.seal_for_one.ensures.posted in
+    subst (λ (m : Membership). IfOk c.seal_for_one.result (SealsForOne m s.me.0 message receiver)) c.authenticate_read.ensures.same c.seal_for_one.ensures.posted in
     if_some c.seal_for_one.result c.ok.result (SealsForOne s.ring s.me.0 message receiver) (IsStale s.ring s.me.0 bytes) c.ok.ensures.value
-    (λ output sealed. stale s.ring s.me.0 bytes _ request c.in-Ok.reply hears c.in-Ok.ensures.answer c.new-space.ensures.state refl message receiver output
+    (λ output sealed. stale s.ring s.me.0 bytes _ request c.in-Ok.reply receives c.in-Ok.ensures.answer c.new-space.ensures.state refl message receiver output
     c.reply_message-message.ensures.says refl sealed) posted

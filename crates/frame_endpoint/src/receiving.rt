@@ -1,0 +1,56 @@
+//! Received frames.
+
+ghost use Rattle.std.specs.Prelude.{◌≡◌, IfOk, option_map};
+ghost use Rattle.wire_format.specs.Views.{body_data};
+ghost use Rattle.signing.specs.AuthenticBody.{authentic};
+ghost use Rattle.frame_endpoint.specs.Endpoint.{are_authentic};
+ghost use Rattle.frame_endpoint.specs.Frames.{slice_texts};
+
+use authenticator::Ring;
+use signing::{AuthenticFrame, AuthenticationFault, PublicKeys, authenticate, is_authentic_for};
+use std::alloc::Global;
+use terms::{NoMemory, Party, ReplicaId};
+use wire::Body;
+
+/// The body of the frame in the bytes, if it is authentic to the replica.
+pub(crate) fn authenticate_body(
+    ring: &mut Ring,
+    publics: &PublicKeys,
+    alloc: Global,
+    me: ReplicaId,
+    bytes: &[u8],
+) -> Result<Option<Body>, NoMemory>
+    requires keys { publics.now ≡ ring.old.seed }
+    ensures authentic { IfOk result (λ b. authentic ring.old me.0 bytes.now ≡ option_map body_data b) }
+    ensures same { ring.new ≡ ring.old }
+{
+    match authenticate(alloc, ring, publics, bytes, Party::Replica(me)) {
+        Ok(authentic) => {
+            let AuthenticFrame { bytes: _, body } = authentic;
+            Ok(Some(body))
+        }
+        Err(fault) => match fault {
+            AuthenticationFault::NoMemory => Err(NoMemory),
+            _ => Ok(None),
+        },
+    }
+}
+
+/// Whether each of these is a frame that is authentic to the replica. Nothing is decoded.
+pub(crate) fn are_all_authentic(
+    ring: &mut Ring,
+    publics: &PublicKeys,
+    me: ReplicaId,
+    frames: &[&[u8]],
+) -> bool
+    requires keys { publics.now ≡ ring.old.seed }
+    ensures authentic { result ≡ are_authentic ring.old me.0 (slice_texts frames.now) }
+    ensures same { ring.new ≡ ring.old }
+{
+    for frame in frames {
+        if !is_authentic_for(ring, publics, frame, Party::Replica(me)) {
+            return false;
+        }
+    }
+    true
+}

@@ -1,7 +1,0 @@
-use Rattle.std.proofs.lemmas.Result.{on_ok_weaker}
-use Rattle.orderer.proofs.Voting.{says_votes}
-use Rattle.orderer.proofs.orderer.Orderer.say_votes.Goals as goal
-
-pub returns-clause-ok : goal.returns-clause-ok
-returns-clause-ok c =
-    on_ok_weaker c.say_due_commit.result (λ k. says_votes c.args.number.0 _ _ _ _ _ _ c.in_ok-say_due_prepare.ensures.ok k) c.say_due_commit.ensures.ok

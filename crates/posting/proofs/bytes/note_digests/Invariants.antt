@@ -1,6 +1,0 @@
-use Rattle.std.proofs.Common.{ℕ, ◌<◌, [], get_or}
-use Rattle.wire_format.specs.Spelling.{IsDigest}
-use Rattle.posting.proofs.bytes.note_digests.Given as goal
-
-abbrev pub invariant-loop-digest : goal.invariant-loop-digest
-invariant-loop-digest l = (i : ℕ) → i < l.digest-index → IsDigest (get_or l.digests i [])

@@ -1,4 +1,0 @@
-use Rattle.posting.proofs.endpoint.Endpoint.post_to.Goals as goal
-
-pub returns-clause-posted : goal.returns-clause-posted
-returns-clause-posted c = rw (← c.self.view_is) c.seal_for_one.ensures.posted

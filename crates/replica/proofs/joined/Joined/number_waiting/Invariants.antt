@@ -1,5 +1,0 @@
-use Rattle.replica.proofs.NumbersGiven.{NumbersSoFar}
-use Rattle.replica.proofs.joined.Joined.number_waiting.Given as goal
-
-abbrev pub invariant-loop : goal.invariant-loop
-invariant-loop l = NumbersSoFar l.counter l.initial.self l.initial.outputs.items l.self l.outputs.items

@@ -1,8 +1,0 @@
-use Rattle.replica.specs.JoinedView.{joined_data}
-use Rattle.replica.proofs.ReadsCome.{answers_bytes}
-use Rattle.replica.proofs.joined.Joined.on_read.Goals as goal
-
-pub returns-clause-ok : goal.returns-clause-ok
-returns-clause-ok c =
-    rw (c.in_ok-read.ensures.same, ← c.self.view_is)
-    (answers_bytes (joined_data c.self.inside) c.args.bytes.now c.read.new.outputs.items c.self.invariant (rw (← c.requires.first) c.in_ok-read.ensures.ok))
