@@ -14,7 +14,7 @@ use Rattle.events.specs.Outputs.{entry_of, after_entries}
 use Rattle.client_cert.specs.State.{CallState, ClientState, me_of, called, went}
 use Rattle.client_cert.specs.Fits.{FitsRunningClient, Fits}
 use Rattle.client_cert.specs.Steps.{HistoryStaysRight, CallWeighsBytes, ChangesOnlyCall, KeepsWhetherOpen, SendsRequest}
-use Rattle.client_cert.proofs.Holding.{holds_begun, holds_sent}
+use Rattle.client_cert.proofs.Holding.{holds_invoked, holds_sent}
 use Rattle.client_cert.proofs.Fitting.{gives_request, true_not}
 use Rattle.client_cert.proofs.Stepping.{fits_moved, nothing_given, request_given, answer_given, got_unasked, tick_unasked, tick_asked, stops_got, stops_tick}
 
@@ -90,7 +90,7 @@ call_leads old mid new op mode outs is none runs e kind a c history f = go (subs
         let r = x.asks c f.members_are in
         let request : IsRequest c (me_of old) mode (record { timestamp = suc old.calls; op = op }) x.text = subst (λ (k : Operation). IsRequest c (me_of old) mode (record { timestamp = suc old.calls; op = k }) x.text) (ap (λ k. k.op) (sym same)) r in
         let h = holds_sent c (me_of old) (me_of old) (suc old.calls) x.text (Invoke old.number (suc old.calls) op ∷ history) mode op (first_call op) request.says
-        (holds_begun c (me_of old) old.number (suc old.calls) op history) in
+        (holds_invoked c (me_of old) old.number (suc old.calls) op history) in
         let gave = gives_request c (me_of old) (reaction c (me_of old)) (Invoke old.number (suc old.calls) op) x.text mode (record { timestamp = suc old.calls; op = op }) history
         refl refl (may_call c old history op f none is) (ap (λ b. asks b (record { timestamp = suc old.calls; op = op })) (sym kind)) request (f.running runs).gave in
         one_output c new (map (entry_of (me_of old)) outs) (Sent (me_of old) x.text) (Invoke old.number (suc old.calls) op ∷ history) x.given

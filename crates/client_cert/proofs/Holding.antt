@@ -26,9 +26,9 @@ unfolding latest
 first_ballots c me k t op history modes.Ordered s = refl
 first_ballots c me k t op history modes.ReadOnly s = refl
 
-pub holds_begun : (c : Configuration) (me k t : ℕ) (op : Operation) (history : List Entry)
+pub holds_invoked : (c : Configuration) (me k t : ℕ) (op : Operation) (history : List Entry)
     → FitsWithinEvents c me (Invoke k t op ∷ history) t (Some (record { op = op; ordered = false; ordered_ballots = []; read_ballots = [] }))
-holds_begun c me k t op history =
+holds_invoked c me k t op history =
     record { last_is = refl; call_is = record { open_is = refl; ordered_is = refl; ballots_are = first_ballots c me k t op history } }
 
 pub holds_tick : (c : Configuration) (me p t : ℕ) (history : List Entry) (call : Option CallState) → FitsWithinEvents c me history t call → FitsWithinEvents c me (Tick p ∷ history) t call

@@ -19,7 +19,7 @@ use Rattle.tuple_codec.proofs.Lengths.{operation_short}
 use Rattle.authenticator.specs.Membership.{Membership}
 use Rattle.authenticator.specs.Sealing.{sealed_for, IsSealable, IsTooLong}
 use Rattle.protocol.specs.System.Configuration.{Configuration, members, replicas}
-use Rattle.protocol.proofs.Words.Posting.{sealed_is_outgoing}
+use Rattle.protocol.proofs.Words.Outgoing.{sealed_is_outgoing}
 use Rattle.events.specs.Outputs.{receivers_in}
 use Rattle.events.proofs.Meant.{sealed_is_for}
 use Rattle.client_cert.specs.Asking.{AsksWith, IsShort}

@@ -18,7 +18,7 @@ use Rattle.protocol.specs.System.Trace.{Entry, history_of, party_of}
 use Rattle.protocol.specs.System.Trace.Entry.{Invoke, Accepted}
 use Rattle.protocol.specs.Client.RightClient.{last_call}
 use Rattle.space_node.specs.Calls.{Called}
-use Rattle.space_node.specs.Seats.{Seated}
+use Rattle.space_node.specs.PartyStates.{PartyState}
 use Rattle.space_node.proofs.Calling.{last_quiet}
 use Rattle.cluster_run.specs.Answers.{AnswersRun, AreAnswered, CallIsAnswered}
 use Rattle.cluster_run.specs.Hands.{AreDealt, AreGathered, Hands, HandsAreCalled, HasCalled, HasTrace, dealt_at}
@@ -52,7 +52,7 @@ last_or xs ys x y P count last each j a b at bt = elim (cases_eq j (length xs)) 
   | inr off ↦ each j a b (sym (get_before xs x j off) ∙ at) (sym (get_before ys y j (λ e. off (e ∙ count))) ∙ bt)
 ]
 
-pub one_call : (start old new : Seated) (ops : List Operation) (answers : List Outcome) (op : Operation) (answer : Outcome) → HasCalled start ops answers old → Called old op answer new
+pub one_call : (start old new : PartyState) (ops : List Operation) (answers : List Outcome) (op : Operation) (answer : Outcome) → HasCalled start ops answers old → Called old op answer new
     → HasCalled start (ops ++ op ∷ []) (answers ++ answer ∷ []) new
 one_call start old new ops answers op answer so_far call =
     let k = old.party - 256 in
@@ -85,7 +85,7 @@ in_hand f (v ∷ hands) (suc h) j y e = in_hand f hands h j y e
 in_trace : (trace : List Entry) (p : ℕ) (e : Entry) → Contains (history_of p trace) e → Contains trace e
 in_trace trace p e h = All-contains (Contains trace) (history_of p trace) e (All-filter (λ x. party_of x == p) (Contains trace) trace (All-contains_itself trace)) h
 
-module _ (c : Configuration) (ops : List (Op Global)) (answers : List (Answer Global)) (hands : Hands (Op Global)) (given : Hands (Answer Global)) (clients : List Seated)
+module _ (c : Configuration) (ops : List (Op Global)) (answers : List (Answer Global)) (hands : Hands (Op Global)) (given : Hands (Answer Global)) (clients : List PartyState)
     (some : 0 < c.clients) (dealt : AreDealt ops c.clients hands) (called : HandsAreCalled hands clients given) (gathered : AreGathered given c.clients (length ops) answers)
     (done : HasTrace c clients) where
   answered : AreAnswered done.trace c.clients (map operation_of ops) (map outcome_of answers)
@@ -118,7 +118,7 @@ module _ (c : Configuration) (ops : List (Op Global)) (answers : List (Answer Gl
   pub answers_run : AnswersRun c (map operation_of ops) (map outcome_of answers)
   answers_run = record { trace = done.trace; proper = done.proper; answered = answered }
 
-pub call_more : (start old new : Seated) (ops : List (Op Global)) (answers : List (Answer Global)) (op : Op Global) (answer : Answer Global)
+pub call_more : (start old new : PartyState) (ops : List (Op Global)) (answers : List (Answer Global)) (op : Op Global) (answer : Answer Global)
     → HasCalled start (map operation_of ops) (map outcome_of answers) old → Called old (operation_of op) (outcome_of answer) new
     → HasCalled start (map operation_of (ops ++ op ∷ [])) (map outcome_of (answers ++ answer ∷ [])) new
 call_more start old new ops answers op answer so_far call =
@@ -127,7 +127,7 @@ call_more start old new ops answers op answer so_far call =
     (one_call start old new (map operation_of ops) (map outcome_of answers) (operation_of op) (outcome_of answer) so_far call))
 
 pub gathered_run : (answers : List (Answer Global)) (c : Configuration) (ops : List (Op Global)) (hands : Hands (Op Global)) (given : Hands (Answer Global))
-    (clients : List Seated) (n count : ℕ) → n ≡ c.clients → count ≡ length ops → 0 < n → AreDealt ops n hands → HandsAreCalled hands clients given → HasTrace c clients
+    (clients : List PartyState) (n count : ℕ) → n ≡ c.clients → count ≡ length ops → 0 < n → AreDealt ops n hands → HandsAreCalled hands clients given → HasTrace c clients
     → AreGathered given n count answers → AnswersRun c (map operation_of ops) (map outcome_of answers)
 gathered_run answers c ops hands given clients n count so_many all some dealt called done are =
     answers_run c ops answers hands given clients (subst (λ k. 0 < k) so_many some) (subst (λ k. AreDealt ops k hands) so_many dealt) called

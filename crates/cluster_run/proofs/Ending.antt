@@ -3,11 +3,11 @@ use Rattle.std.proofs.Common.{ℕ, List}
 use Rattle.protocol.specs.System.Configuration.{Configuration}
 use Rattle.protocol.specs.System.Trace.{Entry}
 use Rattle.space_node.specs.Runs.{IsFaultless, IsFinished}
-use Rattle.space_node.specs.Seats.{Seated}
+use Rattle.space_node.specs.PartyStates.{PartyState}
 use Rattle.cluster_run.specs.Hands.{HasTrace}
 
 -- Its trace is proper, and has the histories of the clients that were handed in.
-pub has_trace : (c : Configuration) (trace : List Entry) (shares : List Seated) (stopped : List ℕ) (clients : List Seated)
+pub has_trace : (c : Configuration) (trace : List Entry) (shares : List PartyState) (stopped : List ℕ) (clients : List PartyState)
     → IsFaultless c → IsFinished c trace shares stopped clients → HasTrace c clients
 has_trace c trace shares stopped clients faultless finished = record {
   trace = trace;

@@ -10,7 +10,7 @@ use Rattle.std.proofs.lemmas.Option.{same_Some, slice_get_within}
 use Rattle.std.proofs.lemmas.Bool.{cases_eq}
 use Rattle.tuple_codec.specs.declared.operations.Answer.{Answer}
 use Rattle.tuple_codec.specs.declared.operations.Op.{Op}
-use Rattle.space_node.specs.Seats.{Seated}
+use Rattle.space_node.specs.PartyStates.{PartyState}
 use Rattle.cluster_run.specs.Hands.{Hands, HandsAreCalled, HasCalledHand}
 use Rattle.cluster_run.specs.Threads.{AddsCalled, AreJoined, AreStarted, StartsThread, promises_of}
 use Rattle.cluster_run.specs.declared.calling.AllCalled.{AllCalled}
@@ -31,7 +31,7 @@ started_more hands hand old new n so_far starts at is = (
   ap length starts.new_is ∙ length_push old starts.promise,
 )
 
-pub joined_more : (ps : List CallsHand) (clients : List Seated) (answers : Hands (Answer Global)) (p : CallsHand) (s : Seated) (v : Vec (Answer Global) Global)
+pub joined_more : (ps : List CallsHand) (clients : List PartyState) (answers : Hands (Answer Global)) (p : CallsHand) (s : PartyState) (v : Vec (Answer Global) Global)
     → AreJoined ps clients answers → HasCalledHand p.ops.value p.number v s → AreJoined (ps ++ p ∷ []) (clients ++ s ∷ []) (answers ++ v ∷ [])
 joined_more ps clients answers p s v so_far called = record {
   clients_count = length_push clients s ∙ (ap (λ n. n + 1) so_far.clients_count ∙ sym (length_push ps p));
@@ -46,7 +46,7 @@ joined_more ps clients answers p s v so_far called = record {
   ];
 }
 
-pub hands_called : (hands : Hands (Op Global)) (ps : List CallsHand) (clients : List Seated) (answers : Hands (Answer Global)) → AreStarted hands ps → AreJoined ps clients answers
+pub hands_called : (hands : Hands (Op Global)) (ps : List CallsHand) (clients : List PartyState) (answers : Hands (Answer Global)) → AreStarted hands ps → AreJoined ps clients answers
     → HandsAreCalled hands clients answers
 hands_called hands ps clients answers started joined h v at =
     let below : h < length answers = slice_get_within answers h v at in
@@ -61,7 +61,7 @@ hands_called hands ps clients answers started joined h v at =
       called = subst (λ n. HasCalledHand p.0.ops.value n v s.0) is.0 (joined.each h p.0 s.0 v p.1 s.1 at);
     }
 
-joined_one : {N E : Type 0} (r : Result (Vec (Answer Global) Global) E) (ps : List CallsHand) (p : CallsHand) (s : Seated) (old new : AllCalled N) → AreJoined ps old.clients.items old.answers.items
+joined_one : {N E : Type 0} (r : Result (Vec (Answer Global) Global) E) (ps : List CallsHand) (p : CallsHand) (s : PartyState) (old new : AllCalled N) → AreJoined ps old.clients.items old.answers.items
     → MatchResult r (λ v. (new.clients.items ≡ old.clients.items ++ s ∷ []) × (new.answers.items ≡ old.answers.items ++ v ∷ [])) (λ fault. ⊥) → IfOk r (λ v. HasCalledHand p.ops.value p.number v s)
     → AreJoined (ps ++ p ∷ []) new.clients.items new.answers.items
 joined_one (Ok v) ps p s old new so_far adds called =
@@ -89,7 +89,7 @@ starts old new thread n hand is number_is hand_is = record {
   new_is = ap promises_of is ∙ promises_more old thread;
 }
 
-pub called_or : {E : Type 0} (started joined : Result (Unit {0}) E) (hands : Hands (Op Global)) (ps : List CallsHand) (clients : List Seated) (answers : Hands (Answer Global))
+pub called_or : {E : Type 0} (started joined : Result (Unit {0}) E) (hands : Hands (Op Global)) (ps : List CallsHand) (clients : List PartyState) (answers : Hands (Answer Global))
     → OnOk started (AreStarted hands ps) → OnOk joined (AreJoined ps clients answers) → OnOk (result_and started joined) (HandsAreCalled hands clients answers)
 called_or (Ok u) (Ok w) hands ps clients answers starts joins = hands_called hands ps clients answers starts joins
 called_or (Ok u) (Err e) hands ps clients answers starts joins = search rules

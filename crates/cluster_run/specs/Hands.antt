@@ -12,7 +12,7 @@ use Rattle.protocol.specs.System.Configuration.{Configuration}
 use Rattle.protocol.specs.System.Trace.{Entry}
 use Rattle.protocol.specs.Client.RightClient.{last_call}
 use Rattle.space_node.specs.Runs.{HasHistories}
-use Rattle.space_node.specs.Seats.{Seated, new_seat}
+use Rattle.space_node.specs.PartyStates.{PartyState, new_party_state}
 use Rattle.cluster_run.specs.Answers.{CallIsAnswered, IsProper}
 
 -- ---- dealing
@@ -42,35 +42,37 @@ pub record TakesItem {X : Type 0} (old : Hands X) (hand place : ℕ) (x : X) (ne
 -- ---- calling
 
 -- Since start the client called these operations, its first ones, and got these answers.
-pub record HasCalled (start : Seated) (ops : List Operation) (answers : List Outcome) (now : Seated) : Type 0 where
-  pub party : now.party ≡ start.party
-  pub calls : last_call now.history ≡ length ops
-  pub count : length answers ≡ length ops
-  pub each : (j : ℕ) (op : Operation) (answer : Outcome) → slice_get ops j ≡ Some op
-      → slice_get answers j ≡ Some answer → CallIsAnswered now.history (client_number start.party) (suc j) op answer
+pub record HasCalled (start : PartyState) (ops : List Operation) (answers : List Outcome) (now : PartyState) : Type 0
+  where
+    pub party : now.party ≡ start.party
+    pub calls : last_call now.history ≡ length ops
+    pub count : length answers ≡ length ops
+    pub each : (j : ℕ) (op : Operation) (answer : Outcome) → slice_get ops j ≡ Some op
+        → slice_get answers j ≡ Some answer → CallIsAnswered now.history (client_number start.party) (suc j) op answer
 
 -- the client called the operations of its hand, and got these answers
-abbrev pub HasCalledHand : Vec (Op Global) Global → ℕ → Vec (Answer Global) Global → Seated → Type 0
+abbrev pub HasCalledHand : Vec (Op Global) Global → ℕ → Vec (Answer Global) Global → PartyState → Type 0
 HasCalledHand hand number answers client =
-    HasCalled (new_seat (client_party number)) (map operation_of hand.items) (map outcome_of answers.items) client
+    HasCalled (new_party_state (client_party number)) (map operation_of hand.items) (map outcome_of answers.items)
+    client
 
 -- These are the answers that the client at h, which has the number h, got to hand h.
-pub record HandIsCalled (hands : Hands (Op Global)) (clients : List Seated) (h : ℕ)
+pub record HandIsCalled (hands : Hands (Op Global)) (clients : List PartyState) (h : ℕ)
     (answers : Vec (Answer Global) Global) : Type 0 where
   pub hand : Vec (Op Global) Global
   pub hand_is : slice_get hands h ≡ Some hand
-  pub client : Seated
+  pub client : PartyState
   pub client_is : slice_get clients h ≡ Some client
   pub called : HasCalledHand hand h answers client
 
-abbrev pub HandsAreCalled : Hands (Op Global) → List Seated → Hands (Answer Global) → Type 0
+abbrev pub HandsAreCalled : Hands (Op Global) → List PartyState → Hands (Answer Global) → Type 0
 HandsAreCalled hands clients answers =
     (h : ℕ) (v : Vec (Answer Global) Global) → slice_get answers h ≡ Some v → HandIsCalled hands clients h v
 
 -- ---- the end
 
 -- a proper trace with these clients' histories
-pub record HasTrace (c : Configuration) (clients : List Seated) : Type 0 where
+pub record HasTrace (c : Configuration) (clients : List PartyState) : Type 0 where
   pub trace : List Entry
   pub proper : IsProper c trace
   pub clients_are : HasHistories trace clients

@@ -5,7 +5,7 @@ use Rattle.std.specs.declared.thread.PromisedHandle.{PromisedHandle}
 use Rattle.std.specs.declared.vec.Vec.{Vec}
 use Rattle.tuple_codec.specs.declared.operations.Answer.{Answer}
 use Rattle.tuple_codec.specs.declared.operations.Op.{Op}
-use Rattle.space_node.specs.Seats.{Seated}
+use Rattle.space_node.specs.PartyStates.{PartyState}
 use Rattle.cluster_run.specs.Hands.{Hands, HasCalledHand}
 use Rattle.cluster_run.specs.declared.calling.AllCalled.{AllCalled}
 use Rattle.cluster_run.specs.declared.calling.Called.{Called}
@@ -37,9 +37,9 @@ AddsCalled old called new =
     (λ fault. ⊥)
 
 -- the result of each thread is its client, and the answers that the client got to its hand
-pub record AreJoined (promises : List CallsHand) (clients : List Seated) (answers : Hands (Answer Global)) : Type 0
+pub record AreJoined (promises : List CallsHand) (clients : List PartyState) (answers : Hands (Answer Global)) : Type 0
   where
     pub clients_count : length clients ≡ length promises
     pub answers_count : length answers ≡ length promises
-    pub each : (h : ℕ) (p : CallsHand) (s : Seated) (v : Vec (Answer Global) Global) → slice_get promises h ≡ Some p
+    pub each : (h : ℕ) (p : CallsHand) (s : PartyState) (v : Vec (Answer Global) Global) → slice_get promises h ≡ Some p
         → slice_get clients h ≡ Some s → slice_get answers h ≡ Some v → HasCalledHand p.ops.value p.number v s

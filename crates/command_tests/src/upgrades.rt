@@ -140,27 +140,27 @@ rdAll 64 (?int ?wide)
 
 // The answers of a client up to one of them.
 #[derive(Clone, Copy)]
-struct Heard {
+struct Learned {
     // An answer came from a space of version 2.
     is_upgraded: bool,
     // The oldest wide number of the client that is there, or the next one that is listed.
     next: Option<u64>,
 }
 
-impl Heard {
+impl Learned {
     // Judges a line of a client other than client 0.
-    fn authenticate(&mut self, call: Call, client: usize, round: usize, line: &str) -> bool {
+    fn note(&mut self, call: Call, client: usize, round: usize, line: &str) -> bool {
         match call {
-            Call::PutWide => self.hear_put(round as u64, line),
-            Call::FindWide => self.hear_found(client, line),
+            Call::PutWide => self.note_put(round as u64, line),
+            Call::FindWide => self.note_found(client, line),
             Call::PutNumber => line == "done",
-            Call::FindNew => self.hear_new(line),
+            Call::FindNew => self.note_new(line),
             Call::Upgrade => line == "refused",
         }
     }
 
     // Once version 2 answered a client, it refuses nothing more.
-    fn hear_put(&mut self, round: u64, line: &str) -> bool {
+    fn note_put(&mut self, round: u64, line: &str) -> bool {
         if line == "refused" {
             return !self.is_upgraded;
         }
@@ -170,7 +170,7 @@ impl Heard {
     }
 
     // The client finds its tuple, if the tuple was not refused.
-    fn hear_found(&mut self, client: usize, line: &str) -> bool {
+    fn note_found(&mut self, client: usize, line: &str) -> bool {
         if line == "refused" {
             return !self.is_upgraded;
         }
@@ -184,7 +184,7 @@ impl Heard {
     }
 
     // Whoever finds the tuple that was put after the upgrade comes after the upgrade too.
-    fn hear_new(&mut self, line: &str) -> bool {
+    fn note_new(&mut self, line: &str) -> bool {
         if line == "absent" {
             return true;
         }
@@ -206,23 +206,23 @@ fn wide_tuple(text: &str) -> Option<(usize, u64)> {
     Some((client.parse().ok()?, number.parse().ok()?))
 }
 
-fn is_tuple_listed(text: &str, heard: &mut [Heard]) -> bool {
+fn is_tuple_listed(text: &str, learned: &mut [Learned]) -> bool {
     let Some((client, round)) = wide_tuple(text) else {
         return false;
     };
-    match heard.get_mut(client) {
-        Some(heard) => heard.is_listed(round),
+    match learned.get_mut(client) {
+        Some(learned) => learned.is_listed(round),
         None => false,
     }
 }
 
 // The tuples of client 0 are all listed. Of the other clients some may be missing, as they may still run.
-fn is_listing(line: &str, heard: &mut [Heard]) -> bool {
+fn is_listing(line: &str, learned: &mut [Learned]) -> bool {
     let mut texts = line.split('(');
     let front = texts.next();
     let mut count = 0u64;
     for text in texts {
-        if !is_tuple_listed(text, heard) {
+        if !is_tuple_listed(text, learned) {
             return false;
         }
         count = count.saturating_add(1);
@@ -231,38 +231,38 @@ fn is_listing(line: &str, heard: &mut [Heard]) -> bool {
         .and_then(|front| front.strip_prefix("all "))
         .and_then(|number| number.trim_end().parse::<u64>().ok());
     told == Some(count)
-        && heard
+        && learned
             .first()
             .is_some_and(|first| first.next == Some(LAST_LEFT + 2))
 }
 
-fn is_answer(place: usize, line: &str, heard: &mut [Heard]) -> bool {
+fn is_answer(place: usize, line: &str, learned: &mut [Learned]) -> bool {
     let (round, client) = (place / CLIENTS, place % CLIENTS);
     match (
         FIRST_CLIENT.get(round),
         CALLS.get(round),
-        heard.get_mut(client),
+        learned.get_mut(client),
     ) {
         (Some(first), _, _) if client == 0 => line == *first,
-        (_, Some(call), Some(heard)) => heard.authenticate(*call, client, round, line),
-        _ => client == 0 && is_listing(line, heard),
+        (_, Some(call), Some(learned)) => learned.note(*call, client, round, line),
+        _ => client == 0 && is_listing(line, learned),
     }
 }
 
 // Whether each line is an answer that some order of the calls gives, as far as this can be judged.
 fn are_answers(text: &str) -> bool {
-    let nothing = Heard {
+    let nothing = Learned {
         is_upgraded: false,
         next: None,
     };
-    let left = Heard {
+    let left = Learned {
         is_upgraded: true,
         next: Some(FIRST_LEFT),
     };
-    let mut heard = [left, nothing, nothing, nothing];
+    let mut learned = [left, nothing, nothing, nothing];
     let mut count = 0;
     for (place, line) in text.lines().enumerate() {
-        if !is_answer(place, line, &mut heard) {
+        if !is_answer(place, line, &mut learned) {
             return false;
         }
         count = place;

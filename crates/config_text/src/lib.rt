@@ -2,10 +2,10 @@
 //!
 //! # What is proved
 //!
-//! `read_config` is safe and returns, on any bytes. Its result is the configuration that the text says (`Says`): each
-//! value stands under its key in the text's table, or has its default if the key is missing; no other key stands
-//! there, and all values are valid. A refused text says no configuration (`JudgesSettings`). That memory suffices is
-//! tested (`text_tests`).
+//! `read_config` is safe and returns, on any bytes. Its result is the configuration that the text says
+//! (`SaysSettings`): each value stands under its key in the text's table, or has its default if the key is missing; no
+//! other key stands there, and all values are valid. A refused text says no configuration (`JudgesSettings`). That
+//! memory suffices is tested (`text_tests`).
 #![tactic(auto)]
 
 mod fault;

@@ -9,7 +9,7 @@ use Rattle.wire_format.specs.Lists.{Each}
 use Rattle.wire_format.specs.Spelling.{IsCarried, is_ordered_request}
 use Rattle.wire_format.specs.Views.{texts_of}
 use Rattle.desk.specs.declared.waiting.WaitingRequest.{WaitingRequest}
-use Rattle.desk.specs.declared.waiting.BegunCall.{BegunCall}
+use Rattle.desk.specs.declared.waiting.AssignedCall.{AssignedCall}
 use Rattle.desk.specs.Waiting.{WaitingData, HasRequestFrame, IsWaiting, keeping, texts, all_unnumbered, unnumbered, count_unnumbered, all_numbered, with_numbered, renumbered, with_view}
 
 each_taken : (n : ℕ) (xs : List WaitingRequest) → Each HasRequestFrame xs → Each HasRequestFrame (take n xs)
@@ -43,12 +43,12 @@ each_numbered (suc n) (x ∷ xs) h = go x.numbered (each_numbered (suc n) xs h.1
 pub numbered_waits : (n : ℕ) (w : WaitingData) → IsWaiting w → IsWaiting (with_numbered n w)
 numbered_waits n w h = record { each = each_numbered n w.requests h.each }
 
-each_renumbered : (begun : List BegunCall) (xs : List WaitingRequest) → Each HasRequestFrame xs → Each HasRequestFrame (map (renumbered begun) xs)
-each_renumbered begun [] h = tt
-each_renumbered begun (x ∷ xs) h = (h.0, each_renumbered begun xs h.1)
+each_renumbered : (assigned : List AssignedCall) (xs : List WaitingRequest) → Each HasRequestFrame xs → Each HasRequestFrame (map (renumbered assigned) xs)
+each_renumbered assigned [] h = tt
+each_renumbered assigned (x ∷ xs) h = (h.0, each_renumbered assigned xs h.1)
 
-pub view_waits : (begun : List BegunCall) (w : WaitingData) → IsWaiting w → IsWaiting (with_view begun w)
-view_waits begun w h = record { each = each_renumbered begun w.requests h.each }
+pub view_waits : (assigned : List AssignedCall) (w : WaitingData) → IsWaiting w → IsWaiting (with_view assigned w)
+view_waits assigned w h = record { each = each_renumbered assigned w.requests h.each }
 
 -- if no more are assigned, all stay
 none_numbered : (xs : List WaitingRequest) → all_numbered 0 xs ≡ xs

@@ -1,5 +1,5 @@
 -- The desk of a history that a desk's data stand for, and their invariants.
-use Rattle.std.specs.Prelude.{◌≡◌, ◌≢◌, ◌≤◌, ℕ, List, map, Option, Some, option_map, AllPairs}
+use Rattle.std.specs.Prelude.{◌≡◌, ◌≢◌, ◌≤◌, ℕ, List, map, Some, option_map, AllPairs}
 use Rattle.std.specs.Option.{ForSome, option_map_or}
 use Rattle.tuple_codec.specs.Operations.{Operation, upgrade as Upgrade}
 use Rattle.wire_format.specs.Lists.{Each}

@@ -56,7 +56,7 @@ message_of reply = message_data (messages.Reply reply)
 pub record SendsToClient (d : DeskData) (client : ClientId) (message : Message)
     (before after : List Output) : Type 0 where
   pub output : Output
-  pub posts : SealsForOne d.membership d.me message (parties.Client client) output
+  pub sends_frame : SealsForOne d.membership d.me message (parties.Client client) output
   pub given_is : after ≡ before ++ output ∷ []
 
 -- so does the kept reply

@@ -22,7 +22,7 @@ use Rattle.protocol.specs.System.Trace.{Has}
 use Rattle.protocol.specs.Replica.State.{State}
 use Rattle.replica_histories.specs.Desk.{snapshot_of}
 use Rattle.replica_histories.specs.TransfersAnswers.{answer_by}
-use Rattle.desk.specs.declared.open_transfer.Taken.{Taken}
+use Rattle.desk.specs.declared.transfer.Taken.{Taken}
 use Rattle.desk.specs.State.{OpenData, DeskData}
 use Rattle.desk.specs.Waiting.{forgotten}
 use Rattle.desk.specs.Desking.{above_number}
@@ -58,12 +58,12 @@ abbrev pub target_number : DeskData → ℕ
 target_number d = elim d.transfer [ Some o ↦ o.transfer.number | None ↦ d.executed.state.number ]
 
 -- the transfer of a checkpoint's state: a new one, or the open one, moved to it
-abbrev pub opened_transfer : State → Option OpenData → CheckpointEntry → OpenData
-opened_transfer st None entry = started st entry
-opened_transfer st (Some o) entry = moved o entry
+abbrev pub targeted_transfer : State → Option OpenData → CheckpointEntry → OpenData
+targeted_transfer st None entry = started st entry
+targeted_transfer st (Some o) entry = moved o entry
 
 abbrev pub with_target : CheckpointEntry → DeskData → DeskData
-with_target entry d = record d { transfer = Some (opened_transfer d.executed.state d.transfer entry) }
+with_target entry d = record d { transfer = Some (targeted_transfer d.executed.state d.transfer entry) }
 
 -- The transfer's target becomes a checkpoint above that number; else nothing changes.
 abbrev pub SetsTarget : CheckpointEntry → DeskData → DeskData → Bool → Type 0

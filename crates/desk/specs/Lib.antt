@@ -2,12 +2,12 @@ pub mod Waiting
 pub mod Keeping
 pub mod State
 pub mod DeskView
-pub mod OpenTransferView
+pub mod StateTransferView
 pub mod SnapshotsView
 pub mod Transferring
 pub mod Desking
 pub mod Fetching
 pub mod Arriving
 pub mod Reading
-pub mod Begun
+pub mod Assigned
 pub mod DeskOf

@@ -12,7 +12,7 @@ use Rattle.state_transfer.specs.Places.{page_place}
 use Rattle.state_transfer.specs.Transfer.{TransferData, RestsOn as IsRested, new_transfer, moved_to, next_place, asking, wanted, with_digests, with_page, replaced_at, given_back}
 use Rattle.protocol.specs.Replica.State.{State, pages_of}
 use Rattle.replica_histories.specs.Fetching.{IsOther}
-use Rattle.desk.specs.declared.open_transfer.Taken.{Taken}
+use Rattle.desk.specs.declared.transfer.Taken.{Taken}
 use Rattle.desk.specs.State.{OpenData}
 
 -- a new one, from the state's pages, and one that is moved

@@ -9,15 +9,15 @@ use Rattle.wire_format.specs.Lists.{Each}
 use Rattle.wire_format.specs.Spelling.{IsCarried, is_ordered_request}
 use Rattle.protocol.specs.Replica.State.{State, last_time}
 use Rattle.desk.specs.declared.waiting.WaitingRequest.{WaitingRequest}
-use Rattle.desk.specs.declared.waiting.BegunCall.{BegunCall}
+use Rattle.desk.specs.declared.waiting.AssignedCall.{AssignedCall}
 
 -- the requests in order of arrival, and the calls in the new view with which the view began
 pub record WaitingData : Type 0 where
   pub requests : List WaitingRequest
-  pub begun : List BegunCall
+  pub assigned : List AssignedCall
 
 abbrev pub none_waiting : WaitingData
-none_waiting = record { requests = []; begun = [] }
+none_waiting = record { requests = []; assigned = [] }
 
 -- their frames
 abbrev pub texts : List WaitingRequest → List (List ℕ)
@@ -35,9 +35,9 @@ abbrev pub is_new : State → WaitingRequest → Bool
 is_new st r = nat_lt (last_time st r.client.number) r.timestamp.0
 
 -- the view began with the call
-abbrev pub is_begun : List BegunCall → ℕ → ℕ → Bool
-is_begun begun client timestamp =
-    list_any (λ b. (b.client.number == client) && (b.timestamp.0 == timestamp)) begun
+abbrev pub is_assigned : List AssignedCall → ℕ → ℕ → Bool
+is_assigned assigned client timestamp =
+    list_any (λ b. (b.client.number == client) && (b.timestamp.0 == timestamp)) assigned
 
 -- ---- queries
 
@@ -71,7 +71,7 @@ with_request client timestamp frame w = record w {
     client = client;
     timestamp = timestamp;
     frame = frame;
-    numbered = is_begun w.begun client.number timestamp.0;
+    numbered = is_assigned w.assigned client.number timestamp.0;
   } ∷ [];
 }
 
@@ -87,11 +87,11 @@ abbrev pub with_numbered : ℕ → WaitingData → WaitingData
 with_numbered count w = record w { requests = all_numbered count w.requests }
 
 -- a view begins with these calls: they alone have numbers
-abbrev pub renumbered : List BegunCall → WaitingRequest → WaitingRequest
-renumbered begun r = record r { numbered = is_begun begun r.client.number r.timestamp.0 }
+abbrev pub renumbered : List AssignedCall → WaitingRequest → WaitingRequest
+renumbered assigned r = record r { numbered = is_assigned assigned r.client.number r.timestamp.0 }
 
-abbrev pub with_view : List BegunCall → WaitingData → WaitingData
-with_view begun w = record { requests = map (renumbered begun) w.requests; begun = begun }
+abbrev pub with_view : List AssignedCall → WaitingData → WaitingData
+with_view assigned w = record { requests = map (renumbered assigned) w.requests; assigned = assigned }
 
 -- only those with the property
 abbrev pub keeping : (WaitingRequest → Bool) → WaitingData → WaitingData

@@ -11,8 +11,8 @@ ghost use Rattle.desk.specs.Waiting.{count_unnumbered, texts, unnumbered, with_n
 ghost use Rattle.desk.specs.Desking.{IsNewDesk, HasReply, RepliesAgain, RepliesToAll, RunsBatch, RunsWhole, SendsToClient, RequestWaits, message_of};
 
 use crate::keeping::pages_of;
-use crate::open_transfer::OpenTransfer;
 use crate::snapshots::Snapshots;
+use crate::transfer::StateTransfer;
 use crate::waiting::Waiting;
 use authenticator::{Ring, SealFault};
 use events::{Config, Output, Outputs, SharedBytes, Stop, emit};
@@ -35,7 +35,7 @@ pub struct Desk {
     /// It is over two kilobytes, with the digests of its tree. So it stays in its place when a part moves.
     pub(crate) executed: Box<Executed>,
     pub(crate) snapshots: Snapshots,
-    pub(crate) transfer: Option<OpenTransfer>,
+    pub(crate) transfer: Option<StateTransfer>,
     pub(crate) waiting: Waiting,
 }
 

@@ -10,7 +10,7 @@ ghost use Rattle.desk.specs.Fetching.{SetsTarget, AsksPart, PutsBack, SendsPart,
 ghost use Rattle.desk.specs.Transferring.{MayBeSent};
 
 use crate::desk::Desk;
-use crate::open_transfer::{OpenTransfer, Taken};
+use crate::transfer::{StateTransfer, Taken};
 use authenticator::SealFault;
 use events::{Outputs, Stop, emit};
 use frame_endpoint::{meta_message, page_message, seal_for_one};
@@ -95,7 +95,7 @@ impl Desk {
         }
         match &mut self.transfer {
             None => {
-                let open = OpenTransfer::start(alloc, entry, &mut *self.executed)?;
+                let open = StateTransfer::start(alloc, entry, &mut *self.executed)?;
                 self.transfer = Some(open);
             }
             Some(open) => open.move_to(entry),

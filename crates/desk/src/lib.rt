@@ -14,7 +14,7 @@
 //! drops all else (`AnswersBytes`).
 //!
 //! `arrival_of` tells a new request from one that waits and from an older one (`IsArrival`). A client has one waiting
-//! request, the latest. `note_begun` and `note_numbered` say which of them have a number in the view.
+//! request, the latest. `note_assigned` and `note_numbered` say which of them have a number in the view.
 //!
 //! At most three states are kept, the newest first, and none below the low mark. `send_part` sends a part of one of
 //! them to the replica that asks for it, and to no other. `set_target`, `take_digests`, `take_page` and `has_next_part`
@@ -32,16 +32,16 @@
 #![tactic(auto)]
 
 mod arriving;
-mod begun_calls;
+mod assigned_calls;
 mod desk;
 mod fetching;
 mod keeping;
-mod open_transfer;
 mod reading;
 mod snapshots;
+mod transfer;
 mod waiting;
 
 pub use arriving::Arrival;
 pub use desk::Desk;
-pub use open_transfer::Taken;
-pub use waiting::{BegunCall, WaitingRequest};
+pub use transfer::Taken;
+pub use waiting::{AssignedCall, WaitingRequest};

@@ -4,7 +4,7 @@ ghost use Rattle.std.specs.Prelude.{◌≡◌, ◌≤◌, ◌++◌, ◌∷◌, [
 ghost use Rattle.wire_format.specs.Lists.{Each};
 ghost use Rattle.wire_format.specs.Spelling.{IsCarried, is_ordered_request};
 ghost use Rattle.wire_format.specs.Views.{texts_of};
-ghost use Rattle.desk.specs.Waiting.{HasRequestFrame, count_unnumbered, none_waiting, lent, request_of, texts, unnumbered, unnumbered_texts, is_of, is_new, is_begun, all_numbered, renumbered, with_request, with_numbered, with_view, without_client, forgotten};
+ghost use Rattle.desk.specs.Waiting.{HasRequestFrame, count_unnumbered, none_waiting, lent, request_of, texts, unnumbered, unnumbered_texts, is_of, is_new, is_assigned, all_numbered, renumbered, with_request, with_numbered, with_view, without_client, forgotten};
 
 use events::Stop;
 use execution::Executed;
@@ -25,7 +25,7 @@ pub struct WaitingRequest {
 
 /// A call in the new view with which the view began. So it has a number in the view.
 #[derive(Clone, Copy, Drop)]
-pub struct BegunCall {
+pub struct AssignedCall {
     pub client: ClientId,
     pub timestamp: Timestamp,
 }
@@ -35,7 +35,7 @@ pub struct BegunCall {
 #[derive(Drop)]
 pub(crate) struct Waiting {
     requests: Vec<WaitingRequest>,
-    begun: Vec<BegunCall>,
+    assigned: Vec<AssignedCall>,
 }
 
 impl Model for Waiting {
@@ -43,9 +43,9 @@ impl Model for Waiting {
 
     ghost Value = { WaitingData };
 
-    ghost view = { λ w. record { requests = w.requests.items; begun = w.begun.items } };
+    ghost view = { λ w. record { requests = w.requests.items; assigned = w.assigned.items } };
 
-    ghost invariant = { λ w. IsWaiting (record { requests = w.requests.items; begun = w.begun.items }) };
+    ghost invariant = { λ w. IsWaiting (record { requests = w.requests.items; assigned = w.assigned.items }) };
 }
 
 impl Waiting {
@@ -54,7 +54,7 @@ impl Waiting {
     {
         Waiting {
             requests: Vec::new(alloc),
-            begun: Vec::new(alloc),
+            assigned: Vec::new(alloc),
         }
     }
 
@@ -113,7 +113,7 @@ impl Waiting {
         ensures ok { OnOk result (self.new ≡ with_request client timestamp frame self.old) }
         ensures err { OnErr result (self.new ≡ self.old) }
     {
-        let numbered = is_call_in(client, timestamp, &self.begun);
+        let numbered = is_call_in(client, timestamp, &self.assigned);
         self.requests.push(WaitingRequest {
             client,
             timestamp,
@@ -131,11 +131,11 @@ impl Waiting {
     }
 
     /// A view begins by a new view with these calls. They alone have a number in it.
-    pub(crate) fn begin_view(&mut self, calls: Vec<BegunCall>)
+    pub(crate) fn begin_view(&mut self, calls: Vec<AssignedCall>)
         ensures { self.new ≡ with_view calls.items self.old }
     {
         renumber(&calls, &mut self.requests);
-        self.begun = calls;
+        self.assigned = calls;
     }
 
     /// Removes the client's request, if one waits.
@@ -154,8 +154,8 @@ impl Waiting {
 }
 
 // Whether the call is one of these.
-fn is_call_in(client: ClientId, timestamp: Timestamp, calls: &[BegunCall]) -> bool
-    ensures { result ≡ is_begun calls.now client.number timestamp.0 }
+fn is_call_in(client: ClientId, timestamp: Timestamp, calls: &[AssignedCall]) -> bool
+    ensures { result ≡ is_assigned calls.now client.number timestamp.0 }
 {
     calls.iter().any(|call| call.client.number == client.number && call.timestamp.0 == timestamp.0)
 }
@@ -172,7 +172,7 @@ fn number_first(count: usize, requests: &mut Vec<WaitingRequest>)
     }
 }
 
-fn renumber(calls: &[BegunCall], requests: &mut Vec<WaitingRequest>)
+fn renumber(calls: &[AssignedCall], requests: &mut Vec<WaitingRequest>)
     ensures { requests.new.items ≡ map (renumbered calls.now) requests.old.items }
 {
     for request in requests.iter_mut() {

@@ -65,21 +65,21 @@ others_are c me l = without me 0 me (replicas c - suc me) (replicas c) (omega ar
 -- the frame that the bytes of an outgoing frame spell
 outgoing_frame : (c : Configuration) (me : ℕ) (message : Message) (parties bytes : List ℕ) → IsOutgoing c me message parties bytes
     → (frame : Frame) × SpellsFrame bytes frame × (receivers_in c me bytes ≡ meant_for c me frame.authenticator) × (receivers_of frame.authenticator ≡ parties)
-outgoing_frame c me message parties bytes posted =
-    let (frame, spells, same) = (says_what_is_spelled bytes (record { sender = me; message = message })).0 posted.says in
+outgoing_frame c me message parties bytes is_outgoing =
+    let (frame, spells, same) = (says_what_is_spelled bytes (record { sender = me; message = message })).0 is_outgoing.says in
     let is = (reads_frames bytes frame).1 spells in
-    (frame, spells, in_frame c me bytes frame is, (posted.is_sealed frame is).1)
+    (frame, spells, in_frame c me bytes frame is, (is_outgoing.is_sealed frame is).1)
 
 -- A frame with MACs for some parties is for these.
 pub sealed_is_for : (c : Configuration) (me : ℕ) (message : Message) (parties bytes : List ℕ) → 1 ≤ length parties → IsOutgoing c me message parties bytes → receivers_in c me bytes ≡ parties
-sealed_is_for c me message parties bytes some posted =
-    let (frame, spells, is, so) = outgoing_frame c me message parties bytes posted in
+sealed_is_for c me message parties bytes some is_outgoing =
+    let (frame, spells, is, so) = outgoing_frame c me message parties bytes is_outgoing in
     is ∙ named c me parties frame.authenticator some so
 
 -- A signed frame is for all other replicas.
 pub signed_is_for : (c : Configuration) (me : ℕ) (message : Message) (bytes : List ℕ) → me < replicas c → IsOutgoing c me message [] bytes → receivers_in c me bytes ≡ others c me
-signed_is_for c me message bytes l posted =
-    let (frame, spells, is, none) = outgoing_frame c me message [] bytes posted in
+signed_is_for c me message bytes l is_outgoing =
+    let (frame, spells, is, none) = outgoing_frame c me message [] bytes is_outgoing in
     is ∙ unnamed c me frame.authenticator spells.valid.authenticator none ∙ sym (others_are c me l)
 
 -- ---- outputs

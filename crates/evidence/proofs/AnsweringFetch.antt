@@ -26,7 +26,7 @@ use Rattle.evidence.proofs.FirstReplicasStages.{none, Stage, first_stage, got, s
 use Rattle.evidence.proofs.FirstReplicasOwing.{logs_it, is_prepared}
 use Rattle.evidence.proofs.RefusingMarksLow.{low_at_first}
 use Rattle.quorum.proofs.Counting.{count_same}
-use Rattle.protocol.proofs.Words.Posting.{unsigned_have_no_leaf}
+use Rattle.protocol.proofs.Words.Outgoing.{unsigned_have_no_leaf}
 
 module _ (clients : ℕ) (seed : List ℕ) (me other : ℕ) (fetch digests : List ℕ) where
   abbrev c : Configuration

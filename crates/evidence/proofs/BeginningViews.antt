@@ -13,19 +13,19 @@ use Rattle.protocol.specs.System.Frames.{leaf_of}
 use Rattle.protocol.specs.System.Trace.{Entry, Has}
 use Rattle.protocol.specs.System.Trace.Entry.{Got, Sent}
 use Rattle.protocol.specs.Replica.Selection.{may_select}
-use Rattle.protocol.specs.Replica.Certificates.{view, view_after, target, change_from, is_later, new_view_in, new_view_from, taken, checkpoint_from, is_stable, stable_at, started_at, low, is_in_marks, logged, begun_proposal, batch_begun}
+use Rattle.protocol.specs.Replica.Certificates.{view, view_after, target, change_from, is_later, new_view_in, new_view_from, taken, checkpoint_from, is_stable, stable_at, started_at, low, is_in_marks, logged, assigned_proposal, assigned_batch}
 use Rattle.protocol.specs.Replica.State.{opening, root_of}
 use Rattle.protocol.specs.Replica.RightReplica.{first_point, Executes, MaySend, IsStep, SentBefore, SentInEvent}
 use Rattle.protocol.specs.Replica.Owed.{Owes, IsReplica, NumbersOnce}
 use Rattle.evidence.specs.Examples.{four}
-use Rattle.evidence.specs.ExamplesOfChanges.{beginning_view, ChangesInBeginning, ItsViewIsBegun}
+use Rattle.evidence.specs.ExamplesOfChanges.{beginning_view, ChangesInBeginning, ItsViewBegins}
 use Rattle.protocol.proofs.Words.Linking.{signed_said}
 use Rattle.protocol.proofs.Words.Options.{some_injective}
 use Rattle.protocol.proofs.Words.Plain.{low_same}
 use Rattle.protocol.proofs.Words.Starts.{low_next}
 use Rattle.evidence.proofs.JoiningChanges as joining
-use Rattle.evidence.proofs.JoiningChangesOwing.{IsOfChange, Due, owes, brings_no_checkpoint, same_checkpoints, logs_begun}
-use Rattle.evidence.proofs.RefusingNewViews.{view_now, target_now, begun_is_selected}
+use Rattle.evidence.proofs.JoiningChangesOwing.{IsOfChange, Due, owes, brings_no_checkpoint, same_checkpoints, logs_assigned}
+use Rattle.evidence.proofs.RefusingNewViews.{view_now, target_now, assigned_is_selected}
 
 none_there : (k : ℕ) (batches : List (List ℕ)) → batches ≡ [] → slice_get batches k ≡ None
 none_there k batches none = ap (λ (xs : List (List ℕ)). slice_get xs k) none
@@ -107,17 +107,17 @@ module _ (clients : ℕ) (seed root first second own new_view : List ℕ) (x : C
 
     -- ---- it begins with no batch
 
-    no_batch : (v i : ℕ) → batch_begun v i new ≡ None
+    no_batch : (v i : ℕ) → assigned_batch v i new ≡ None
     no_batch v i = none_chosen ((1 == v) && nat_lt 0 i) (slice_get new.batches (i - 0 - 1)) (none_there (i - 0 - 1) new.batches refl)
 
-    none_begun : (v i : ℕ) → begun_proposal c 1 h3 e v i ≡ None
-    none_begun v i = none_chosen (is_in_marks c (low c 1 now) i) (option_and_then (batch_begun v i) (taken c h3 e)) (ap (option_and_then (batch_begun v i)) takes ∙ no_batch v i)
+    none_assigned : (v i : ℕ) → assigned_proposal c 1 h3 e v i ≡ None
+    none_assigned v i = none_chosen (is_in_marks c (low c 1 now) i) (option_and_then (assigned_batch v i) (taken c h3 e)) (ap (option_and_then (assigned_batch v i)) takes ∙ no_batch v i)
 
     logs : (v i : ℕ) → logged c 1 now v i ≡ None
     logs v i =
-        logs_begun c 1 h3 e begins says tt v i
-        ∙ ap (λ (o : Option (List ℕ)). or_else o (begun_proposal c 1 h3 e v i)) (joining.logs3 clients seed 1 2 3 first second own apart first_other second_other x y z v i)
-        ∙ none_begun v i
+        logs_assigned c 1 h3 e begins says tt v i
+        ∙ ap (λ (o : Option (List ℕ)). or_else o (assigned_proposal c 1 h3 e v i)) (joining.logs3 clients seed 1 2 3 first second own apart first_other second_other x y z v i)
+        ∙ none_assigned v i
 
     -- ---- what the replica owes
 
@@ -197,6 +197,6 @@ module _ (clients : ℕ) (seed root first second own new_view : List ℕ) (x : C
       ),
     )
 
-pub its_view_is_begun : ItsViewIsBegun
-its_view_is_begun clients seed first second own new_view x y z signed keys =
-    is_right clients seed (root_of opening) first second own new_view x y z (begun_is_selected clients seed first second own x y z) signed keys
+pub its_view_begins : ItsViewBegins
+its_view_begins clients seed first second own new_view x y z signed keys =
+    is_right clients seed (root_of opening) first second own new_view x y z (assigned_is_selected clients seed first second own x y z) signed keys

@@ -8,7 +8,7 @@ use Rattle.protocol.specs.System.Configuration.{Configuration, primary, span, is
 use Rattle.wire_format.specs.Messages.{BodyData as Body, MessageData as Message, NewViewData, pre_prepare as PrePrepare}
 use Rattle.protocol.specs.System.Trace.{Entry, party_of, history_of, Once, SendsBody}
 use Rattle.protocol.specs.System.Trace.Entry.{Invoke, Got, Sent}
-use Rattle.protocol.specs.Replica.Certificates.{view, target, is_later, is_active_in, new_view_in, new_view_from, taken, checkpoint_from, low, is_in_marks, are_genuine, batch_from, batch_begun, proposal, entry_proposal, logged, commit_from, vote_in, commit_of}
+use Rattle.protocol.specs.Replica.Certificates.{view, target, is_later, is_active_in, new_view_in, new_view_from, taken, checkpoint_from, low, is_in_marks, are_genuine, batch_from, assigned_batch, proposal, entry_proposal, logged, commit_from, vote_in, commit_of}
 use Rattle.protocol.specs.Replica.RightReplica.{Point, MaySendMessage, MaySend, May}
 use Rattle.protocol.specs.Laws.Histories.{TakesOrSendsNewView}
 use Rattle.evidence.specs.Certified.{EntryBringsBody, ExecutesWithOwnCommit, ExecutesNotByOthersAlone, ExecutesWhatItCommits, TakesLater, TakesInOrder, LogsInMarks, LogsWhatBegins}
@@ -18,7 +18,7 @@ use Rattle.protocol.proofs.Agreement.Voting.{right_always}
 use Rattle.protocol.proofs.Agreement.Marks.{takes, view_grows}
 use Rattle.protocol.proofs.Agreement.Commits.{committing, commit_source, CommitsAt, voter_commits}
 use Rattle.protocol.proofs.Agreement.Executing.{executed_committed}
-use Rattle.protocol.proofs.Agreement.Offers.{entry_batch, begun_place}
+use Rattle.protocol.proofs.Agreement.Offers.{entry_batch, assigned_place}
 use Rattle.protocol.proofs.Words.Plain.{low_same}
 
 -- ---- the own commit
@@ -117,13 +117,13 @@ pub logs_in_marks : LogsInMarks
 unfolding logged
 logs_in_marks c me v i batch e past right none h = in_marks c (low c me (e ∷ past)) i (at (or_else_cases (logged c me past v i) (proposal c me past e v i) batch h))
   where
-    begun : (b : Bool) → cond b (option_and_then (batch_begun v i) (taken c past e)) None ≡ Some batch → b ≡ true
-    begun true k = refl
-    begun false k = absurd cc
+    assigned : (b : Bool) → cond b (option_and_then (assigned_batch v i) (taken c past e)) None ≡ Some batch → b ≡ true
+    assigned true k = refl
+    assigned false k = absurd cc
 
-    of : (cond (is_in_marks c (low c me (e ∷ past)) i) (option_and_then (batch_begun v i) (taken c past e)) None ≡ Some batch) ⊎ (entry_proposal c me past e v i ≡ Some batch)
+    of : (cond (is_in_marks c (low c me (e ∷ past)) i) (option_and_then (assigned_batch v i) (taken c past e)) None ≡ Some batch) ⊎ (entry_proposal c me past e v i ≡ Some batch)
         → is_in_marks c (low c me (e ∷ past)) i ≡ true
-    of (inl k) = begun (is_in_marks c (low c me (e ∷ past)) i) k
+    of (inl k) = assigned (is_in_marks c (low c me (e ∷ past)) i) k
     of (inr k) = entry_in_marks c me v i batch e past right.1.0 right.1.2.may k
 
     at : (logged c me past v i ≡ Some batch) ⊎ (proposal c me past e v i ≡ Some batch) → is_in_marks c (low c me (e ∷ past)) i ≡ true
@@ -131,7 +131,7 @@ logs_in_marks c me v i batch e past right none h = in_marks c (low c me (e ∷ p
     at (inr k) = of (or_else_cases _ _ batch k)
 
 pub logs_what_begins : LogsWhatBegins
-logs_what_begins c me i batch e past new right t begun above = go (begun_place c me new.view i batch past e new (right_always c me past right.0 right.1) t begun)
+logs_what_begins c me i batch e past new right t assigned above = go (assigned_place c me new.view i batch past e new (right_always c me past right.0 right.1) t assigned)
   where
     go : (logged c me (e ∷ past) new.view i ≡ Some batch) ⊎ (i ≤ low c me (e ∷ past)) → logged c me (e ∷ past) new.view i ≡ Some batch
     go (inl h) = h

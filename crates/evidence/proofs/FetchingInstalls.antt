@@ -37,9 +37,9 @@ use Rattle.evidence.proofs.FetchingTexts.{grows, got_grows, all_counted}
 abbrev nothing : Option (List ℕ)
 nothing = None
 
-nothing_begun : (b : Bool) → or_else (cond b nothing nothing) nothing ≡ nothing
-nothing_begun true = refl
-nothing_begun false = refl
+nothing_assigned : (b : Bool) → or_else (cond b nothing nothing) nothing ≡ nothing
+nothing_assigned true = refl
+nothing_assigned false = refl
 
 module _ (clients : ℕ) (seed : List ℕ) (st : State) (w : FetchFrames) (n : ℕ) (small : n < 1024) (is_state : IsReplicatedState st) (number : st.number ≡ 16) (differ : AreDifferentPages (page_text st) n)
     (own : (i : ℕ) → n < i → i < 1024 → page_text st i ≡ page_text opening i) (f : AreFetchFrames (four clients seed) (page_text st) w) where
@@ -96,7 +96,7 @@ module _ (clients : ℕ) (seed : List ℕ) (st : State) (w : FetchFrames) (n : �
 
   none_logged : (v i : ℕ) (batch : List ℕ) → logged c 0 now v i ≡ Some batch → ⊥
   none_logged v i batch h =
-      let none = log_with v i ∙ or_nothing (logged c 0 past v i) (proposal c 0 past installs v i) (ready.stage.logged_is v i) (nothing_begun (is_in_marks c (low c 0 now) i)) in
+      let none = log_with v i ∙ or_nothing (logged c 0 past v i) (proposal c 0 past installs v i) (ready.stage.logged_is v i) (nothing_assigned (is_in_marks c (low c 0 now) i)) in
       absurd (let bad : None ≡ Some batch = sym none ∙ h in cc)
 
   same_count : (m : CheckpointEntry) → count_checkpoints c now m ≡ count_checkpoints c past m

@@ -11,14 +11,14 @@ use Rattle.signing.specs.AuthenticBody.{authentic}
 use Rattle.wire_format.specs.Words.{receivers_of}
 use Rattle.protocol.specs.System.Trace.{Entry}
 use Rattle.protocol.specs.System.Trace.Entry.{Got, Executed, Sent}
-use Rattle.protocol.specs.Replica.Certificates.{view, target, low, taken, is_active_in, counts_at, logged, prepare_of, prepare_from, commit_of, commit_from, vote_in, first_given, Prepared, Committed, is_in_marks, batch_begun, begun_proposal, entry_proposal}
+use Rattle.protocol.specs.Replica.Certificates.{view, target, low, taken, is_active_in, counts_at, logged, prepare_of, prepare_from, commit_of, commit_from, vote_in, first_given, Prepared, Committed, is_in_marks, assigned_batch, assigned_proposal, entry_proposal}
 use Rattle.protocol.specs.Replica.RightReplica.{others, IsFor, IsAddressed, Point, first_point, HistoryReaches, SafeReplica, MaySend, executed_point, waiting_after}
 use Rattle.evidence.specs.Examples.{four, IsFirstBatch, FirstBatchExecutes}
 use Rattle.protocol.proofs.Agreement.Voting.{logged_stays}
 use Rattle.protocol.proofs.Agreement.Commits.{prepare_stays, prepared_stays}
 use Rattle.protocol.proofs.Agreement.Executing.{commit_stays}
 use Rattle.protocol.proofs.Words.Plain.{Plain, heard_plain, said_plain, taken_none, plain_view, plain_target, plain_low}
-use Rattle.protocol.proofs.Words.Posting.{unsigned_have_no_leaf}
+use Rattle.protocol.proofs.Words.Outgoing.{unsigned_have_no_leaf}
 
 pub same_digest : (d : List ℕ) → has_digest d (Some d) ≡ true
 same_digest d = (bytes_eq-Decides d d).1 refl
@@ -119,18 +119,18 @@ module _ (clients : ℕ) (seed batch a b d e f g : List ℕ) (x : IsFirstBatch (
 
   logged1 : logged c 1 h1 0 1 ≡ Some batch
   unfolding logged
-  logged1 = or_else_second (begun_proposal c 1 [] (Got 1 a) 0 1) (entry_proposal c 1 [] (Got 1 a) 0 1) batch begun entry
+  logged1 = or_else_second (assigned_proposal c 1 [] (Got 1 a) 0 1) (entry_proposal c 1 [] (Got 1 a) 0 1) batch assigned entry
     where
       or_else_second : (o later : Option (List ℕ)) (y : List ℕ) → o ≡ None → later ≡ Some y → or_else o later ≡ Some y
       or_else_second None later y h k = k
       or_else_second (Some z) later y h k = absurd cc
 
-      nothing_begun : (m : Bool) → cond m (option_and_then (batch_begun 0 1) (taken c [] (Got 1 a))) None ≡ None
-      nothing_begun true = ap (option_and_then (batch_begun 0 1)) (taken_none c [] (Got 1 a) plain1.0)
-      nothing_begun false = refl
+      nothing_assigned : (m : Bool) → cond m (option_and_then (assigned_batch 0 1) (taken c [] (Got 1 a))) None ≡ None
+      nothing_assigned true = ap (option_and_then (assigned_batch 0 1)) (taken_none c [] (Got 1 a) plain1.0)
+      nothing_assigned false = refl
 
-      begun : begun_proposal c 1 [] (Got 1 a) 0 1 ≡ None
-      begun = nothing_begun (is_in_marks c (low c 1 (Got 1 a ∷ [])) 1)
+      assigned : assigned_proposal c 1 [] (Got 1 a) 0 1 ≡ None
+      assigned = nothing_assigned (is_in_marks c (low c 1 (Got 1 a ∷ [])) 1)
 
       entry : entry_proposal c 1 [] (Got 1 a) 0 1 ≡ Some batch
       entry = rw (counts [] a tt) (rw x.proposed (rw x.genuine refl))

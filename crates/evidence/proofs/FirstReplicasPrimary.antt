@@ -150,16 +150,16 @@ module _ (clients : ℕ) (seed : List ℕ) (op : Operation) (batch : List ℕ) (
   is_numbered now p k st own call (inl is) = subst (λ (y : Call). IsNumbered c 0 now 0 y.client y.timestamp) is (batch, inl (1, st.logged_is 0 1), has_request)
   is_numbered now p k st own call (inr h) = absurd h
 
-  not_begun : (v : ℕ) (b : List ℕ) → Once (BeginsViewWith c v b) h1 → ⊥
-  not_begun v b (inl begun) = let bad : Some begun.0 ≡ None = sym begun.1 ∙ taken_none c [] (Got 0 w.request) s1.plain.0 in absurd cc
-  not_begun v b (inr h) = h
+  not_assigned : (v : ℕ) (b : List ℕ) → Once (BeginsViewWith c v b) h1 → ⊥
+  not_assigned v b (inl assigned) = let bad : Some assigned.0 ≡ None = sym assigned.1 ∙ taken_none c [] (Got 0 w.request) s1.plain.0 in absurd cc
+  not_assigned v b (inr h) = h
 
   not_numbered : (v client timestamp : ℕ) → IsNumbered c 0 h1 v client timestamp → ⊥
   not_numbered v client timestamp h = go h.1
     where
       go : IsOfView c 0 h1 v h.0 → ⊥
       go (inl there) = let it = logs_it clients seed batch 0 h1 false none none s1 v there.0 h.0 there.1 in absurd (both_ways false refl it.1)
-      go (inr begun) = not_begun v h.0 begun
+      go (inr assigned) = not_assigned v h.0 assigned
 
   -- no request stands twice in a batch that a body proposes
   abbrev ProposesDifferent : Body → Type 0

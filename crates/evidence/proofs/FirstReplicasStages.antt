@@ -82,8 +82,8 @@ module _ (clients : ℕ) (seed batch : List ℕ) (me : ℕ) where
   abbrev c : Configuration
   c = four clients seed
 
-  -- Whether the batch is logged, and whose prepares and commits count for it. Nothing else is, and nothing is begun,
-  -- changed or stable.
+  -- Whether the batch is logged, and whose prepares and commits count for it. Nothing else is logged, assigned by a new
+  -- view, changed or stable.
   pub record Stage (past : List Entry) (l : Bool) (p k : ℕ → Bool) : Type 0 where
     pub plain : AllPlain c past
     pub checkpoints_are : (s : ℕ) → checkpoints_of c past s ≡ []

@@ -25,7 +25,7 @@ use Rattle.protocol.proofs.Words.Options.{some_injective}
 use Rattle.protocol.proofs.Words.Elements.{has_of_any}
 use Rattle.wire_format.specs.Lists.{Each}
 use Rattle.protocol.proofs.Words.Leaving.{executed_number}
-use Rattle.protocol.proofs.Words.Posting.{macs_have_no_leaf}
+use Rattle.protocol.proofs.Words.Outgoing.{macs_have_no_leaf}
 
 abbrev pub point_of : State → List Ran → List Call → Point
 point_of st ran waiting = record { state = st; snapshots = opening ∷ []; ran = ran; waiting = waiting }

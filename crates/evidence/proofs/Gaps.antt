@@ -7,7 +7,7 @@ use Rattle.protocol.specs.System.Configuration.{Configuration, primary, span, me
 use Rattle.wire_format.specs.Messages.{BodyData as Body, MessageData as Message, NewViewData, pre_prepare as PrePrepare}
 use Rattle.protocol.specs.System.Trace.{Entry, party_of}
 use Rattle.protocol.specs.System.Trace.Entry.{Invoke, Got, Sent}
-use Rattle.protocol.specs.Replica.Certificates.{taken, low, is_in_marks, are_genuine, batch_from, batch_begun, begun_proposal, entry_proposal, proposal, logged}
+use Rattle.protocol.specs.Replica.Certificates.{taken, low, is_in_marks, are_genuine, batch_from, assigned_batch, assigned_proposal, entry_proposal, proposal, logged}
 use Rattle.protocol.specs.Replica.RightReplica.{Point, HistoryReaches, SafeReplica, IsFree, MaySendMessage, MaySend, May}
 use Rattle.evidence.specs.Certified.{LeavesNoGap}
 use Rattle.protocol.proofs.Words.Options.{and_then_some, then_some_gives, some_injective, or_else_second, or_else_cases}
@@ -67,8 +67,8 @@ entry_next c me v i batch (Invoke x y z) past point own party may h none = absur
 entry_next c me v i batch _ past point own party may h none = absurd cc
 
 -- if a new view has a batch for a number, it has one for each number between its start and that number
-begun_between : (c : Configuration) (v i j : ℕ) (new : NewViewData) (batch : List ℕ) → batch_begun v i new ≡ Some batch → new.start < j → j < i → (x : List ℕ) × (batch_begun new.view j new ≡ Some x)
-begun_between c v i j new batch h above below =
+assigned_between : (c : Configuration) (v i j : ℕ) (new : NewViewData) (batch : List ℕ) → assigned_batch v i new ≡ Some batch → new.start < j → j < i → (x : List ℕ) × (assigned_batch new.view j new ≡ Some x)
+assigned_between c v i j new batch h above below =
     let x = given_at new.batches (j - new.start - 1) (omega (arith, above, below, (proposes c v i new batch h).within)) in
     (x.0, rw (eq-eqb new.view new.view refl, lt-ltb new.start j above) x.1)
 
@@ -86,22 +86,22 @@ no_gap c me v own (e ∷ past) point h i j batch there above below = go (λ earl
     kept : (other : List ℕ) × (logged c me past v j ≡ Some other) → (other : List ℕ) × (logged c me (e ∷ past) v j ≡ Some other)
     kept x = (x.0, logged_stays c me v j x.0 e past x.1)
 
-    begun : (b : Bool) → cond b (option_and_then (batch_begun v i) (taken c past e)) None ≡ Some batch → (other : List ℕ) × (logged c me (e ∷ past) v j ≡ Some other)
-    begun false k = absurd cc
-    begun true k =
-        let t = and_then_some (batch_begun v i) (taken c past e) batch k in
+    assigned : (b : Bool) → cond b (option_and_then (assigned_batch v i) (taken c past e)) None ≡ Some batch → (other : List ℕ) × (logged c me (e ∷ past) v j ≡ Some other)
+    assigned false k = absurd cc
+    assigned true k =
+        let t = and_then_some (assigned_batch v i) (taken c past e) batch k in
         let p : Proposes c v i t.0 = proposes c v i t.0 batch t.2 in
-        let x = begun_between c v i j t.0 batch t.2 (omega (arith, (takes c me past e t.0 t.1).low_is, above)) below in
+        let x = assigned_between c v i j t.0 batch t.2 (omega (arith, (takes c me past e t.0 t.1).low_is, above)) below in
         (x.0, subst (λ (w : ℕ). logged c me (e ∷ past) w j ≡ Some x.0) p.view_is (logs_what_begins c me j x.0 e past t.0 (h.0, h.1) t.1 x.1 above))
 
-    of : logged c me past v i ≡ None → (begun_proposal c me past e v i ≡ Some batch) ⊎ (entry_proposal c me past e v i ≡ Some batch) → (other : List ℕ) × (logged c me (e ∷ past) v j ≡ Some other)
-    of none (inl k) = begun (is_in_marks c (low c me (e ∷ past)) i) k
+    of : logged c me past v i ≡ None → (assigned_proposal c me past e v i ≡ Some batch) ⊎ (entry_proposal c me past e v i ≡ Some batch) → (other : List ℕ) × (logged c me (e ∷ past) v j ≡ Some other)
+    of none (inl k) = assigned (is_in_marks c (low c me (e ∷ past)) i) k
     of none (inr k) = kept (has_value (logged c me past v j) ((entry_next c me v i batch e past h.0 own h.2.own h.2.may k none).used j lower below))
 
     go : ((earlier : List ℕ) → logged c me past v i ≡ Some earlier → low c me past < j → (other : List ℕ) × (logged c me past v j ≡ Some other)) → (o : Option (List ℕ)) → logged c me past v i ≡ o
         → (other : List ℕ) × (logged c me (e ∷ past) v j ≡ Some other)
     go before (Some earlier) is = kept (before earlier is lower)
-    go before None is = of is (or_else_cases (begun_proposal c me past e v i) (entry_proposal c me past e v i) batch (sym (or_else_second (logged c me past v i) (proposal c me past e v i) is) ∙ there))
+    go before None is = of is (or_else_cases (assigned_proposal c me past e v i) (entry_proposal c me past e v i) batch (sym (or_else_second (logged c me past v i) (proposal c me past e v i) is) ∙ there))
 
 pub leaves_no_gap : LeavesNoGap
 leaves_no_gap c me v i j batch history right own there above below = no_gap c me v own history right.0 right.1 i j batch there above below

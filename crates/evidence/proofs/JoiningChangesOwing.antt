@@ -14,7 +14,7 @@ use Rattle.signing.specs.AuthenticBody.{authentic}
 use Rattle.protocol.specs.System.Trace.{Entry, Has}
 use Rattle.protocol.specs.System.Trace.Entry.{Got}
 use Rattle.protocol.specs.Replica.Selection.{is_quorum}
-use Rattle.protocol.specs.Replica.Certificates.{brought, target, taken, is_active_in, is_in_marks, low, counts_at, logged, proposal, begun_proposal, entry_proposal, batch_begun, batch_from, checkpoints_of, with_checkpoint, checkpoint_from, checkpoint_in, lists_checkpoint, count_checkpoints, Prepared}
+use Rattle.protocol.specs.Replica.Certificates.{brought, target, taken, is_active_in, is_in_marks, low, counts_at, logged, proposal, assigned_proposal, entry_proposal, assigned_batch, batch_from, checkpoints_of, with_checkpoint, checkpoint_from, checkpoint_in, lists_checkpoint, count_checkpoints, Prepared}
 use Rattle.protocol.specs.Replica.State.{Call, opening, call_in}
 use Rattle.protocol.specs.Replica.RightReplica.{Point, first_point, waiting_after, with_waiting, Executes}
 use Rattle.protocol.specs.Replica.Owed.{SendsMessage, AtOutputs, NumbersOnce, HasToMove, CanBeginView, IsDropped, Owes}
@@ -69,19 +69,19 @@ entry_none : (c : Configuration) (me : ℕ) (past : List Entry) (e : Entry) (bod
 entry_none c me past e body is h v i =
     none_chosen (counts_at c me past e v i) (option_and_then (batch_from c me v i) (brought c e)) (ap (option_and_then (batch_from c me v i)) is ∙ no_batch c me v i body.sender body.message h)
 
-pub logs_begun : (c : Configuration) (me : ℕ) (past : List Entry) (e : Entry) (body : Body) → brought c e ≡ Some body → IsNoProposal body.message → (v i : ℕ)
-    → logged c me (e ∷ past) v i ≡ or_else (logged c me past v i) (begun_proposal c me past e v i)
-logs_begun c me past e body is h v i =
+pub logs_assigned : (c : Configuration) (me : ℕ) (past : List Entry) (e : Entry) (body : Body) → brought c e ≡ Some body → IsNoProposal body.message → (v i : ℕ)
+    → logged c me (e ∷ past) v i ≡ or_else (logged c me past v i) (assigned_proposal c me past e v i)
+logs_assigned c me past e body is h v i =
     log_next c me past e v i
-    ∙ ap (or_else (logged c me past v i)) (ap (or_else (begun_proposal c me past e v i)) (entry_none c me past e body is h v i) ∙ or_else_alone (begun_proposal c me past e v i) None refl)
+    ∙ ap (or_else (logged c me past v i)) (ap (or_else (assigned_proposal c me past e v i)) (entry_none c me past e body is h v i) ∙ or_else_alone (assigned_proposal c me past e v i) None refl)
 
 -- such a message logs nothing if the replica takes no new view
 pub logs_nothing : (c : Configuration) (me : ℕ) (past : List Entry) (e : Entry) (body : Body) → brought c e ≡ Some body → IsNoProposal body.message → taken c past e ≡ None → (v i : ℕ)
     → logged c me (e ∷ past) v i ≡ logged c me past v i
 logs_nothing c me past e body is h none v i =
-    logs_begun c me past e body is h v i
-    ∙ or_else_alone (logged c me past v i) (begun_proposal c me past e v i)
-    (none_chosen (is_in_marks c (low c me (e ∷ past)) i) (option_and_then (batch_begun v i) (taken c past e)) (ap (option_and_then (batch_begun v i)) none))
+    logs_assigned c me past e body is h v i
+    ∙ or_else_alone (logged c me past v i) (assigned_proposal c me past e v i)
+    (none_chosen (is_in_marks c (low c me (e ∷ past)) i) (option_and_then (assigned_batch v i) (taken c past e)) (ap (option_and_then (assigned_batch v i)) none))
 
 -- ---- the points
 

@@ -44,7 +44,7 @@ use Rattle.protocol.specs.Replica.RightReplica.{IsInstalled}
 use Rattle.protocol.proofs.Words.Taking.{is_own_or_got}
 use Rattle.std.specs.Bool.{then_some}
 use Rattle.protocol.proofs.Words.Elements.{has_of_any, every_has, has_some}
-use Rattle.protocol.proofs.Words.Posting.{leaf_by}
+use Rattle.protocol.proofs.Words.Outgoing.{leaf_by}
 use Rattle.protocol.specs.System.Frames.{leaf_in}
 use Rattle.evidence.proofs.JoiningChanges.{IsSealedBy}
 use Rattle.evidence.proofs.RefusingRuns.{in_range, says_may}

@@ -1,4 +1,5 @@
--- The definitions refuse a low mark below or above the number that was stable, installed or begun at.
+-- The definitions refuse a low mark below or above the number that was stable or installed, or that a new view started
+-- at.
 use Rattle.std.specs.Option.{option_map_or}
 use Rattle.std.proofs.Common.{◌≡◌, ℕ, ◌+◌, ◌*◌, ◌≤◌, ◌⊎◌, inl, inr, Bool, true, false, cond, ◌&&◌, ◌||◌, List, [], ◌∷◌, take, max, bytes_eq, refl, sym, ap, ap₂, ◌∙◌, subst, arith, Option, Some, None, eqb-true, eq-eqb}
 use Rattle.std.specs.Prelude.{◌==◌, nat_le}

@@ -141,9 +141,9 @@ module _ (clients : ℕ) (seed first second own : List ℕ) (x : ChangesInBeginn
     ),
   )
 
-  pub begun_is_selected : may_select c (beginning_view root own first second) ≡ true
+  pub assigned_is_selected : may_select c (beginning_view root own first second) ≡ true
   unfolding beginning_with new_with
-  begun_is_selected = selected clients seed root own first second (signs 1 own z) (signs 2 first x) (signs 3 second y)
+  assigned_is_selected = selected clients seed root own first second (signs 1 own z) (signs 2 first x) (signs 3 second y)
 
   can : CanBeginView c 1 now (new_with root own first second)
   unfolding beginning_with new_with

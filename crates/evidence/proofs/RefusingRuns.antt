@@ -229,8 +229,8 @@ pub no_begin_while_inactive : NoBeginWhileInactive
 no_begin_while_inactive c me bytes new past says before right = go (says_may c me bytes (record { sender = me; message = NewView new }) past right says).1
   where
     -- if the replica has sent the new view before, its view is at least the new one
-    begun : (x : List Entry) (e : Entry) → RightAt c me x e → SendsBytes bytes x e → new.view ≤ view c (e ∷ x)
-    begun x (Sent p sent) r t = pick allowed.1
+    assigned : (x : List Entry) (e : Entry) → RightAt c me x e → SendsBytes bytes x e → new.view ≤ view c (e ∷ x)
+    assigned x (Sent p sent) r t = pick allowed.1
       where
         spoken : said sent ≡ Some (record { sender = me; message = NewView new })
         spoken = subst (λ (ys : List ℕ). said ys ≡ Some (record { sender = me; message = NewView new })) (sym t) says
@@ -244,12 +244,12 @@ no_begin_while_inactive c me bytes new past says before right = go (says_may c m
             let is = eqb-true (view c x) new.view (and_parts (view c x == new.view) (nat_le (target x) new.view) k.0).0 in
             let grows = view_grows c (Sent p sent) x in
             omega arith
-    begun x _ r t = absurd t
+    assigned x _ r t = absurd t
 
     there : new.view ≤ view c past
     there =
         once_stays_from (λ x. new.view ≤ view c x) (λ e x k. let grows = view_grows c e x in omega arith) past
-        (once_weaker (λ x e. RightAt c me x e × SendsBytes bytes x e × Always (RightAt c me) x) (λ x e. new.view ≤ view c (e ∷ x)) (λ x e t. begun x e t.0 t.1) past
+        (once_weaker (λ x e. RightAt c me x e × SendsBytes bytes x e × Always (RightAt c me) x) (λ x e. new.view ≤ view c (e ∷ x)) (λ x e t. assigned x e t.0 t.1) past
         (once_always (RightAt c me) (SendsBytes bytes) past (right_always c me past right.1.0 right.1.1) before))
 
     go : (taken c past (Sent me bytes) ≡ Some new) ⊎ ((is_active_in c past new.view ≡ true) × Once (SendsBytes bytes) past) → is_active_in c past new.view ≡ true

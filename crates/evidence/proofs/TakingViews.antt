@@ -17,7 +17,7 @@ use Rattle.wire.proofs.Skipping.{none_chosen}
 use Rattle.protocol.specs.System.Trace.{Entry, Has}
 use Rattle.protocol.specs.System.Trace.Entry.{Got, Sent}
 use Rattle.protocol.specs.Replica.Selection.{may_select, change_in}
-use Rattle.protocol.specs.Replica.Certificates.{view, view_after, target, is_later, new_view_in, new_view_from, taken, change_from, is_active_in, checkpoint_from, checkpoints_of, is_stable, stable_at, started_at, low, is_in_marks, counts_at, logged, begun_proposal, batch_begun, prepare_of, prepare_from, vote_in, Prepared}
+use Rattle.protocol.specs.Replica.Certificates.{view, view_after, target, is_later, new_view_in, new_view_from, taken, change_from, is_active_in, checkpoint_from, checkpoints_of, is_stable, stable_at, started_at, low, is_in_marks, counts_at, logged, assigned_proposal, assigned_batch, prepare_of, prepare_from, vote_in, Prepared}
 use Rattle.protocol.specs.Replica.RightReplica.{first_point, others, IsAddressed, Executes, MaySend, IsStep}
 use Rattle.protocol.specs.Replica.Owed.{Owes, IsReplica, NumbersOnce, SendsMessage}
 use Rattle.evidence.specs.Examples.{four}
@@ -27,8 +27,8 @@ use Rattle.protocol.proofs.Words.Moving.{no_reason}
 use Rattle.protocol.proofs.Words.Options.{some_injective}
 use Rattle.protocol.proofs.Words.Plain.{low_same}
 use Rattle.evidence.proofs.Selecting.{prepared_is_selected}
-use Rattle.evidence.proofs.JoiningChangesOwing.{Due, owes, none_logged, brings_no_checkpoint, same_checkpoints, logs_begun, logs_nothing, moves_nothing}
-use Rattle.protocol.proofs.Words.Posting.{unsigned_have_no_leaf}
+use Rattle.evidence.proofs.JoiningChangesOwing.{Due, owes, none_logged, brings_no_checkpoint, same_checkpoints, logs_assigned, logs_nothing, moves_nothing}
+use Rattle.protocol.proofs.Words.Outgoing.{unsigned_have_no_leaf}
 use Rattle.protocol.proofs.Agreement.Checkpoints.{no_checkpoints}
 
 prepare_next : (c : Configuration) (me : ℕ) (past : List Entry) (e : Entry) (v i s : ℕ) → prepare_of c me (e ∷ past) v i s ≡ or_else (prepare_of c me past v i s) (vote_in c me past e (prepare_from c s v i) v i)
@@ -97,15 +97,15 @@ module _ (clients : ℕ) (seed : List ℕ) (me : ℕ) (batch root a b d new_view
 
     -- ---- the batch is logged at number 1 in view 1, and no other is
 
-    begun : (v i : ℕ) → logged c me h1 v i ≡ cond (is_in_marks c 0 i) (batch_begun v i new) None
-    begun v i =
-        logs_begun c me [] (Got me new_view) begins receives tt v i
-        ∙ ap (λ (o : Option (List ℕ)). or_else o (begun_proposal c me [] (Got me new_view) v i)) (none_logged c me v i)
-        ∙ ap (λ (n : ℕ). cond (is_in_marks c n i) (option_and_then (batch_begun v i) (taken c [] (Got me new_view))) None) low_is
-        ∙ ap (λ (o : Option NewViewData). cond (is_in_marks c 0 i) (option_and_then (batch_begun v i) o) None) takes
+    assigned : (v i : ℕ) → logged c me h1 v i ≡ cond (is_in_marks c 0 i) (assigned_batch v i new) None
+    assigned v i =
+        logs_assigned c me [] (Got me new_view) begins receives tt v i
+        ∙ ap (λ (o : Option (List ℕ)). or_else o (assigned_proposal c me [] (Got me new_view) v i)) (none_logged c me v i)
+        ∙ ap (λ (n : ℕ). cond (is_in_marks c n i) (option_and_then (assigned_batch v i) (taken c [] (Got me new_view))) None) low_is
+        ∙ ap (λ (o : Option NewViewData). cond (is_in_marks c 0 i) (option_and_then (assigned_batch v i) o) None) takes
 
     here : logged c me h1 1 1 ≡ Some batch
-    here = begun 1 1
+    here = assigned 1 1
 
     record IsIt (v i : ℕ) (given : List ℕ) : Type 0 where
       view_one : v ≡ 1
@@ -114,7 +114,7 @@ module _ (clients : ℕ) (seed : List ℕ) (me : ℕ) (batch root a b d new_view
 
     only : (v i : ℕ) (given : List ℕ) → logged c me h1 v i ≡ Some given → IsIt v i given
     only v i given h =
-        let m = guard_holds (is_in_marks c 0 i) (batch_begun v i new) given (sym (begun v i) ∙ h) in
+        let m = guard_holds (is_in_marks c 0 i) (assigned_batch v i new) given (sym (assigned v i) ∙ h) in
         let n = guard_holds ((1 == v) && nat_lt 0 i) (slice_get (batch ∷ []) (i - 0 - 1)) given m.1 in
         let t = and_parts (1 == v) (nat_lt 0 i) n.0 in
         let first = only_first batch given (i - 0 - 1) n.1 in

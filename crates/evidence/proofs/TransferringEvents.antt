@@ -25,7 +25,7 @@ use Rattle.protocol.proofs.Words.Moving.{no_reason}
 use Rattle.protocol.proofs.Words.Starts.{starts_low}
 use Rattle.protocol.proofs.Words.Options.{some_injective}
 use Rattle.evidence.proofs.TransferringStages.{Stage, agreed}
-use Rattle.protocol.proofs.Words.Posting.{macs_have_no_leaf}
+use Rattle.protocol.proofs.Words.Outgoing.{macs_have_no_leaf}
 
 -- checkpoints and parts, which ask for nothing
 abbrev pub IsGiven : Message → Type 0

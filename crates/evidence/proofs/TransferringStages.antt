@@ -17,7 +17,7 @@ use Rattle.wire.proofs.Skipping.{none_chosen}
 use Rattle.protocol.specs.System.Trace.{Entry}
 use Rattle.protocol.specs.System.Trace.Entry.{Got, Sent}
 use Rattle.protocol.specs.Replica.Selection.{is_quorum}
-use Rattle.protocol.specs.Replica.Certificates.{brought, view, target, low, new_view_in, new_view_from, change_from, change_sent, installed_at, started_at, stable_at, is_stable, taken, is_later, is_in_marks, counts_at, logged, proposal, begun_proposal, entry_proposal, batch_begun, batch_from, checkpoint_in, checkpoint_from, insert_checkpoint, with_checkpoint, checkpoints_of, lists_checkpoint, count_checkpoints}
+use Rattle.protocol.specs.Replica.Certificates.{brought, view, target, low, new_view_in, new_view_from, change_from, change_sent, installed_at, started_at, stable_at, is_stable, taken, is_later, is_in_marks, counts_at, logged, proposal, assigned_proposal, entry_proposal, assigned_batch, batch_from, checkpoint_in, checkpoint_from, insert_checkpoint, with_checkpoint, checkpoints_of, lists_checkpoint, count_checkpoints}
 use Rattle.protocol.specs.Replica.Transfers.{asked_last, place_from, fetching, fetch_sent}
 use Rattle.evidence.specs.Examples.{four}
 use Rattle.protocol.proofs.Agreement.Checkpoints.{checkpoints_with, no_checkpoints}
@@ -112,8 +112,8 @@ module _ (clients : ℕ) (seed root : List ℕ) where
 
   proposes_none : (past : List Entry) (e : Entry) (body : Body) → Brings e body → (v i : ℕ) → proposal c 0 past e v i ≡ None
   proposes_none past e body x v i =
-      or_nothing (begun_proposal c 0 past e v i) (entry_proposal c 0 past e v i)
-      (none_chosen (is_in_marks c (low c 0 (e ∷ past)) i) (option_and_then (batch_begun v i) (taken c past e)) (ap (option_and_then (batch_begun v i)) (takes_none past e body x)))
+      or_nothing (assigned_proposal c 0 past e v i) (entry_proposal c 0 past e v i)
+      (none_chosen (is_in_marks c (low c 0 (e ∷ past)) i) (option_and_then (assigned_batch v i) (taken c past e)) (ap (option_and_then (assigned_batch v i)) (takes_none past e body x)))
       (none_chosen (counts_at c 0 past e v i) (option_and_then (batch_from c 0 v i) (brought c e)) (ap (option_and_then (batch_from c 0 v i)) x.brings ∙ none_proposes c 0 v i body.sender body.message x.part))
 
   -- without an own checkpoint nothing is stable

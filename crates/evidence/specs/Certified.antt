@@ -6,7 +6,7 @@ use Rattle.protocol.specs.System.Configuration.{Configuration, primary, is_corre
 use Rattle.wire_format.specs.Messages.{BodyData as Body, NewViewData, commit as Commit}
 use Rattle.protocol.specs.System.Trace.{Entry, history_of, Once, SendsBody, Unforged}
 use Rattle.protocol.specs.System.Trace.Entry.{Executed}
-use Rattle.protocol.specs.Replica.Certificates.{brought, view, target, taken, low, batch_begun, logged, commit_of, Prepared, Committed}
+use Rattle.protocol.specs.Replica.Certificates.{brought, view, target, taken, low, assigned_batch, logged, commit_of, Prepared, Committed}
 use Rattle.protocol.specs.Replica.RightReplica.{SafeReplica}
 use Rattle.protocol.specs.Laws.Histories.{AreReplicasSafe, ExecutesBatch, TakesOrSendsNewView}
 
@@ -65,7 +65,8 @@ abbrev pub LogsWhatBegins : Type 0
 LogsWhatBegins =
     (c : Configuration) (me i : ℕ) (batch : List ℕ) (e : Entry) (past : List Entry) (new : NewViewData)
     → SafeReplica c me past → taken c past e ≡ Some new
-    → batch_begun new.view i new ≡ Some batch → low c me (e ∷ past) < i → logged c me (e ∷ past) new.view i ≡ Some batch
+    → assigned_batch new.view i new ≡ Some batch → low c me (e ∷ past) < i
+    → logged c me (e ∷ past) new.view i ≡ Some batch
 
 -- The batches of a view leave no gap at its primary: each number between the low mark and one with a batch has one.
 abbrev pub LeavesNoGap : Type 0

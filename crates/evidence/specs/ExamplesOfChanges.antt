@@ -42,8 +42,8 @@ beginning_view root a b d =
 
 -- The primary of view 1 gets the view changes of two others for that view in the beginning. It is a right one if it
 -- sends its own at the second, and then the new view over all three, signed by another of its keys.
-abbrev pub ItsViewIsBegun : Type 0
-ItsViewIsBegun =
+abbrev pub ItsViewBegins : Type 0
+ItsViewBegins =
     (clients : ℕ) (seed first second own new_view : List ℕ)
     → ChangesInBeginning (four clients seed) 2 first → ChangesInBeginning (four clients seed) 3 second
     → ChangesInBeginning (four clients seed) 1 own

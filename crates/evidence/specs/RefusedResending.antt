@@ -9,7 +9,7 @@ use Rattle.protocol.specs.System.Trace.{Entry, Has}
 use Rattle.protocol.specs.System.Trace.Entry.{Got}
 use Rattle.protocol.specs.Replica.Certificates.{view, target, is_active_in, low, is_in_marks, logged, prepare_of, commit_of}
 use Rattle.protocol.specs.Replica.State.{Call}
-use Rattle.protocol.specs.Replica.Owed.{SendsMessage, IsBegunBelow, latest_checkpoint}
+use Rattle.protocol.specs.Replica.Owed.{SendsMessage, IsAssignedBelow, latest_checkpoint}
 use Rattle.evidence.specs.Refused.{AtEachPoint, ReplicaGoesOn}
 
 -- The bytes are a request that waits already, and a correct replica that goes on gives these outputs to them.
@@ -42,7 +42,7 @@ SendsCommitsAgain =
 abbrev pub SendsBatchesAgain : Type 0
 SendsBatchesAgain =
     (c : Configuration) (me v i : ℕ) (batch bytes : List ℕ) (outputs past : List Entry)
-    → IsRunning c me past v i → primary c v ≡ me → IsBegunBelow c v i past → logged c me past v i ≡ Some batch
+    → IsRunning c me past v i → primary c v ≡ me → IsAssignedBelow c v i past → logged c me past v i ≡ Some batch
     → GetsAgain c me bytes outputs past → SendsMessage me (PrePrepare v i batch) outputs
 
 -- the new view by which the primary began its view is not sent again, or the latest checkpoint

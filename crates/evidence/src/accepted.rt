@@ -4,7 +4,7 @@ ghost use Rattle.evidence.specs.Examples.{FirstBatchExecutes, FirstCallIsRun, Pr
 ghost use Rattle.evidence.specs.ExamplesOfAnswers.{FirstReadIsAnswered, FirstFetchIsAnswered};
 ghost use Rattle.evidence.specs.ExamplesOfTransfer.{TransferBegins};
 ghost use Rattle.evidence.specs.ExamplesOfKept.{KeptReplyGoesAgain};
-ghost use Rattle.evidence.specs.ExamplesOfChanges.{ViewChangesAreJoined, ItsViewIsBegun, NewViewsAreTaken};
+ghost use Rattle.evidence.specs.ExamplesOfChanges.{ViewChangesAreJoined, ItsViewBegins, NewViewsAreTaken};
 ghost use Rattle.evidence.specs.FirstOperation.{FirstOperationIsRun, FirstOperationIsCommitted, FirstOperationIsUnforged, FirstOperationIsFed, FirstFramesExist};
 
 /// Of four replicas a backup that gets the primary's pre-prepare of the first batch, one more prepare and two more
@@ -89,8 +89,8 @@ pub fn view_changes_are_joined()
 
 /// The primary of view 1 that joins two others so, and then sends the new view over all three view changes, is a right
 /// one.
-pub fn a_view_is_begun()
-    ensures begun { ItsViewIsBegun }
+pub fn a_view_begins()
+    ensures begins { ItsViewBegins }
 {}
 
 /// A backup that takes the first new view in the beginning, and prepares its batch, is a right replica.

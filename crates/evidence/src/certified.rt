@@ -23,7 +23,7 @@ pub fn taken_views_ascend()
 /// the low mark.
 pub fn logged_batches_are_in_marks()
     ensures marks { LogsInMarks }
-    ensures begun { LogsWhatBegins }
+    ensures assigned { LogsWhatBegins }
     ensures gaps { LeavesNoGap }
 {}
 

@@ -1,5 +1,5 @@
 pub mod Others
 pub mod Receptions
-pub mod Posting
+pub mod Outgoing
 pub mod Fitting
 pub mod Digesting

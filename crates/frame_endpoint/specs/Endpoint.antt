@@ -91,7 +91,7 @@ pub record IsOutgoingFrame (m : Membership) (me : ℕ) (message : Message) (seal
   pub bytes : List ℕ
   pub sends : entry_of me output ≡ Sent me bytes
   pub goes : receivers output ≡ parties
-  pub posted : AreOutgoingBytes m me message sealed bytes
+  pub is_outgoing : AreOutgoingBytes m me message sealed bytes
   pub meant : GoesAsMeant m me output
 
 -- it has a MAC for each of its receivers

@@ -124,7 +124,7 @@ impl Endpoint {
     ) -> Result<Output, SealFault>
         requires said { IsMessage (message_data message) }
         requires unsigned { is_signed (message_data message) ≡ false }
-        ensures posted { IfOk result (SendsMessageToOne self.old (message_data message) receiver) }
+        ensures is_outgoing { IfOk result (SendsMessageToOne self.old (message_data message) receiver) }
         ensures fits { FitsFrame (message_data message) → result ≢ Err SealFault.TooLarge }
         ensures same { self.new ≡ self.old }
     {
@@ -140,7 +140,7 @@ impl Endpoint {
     pub fn send_to_others(&mut self, alloc: Global, message: Message) -> Result<Output, SealFault>
         requires said { IsMessage (message_data message) }
         requires unsigned { is_signed (message_data message) ≡ false }
-        ensures posted { IfOk result (SendsMessageToOthers self.old (message_data message)) }
+        ensures is_outgoing { IfOk result (SendsMessageToOthers self.old (message_data message)) }
         ensures fits { FitsFrame (message_data message) → result ≢ Err SealFault.TooLarge }
         ensures same { self.new ≡ self.old }
     {
@@ -178,7 +178,7 @@ impl Endpoint {
     /// The output of a signed frame, for all other replicas. NoMemory if memory runs out.
     pub fn send_frame_to_others(&self, alloc: Global, frame: &[u8]) -> Result<Output, NoMemory>
         ensures sends { IfOk result (SendsToOthers self.now frame.now) }
-        ensures posts { IfOk result (SendsFrameToOthers self.now frame.now) }
+        ensures sends_frame { IfOk result (SendsFrameToOthers self.now frame.now) }
     {
         let receivers = other_replicas(alloc, 3 * self.faults + 1, self.me)?;
         let copy = Vec::from_slice(alloc, frame)?;

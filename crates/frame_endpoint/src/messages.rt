@@ -149,7 +149,7 @@ pub fn page_message(number: Number, index: u16, text: Vec<u8>) -> Message
     })
 }
 
-/// The view change of a replica: at most three checkpoints and at most 65,535 claims in either list, each list
+/// The view change of a replica: at most three checkpoints and at most 65,535 batches in either list, each list
 /// ascending.
 pub fn view_change_message(change: ViewChange) -> Message
     requires { IsViewChange (view_change_data change) }

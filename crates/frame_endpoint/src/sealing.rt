@@ -30,7 +30,7 @@ pub(crate) fn seal_for_others(
     requires known { me.0 < 3 * faults + 1 }
     requires said { IsMessage (message_data message) }
     requires unsigned { is_signed (message_data message) ≡ false }
-    ensures posted { IfOk result (SealsForOthers ring.old me.0 (message_data message)) }
+    ensures is_outgoing { IfOk result (SealsForOthers ring.old me.0 (message_data message)) }
     ensures fits { FitsFrame (message_data message) → result ≢ Err SealFault.TooLarge }
     ensures same { ring.new ≡ ring.old }
 {
@@ -55,7 +55,7 @@ pub fn seal_for_one(
     requires said { IsMessage (message_data message) }
     requires unsigned { is_signed (message_data message) ≡ false }
     requires known { me.0 < 10 }
-    ensures posted { IfOk result (SealsForOne ring.old me.0 (message_data message) receiver) }
+    ensures is_outgoing { IfOk result (SealsForOne ring.old me.0 (message_data message) receiver) }
     ensures fits { FitsFrame (message_data message) → result ≢ Err SealFault.TooLarge }
     ensures same { ring.new ≡ ring.old }
 {
@@ -72,7 +72,7 @@ fn seal_for(
     receivers: Vec<Party>,
 ) -> Result<Output, SealFault>
     requires { IsSealable (says me.0 (message_data message)) (numbers receivers.items) }
-    ensures posted { IfOk result (SealsFor ring.old me.0 (message_data message) receivers.items) }
+    ensures is_outgoing { IfOk result (SealsFor ring.old me.0 (message_data message) receivers.items) }
     ensures fits { FitsFrame (message_data message) → result ≢ Err SealFault.TooLarge }
     ensures same { ring.new ≡ ring.old }
 {

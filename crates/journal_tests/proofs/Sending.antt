@@ -6,7 +6,7 @@ use Rattle.wire_format.specs.Messages.{BodyData, request as Request}
 use Rattle.wire_format.specs.Spelling.{SpellsFrame}
 use Rattle.authenticator.specs.Sealing.{sealed_for}
 use Rattle.protocol.specs.System.Configuration.{Configuration}
-use Rattle.protocol.proofs.Words.Posting.{sealed_is_outgoing}
+use Rattle.protocol.proofs.Words.Outgoing.{sealed_is_outgoing}
 use Rattle.journal_tests.specs.Calls.{first_op, AsksFirst}
 
 -- the frame that is sealed for four replicas is the client's request

@@ -16,16 +16,19 @@ static READ: [u8; 16] = *b"\0\0\0\0\x41\0\0\0\0\0\0\0\0\0\0\x01";
 
 // A replica.
 #[derive(Drop)]
-struct Seat<N: Naming> {
+struct ReplicaShares<N: Naming> {
     share: Share<N>,
     order: OrderShare<N>,
 }
 
 // The replica of the last number.
-fn last_seat<N: Naming>(shares: Vec<Share<N>>, orders: &mut Vec<OrderShare<N>>) -> Option<Seat<N>> {
+fn last_replica_shares<N: Naming>(
+    shares: Vec<Share<N>>,
+    orders: &mut Vec<OrderShare<N>>,
+) -> Option<ReplicaShares<N>> {
     let order = orders.pop()?;
     let share = take_share(shares, order.party().number())?;
-    Some(Seat { share, order })
+    Some(ReplicaShares { share, order })
 }
 
 // Time goes by at the ordering thread of the share's replica.
@@ -43,9 +46,14 @@ fn tick_by<N: Naming>(
 fn tick_order<N: Naming>(
     alloc: Global,
     journal: &mut Journal<N>,
-    seat: &mut Seat<N>,
+    replica_shares: &mut ReplicaShares<N>,
 ) -> Result<Result<(), AppendFault>, NoMemory> {
-    tick_by(alloc, journal, &mut seat.share, &mut seat.order)
+    tick_by(
+        alloc,
+        journal,
+        &mut replica_shares.share,
+        &mut replica_shares.order,
+    )
 }
 
 // A read stands only in the journal and in the share, and the next ordering event goes on. An ordering event that
@@ -53,16 +61,16 @@ fn tick_order<N: Naming>(
 fn orders_beside_reads<N: Naming>(
     alloc: Global,
     journal: &mut Journal<N>,
-    seat: &mut Seat<N>,
+    replica_shares: &mut ReplicaShares<N>,
 ) -> Result<bool, Fail> {
     Ok(
-        tick_order(alloc, journal, seat)?.is_ok()
-            && get(alloc, journal, &mut seat.share, None, &READ)?.is_ok()
-            && tick_order(alloc, journal, seat)?.is_ok()
-            && seat.share.history().len() == 3
-            && seat.order.history().len() == 2
-            && tick(alloc, journal, &mut seat.share)?.is_ok()
-            && tick_order(alloc, journal, seat)?.err() == Some(AppendFault::NotInJournal)
+        tick_order(alloc, journal, replica_shares)?.is_ok()
+            && get(alloc, journal, &mut replica_shares.share, None, &READ)?.is_ok()
+            && tick_order(alloc, journal, replica_shares)?.is_ok()
+            && replica_shares.share.history().len() == 3
+            && replica_shares.order.history().len() == 2
+            && tick(alloc, journal, &mut replica_shares.share)?.is_ok()
+            && tick_order(alloc, journal, replica_shares)?.err() == Some(AppendFault::NotInJournal)
             && journal.len() == 4,
     )
 }
@@ -73,13 +81,13 @@ fn is_last_ordered<N: Naming>(
     shares: Vec<Share<N>>,
     orders: &mut Vec<OrderShare<N>>,
 ) -> Result<bool, Fail> {
-    match last_seat(shares, orders) {
-        Some(mut seat) => {
-            let is_right = orders_beside_reads(alloc, journal, &mut seat);
-            drop(seat);
+    match last_replica_shares(shares, orders) {
+        Some(mut replica_shares) => {
+            let is_right = orders_beside_reads(alloc, journal, &mut replica_shares);
+            drop(replica_shares);
             is_right
         }
-        None => Err(Fail::new("no seat")),
+        None => Err(Fail::new("no replica_shares")),
     }
 }
 
@@ -145,13 +153,13 @@ fn is_empty_apart<N: Naming>(
 fn goes_on_with<N: Naming>(
     alloc: Global,
     journal: &mut Journal<N>,
-    seat: &mut Seat<N>,
+    replica_shares: &mut ReplicaShares<N>,
     kept: &mut OrderShare<N>,
 ) -> Result<bool, Fail> {
     Ok(
-        tick_order(alloc, journal, seat)?.err() == Some(AppendFault::NotInJournal)
-            && is_empty_apart(alloc, journal, &mut seat.share, kept)?
-            && tick_by(alloc, journal, &mut seat.share, kept)?.is_ok()
+        tick_order(alloc, journal, replica_shares)?.err() == Some(AppendFault::NotInJournal)
+            && is_empty_apart(alloc, journal, &mut replica_shares.share, kept)?
+            && tick_by(alloc, journal, &mut replica_shares.share, kept)?.is_ok()
             && kept.history().len() == 2
             && journal.len() == 2,
     )
@@ -161,16 +169,16 @@ fn goes_on_with<N: Naming>(
 fn is_refused_apart<N: Naming>(
     alloc: Global,
     journal: &mut Journal<N>,
-    seat: &mut Seat<N>,
+    replica_shares: &mut ReplicaShares<N>,
     other: &mut OrderShare<N>,
 ) -> Result<bool, Fail> {
-    if !is_apart(alloc, journal, &mut seat.share, other, 0)?
-        || tick_order(alloc, journal, seat)?.is_err()
+    if !is_apart(alloc, journal, &mut replica_shares.share, other, 0)?
+        || tick_order(alloc, journal, replica_shares)?.is_err()
     {
         return Ok(false);
     }
-    let mut kept = seat.order.take(alloc);
-    let is_right = goes_on_with(alloc, journal, seat, &mut kept);
+    let mut kept = replica_shares.order.take(alloc);
+    let is_right = goes_on_with(alloc, journal, replica_shares, &mut kept);
     drop(kept);
     is_right
 }
@@ -178,12 +186,12 @@ fn is_refused_apart<N: Naming>(
 fn is_other_refused<N: Naming>(
     alloc: Global,
     journal: &mut Journal<N>,
-    seat: &mut Seat<N>,
+    replica_shares: &mut ReplicaShares<N>,
     orders: &mut Vec<OrderShare<N>>,
 ) -> Result<bool, Fail> {
     match orders.pop() {
         Some(mut other) => {
-            let is_right = is_refused_apart(alloc, journal, seat, &mut other);
+            let is_right = is_refused_apart(alloc, journal, replica_shares, &mut other);
             drop(other);
             is_right
         }
@@ -197,13 +205,13 @@ fn is_last_compared<N: Naming>(
     shares: Vec<Share<N>>,
     orders: &mut Vec<OrderShare<N>>,
 ) -> Result<bool, Fail> {
-    match last_seat(shares, orders) {
-        Some(mut seat) => {
-            let is_right = is_other_refused(alloc, journal, &mut seat, orders);
-            drop(seat);
+    match last_replica_shares(shares, orders) {
+        Some(mut replica_shares) => {
+            let is_right = is_other_refused(alloc, journal, &mut replica_shares, orders);
+            drop(replica_shares);
             is_right
         }
-        None => Err(Fail::new("no seat")),
+        None => Err(Fail::new("no replica_shares")),
     }
 }
 

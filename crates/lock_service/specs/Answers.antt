@@ -2,10 +2,10 @@
 use Rattle.std.specs.Prelude.{◌≡◌, Bool, true, false}
 use Rattle.tuple_codec.specs.Operations.{Operation, Outcome, swapped, found, absent}
 use Rattle.space_node.specs.Calls.{Called}
-use Rattle.space_node.specs.Seats.{Seated}
+use Rattle.space_node.specs.PartyStates.{PartyState}
 
 -- A call of the client was answered: it swapped its tuple in, or it did not.
-pub record Swapped (old : Seated) (got : Bool) (new : Seated) : Type 0 where
+pub record Swapped (old : PartyState) (got : Bool) (new : PartyState) : Type 0 where
   pub op : Operation
   pub called : Called old op (swapped got) new
 
@@ -14,7 +14,7 @@ is_found (found tuple) = true
 is_found _ = false
 
 -- A call of the client was answered: it took a tuple, or there was none.
-pub record Taken (old : Seated) (had : Bool) (new : Seated) : Type 0 where
+pub record Taken (old : PartyState) (had : Bool) (new : PartyState) : Type 0 where
   pub op : Operation
   pub answer : Outcome
   pub called : Called old op answer new

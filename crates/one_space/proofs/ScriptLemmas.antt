@@ -12,7 +12,6 @@ use Rattle.one_space.specs.NextLines.{ReturnsLine, NextLineFails, BeginsWith}
 use Rattle.one_space.specs.Endings.{fault_at_line}
 use Rattle.one_space.specs.Scripts.{LinesSay, at_end, skips, calls, refuses, is_late, SaysSome, EndsBy, ReadSoFar, KeptSoFar, KeepsFirst, AreFirstOperations}
 use Rattle.one_space.specs.declared.pieces.ReadFault.{ReadFault}
-use Rattle.one_space.specs.declared.pieces.ReadFault.TheVariants as pieces
 use Rattle.one_space.specs.declared.input.NextLine.{NextLine}
 use Rattle.one_space.specs.declared.input.NextLine.TheVariants as next
 use Rattle.one_space.specs.declared.input.NoLine.{NoLine}

@@ -12,12 +12,12 @@ use Rattle.protocol.specs.System.Configuration.{Configuration, members}
 use Rattle.protocol.specs.System.Frames.{IsOutgoing}
 use Rattle.protocol.specs.System.Trace.{Entry, Has}
 use Rattle.protocol.specs.System.Trace.Entry.{Sent}
-use Rattle.protocol.specs.Replica.Owed.{IsSending, SendsMessage, IsBegunBelow}
+use Rattle.protocol.specs.Replica.Owed.{IsSending, SendsMessage, IsAssignedBelow}
 use Rattle.protocol.proofs.Words.Elements.{has_weaker, has_left, has_right, has_mapped, has_reversed, all_of_each, each_weaker}
 use Rattle.view_change.specs.ReceivedData.{held_of}
 use Rattle.replica_histories.specs.Resending.{FrameGoes, RowGoes, ViewGoes, AllGoes}
 use Rattle.orderer.specs.State.{OrdererData, IsOrderer}
-use Rattle.orderer.specs.Claiming.{MulticastsFrame, LogsBatch}
+use Rattle.orderer.specs.PqSets.{MulticastsFrame, LogsBatch}
 use Rattle.orderer.specs.Fitting.{given, changes_held, FitsEvent}
 use Rattle.orderer.specs.Multicasting.{OutputsHave, OutputsHaveFrame, OutputsHaveAll, OutputsHaveBatch, OutputsHaveViewChange, OutputsHaveNewView, OutputsHaveRow, OutputsHaveVote, Multicasts, AreBelow, IsBelow, OutputsHaveCheckpoint, MulticastsAgain, MulticastsAlso, MulticastsOwnBatch, MulticastsLastAgain, MulticastsLastAlso, row_place, vote_message, vote_place}
 use Rattle.std.specs.Prelude.{is_some, ◌==◌}
@@ -41,7 +41,7 @@ use Rattle.replica_histories.proofs.SentOnce.{saying}
 use Rattle.replica_histories.proofs.Again.{prepares_go_again, commits_go_again, batches_go_again, checkpoints_go_again}
 use Rattle.replica_histories.proofs.NumbersKept.{batches_keep_numbers}
 use Rattle.replica_histories.specs.Changes.{FitsChanges, IsNoNews}
-use Rattle.replica_histories.proofs.ChangesPassing.{outputs_pass, batches_are_claimed}
+use Rattle.replica_histories.proofs.ChangesPassing.{outputs_pass, batches_enter_q}
 use Rattle.replica_histories.proofs.ChangesKept.{sent_keep}
 use Rattle.desk.specs.Waiting.{unnumbered, with_numbered}
 use Rattle.orderer.proofs.Parties.{same_log}
@@ -51,9 +51,9 @@ use Rattle.orderer.proofs.Voting.{said_in}
 
 -- ---- among the outputs
 
-pub posted_now : (o : OrdererData) (message : Message) (before after : List Output) → Multicasts o message before after → OutputsHave o message after
-posted_now o message before after s =
-    subst (OutputsHave o message) (sym s.given_is) (has_right (λ output. SendsMessageToOthers o.endpoint message output) before (s.output ∷ []) (inl s.posts))
+pub outgoing_now : (o : OrdererData) (message : Message) (before after : List Output) → Multicasts o message before after → OutputsHave o message after
+outgoing_now o message before after s =
+    subst (OutputsHave o message) (sym s.given_is) (has_right (λ output. SendsMessageToOthers o.endpoint message output) before (s.output ∷ []) (inl s.sends_frame))
 
 pub frame_now : (o : OrdererData) (frame : List ℕ) (before after : List Output) → MulticastsFrame o frame before after → OutputsHaveFrame o frame after
 frame_now o frame before after s =
@@ -61,17 +61,17 @@ frame_now o frame before after s =
 
 -- messages among them stay there
 module _ (before more after : List Output) (given_is : after ≡ before ++ more) (o : OrdererData) where
-  posted_on : (message : Message) → OutputsHave o message before → OutputsHave o message after
-  posted_on message h = subst (OutputsHave o message) (sym given_is) (has_left (λ output. SendsMessageToOthers o.endpoint message output) before more h)
+  outgoing_on : (message : Message) → OutputsHave o message before → OutputsHave o message after
+  outgoing_on message h = subst (OutputsHave o message) (sym given_is) (has_left (λ output. SendsMessageToOthers o.endpoint message output) before more h)
 
   frame_on : (frame : List ℕ) → OutputsHaveFrame o frame before → OutputsHaveFrame o frame after
   frame_on frame h = subst (OutputsHaveFrame o frame) (sym given_is) (has_left (λ output. entry_of o.endpoint.me output ≡ Sent o.endpoint.me frame) before more h)
 
   pub batch_on : (number : ℕ) → OutputsHaveBatch number o before → OutputsHaveBatch number o after
-  batch_on number h text own above is = posted_on (PrePrepare o.log.view number text) (h text own above is)
+  batch_on number h text own above is = outgoing_on (PrePrepare o.log.view number text) (h text own above is)
 
   pub vote_on : (phase : Phase) (number : ℕ) → OutputsHaveVote phase number o before → OutputsHaveVote phase number o after
-  vote_on phase number h digest is = posted_on (vote_message phase o.log.view number digest) (h digest is)
+  vote_on phase number h digest is = outgoing_on (vote_message phase o.log.view number digest) (h digest is)
 
   pub row_on : (number : ℕ) → OutputsHaveRow number o before → OutputsHaveRow number o after
   row_on number h = (batch_on number h.0, vote_on phases.Prepare number h.1, vote_on phases.Commit number h.2)
@@ -92,26 +92,26 @@ module _ (c : Configuration) (o : OrdererData) (outs : List Output) (known : mem
   as_entry : (P : Output → Type 0) (Q : Entry → Type 0) → ((output : Output) → P output → Q (entry_of me output)) → Has P outs → Has Q entries
   as_entry P Q f h = has_reversed Q (map (entry_of me) outs) (has_mapped Q (entry_of me) outs (has_weaker P (λ output. Q (entry_of me output)) f outs h))
 
-  posted_goes : (message : Message) → OutputsHave o message outs → SendsMessage me message entries
-  posted_goes message = as_entry (λ output. SendsMessageToOthers o.endpoint message output) (IsSending me message)
-      (λ output p. subst (IsSending me message) (sym p.sends) (p.posted c known).says)
+  outgoing_goes : (message : Message) → OutputsHave o message outs → SendsMessage me message entries
+  outgoing_goes message = as_entry (λ output. SendsMessageToOthers o.endpoint message output) (IsSending me message)
+      (λ output p. subst (IsSending me message) (sym p.sends) (p.is_outgoing c known).says)
 
   frame_goes : (frame : List ℕ) → OutputsHaveFrame o frame outs → FrameGoes me frame entries
   frame_goes frame = as_entry (λ output. entry_of me output ≡ Sent me frame) (λ e. e ≡ Sent me frame) (λ output is. is)
 
   module _ (own : o.log.me ≡ me) where
-    row_goes : (i : ℕ) → OutputsHaveRow i o outs → RowGoes me o.log o.begun i entries
+    row_goes : (i : ℕ) → OutputsHaveRow i o outs → RowGoes me o.log o.assigned i entries
     row_goes i p = record {
-      batch = λ batch primary above is. posted_goes (PrePrepare o.log.view i batch) (p.0 batch (own ∙ sym primary) above is);
-      prepare = λ digest is. posted_goes (Prepare o.log.view i digest) (p.1 digest (subst (λ (m : ℕ). logs.prepare_of o.log i m ≡ Some digest) (sym own) is));
-      commit = λ digest is. posted_goes (Commit o.log.view i digest) (p.2 digest (subst (λ (m : ℕ). logs.commit_of o.log i m ≡ Some digest) (sym own) is));
+      batch = λ batch primary above is. outgoing_goes (PrePrepare o.log.view i batch) (p.0 batch (own ∙ sym primary) above is);
+      prepare = λ digest is. outgoing_goes (Prepare o.log.view i digest) (p.1 digest (subst (λ (m : ℕ). logs.prepare_of o.log i m ≡ Some digest) (sym own) is));
+      commit = λ digest is. outgoing_goes (Commit o.log.view i digest) (p.2 digest (subst (λ (m : ℕ). logs.commit_of o.log i m ≡ Some digest) (sym own) is));
     }
 
     view_goes : (executed : ℕ) → OutputsHaveAll executed o outs → ViewGoes me o.log (changes_held o) executed entries
     view_goes executed p = record {
       new_view = λ frame is. frame_goes frame (p.new_view frame is);
       rows = λ i above most. row_goes i (p.rows i above most);
-      checkpoint = λ m is. posted_goes (Checkpoint m.number m.digest) (p.checkpoint m is);
+      checkpoint = λ m is. outgoing_goes (Checkpoint m.number m.digest) (p.checkpoint m is);
     }
 
     pub all_goes : (executed : ℕ) → (o.log.active ≡ true → OutputsHaveAll executed o outs) → (o.log.active ≡ false → OutputsHaveViewChange o outs) → AllGoes me o.log (changes_held o) executed entries
@@ -159,7 +159,7 @@ pub no_batch_again : (number : ℕ) (o : OrdererData) (outs : List Output) → l
 no_batch_again number o outs none =
     (nothing_again (row_place number) (row_place number + 1) o outs (omega arith), λ text own above is. absurd (absent (logs.logged_batch o.log number) text none is))
 
-pub other_batch_again : (number : ℕ) (o : OrdererData) (outs : List Output) → (o.log.me ≡ logs.primary o.log o.log.view → o.begun < number → ⊥) → MulticastsAlso (row_place number) (row_place number + 1) (OutputsHaveBatch number) o outs o outs
+pub other_batch_again : (number : ℕ) (o : OrdererData) (outs : List Output) → (o.log.me ≡ logs.primary o.log o.log.view → o.assigned < number → ⊥) → MulticastsAlso (row_place number) (row_place number + 1) (OutputsHaveBatch number) o outs o outs
 other_batch_again number o outs other =
     (nothing_again (row_place number) (row_place number + 1) o outs (omega arith), λ text own above is. absurd (other own above))
 
@@ -186,12 +186,12 @@ goes_again first end message o before after says later under none unsigned fits 
   goes = λ active c s desk w known below f.
       let k = said_in c o message before after known says in
       let past = after_outputs s (given o.endpoint.me before) in
-      let on = fits active c s desk k.bytes k.posted below f.fits in (
+      let on = fits active c s desk k.bytes k.is_outgoing below f.fits in (
         fits_on c o.endpoint.me s o o desk w [] [] before after (Sent o.endpoint.me k.bytes) k.is
-            (sent_beside c o.endpoint.me message (others c o.endpoint.me) k.bytes past none k.posted)
-            (sent_keep c o.endpoint.me past message k.bytes k.posted.says on.0 (λ signed. absurd (let bad : false ≡ true = sym unsigned ∙ signed in cc)))
+            (sent_beside c o.endpoint.me message (others c o.endpoint.me) k.bytes past none k.is_outgoing)
+            (sent_keep c o.endpoint.me past message k.bytes k.is_outgoing.says on.0 (λ signed. absurd (let bad : false ≡ true = sym unsigned ∙ signed in cc)))
             (same_log o.log) refl refl refl refl f on.1,
-        one_below o.endpoint.me first end message k.bytes (given o.endpoint.me before) (given o.endpoint.me after) k.is.is k.posted.says later under below,
+        one_below o.endpoint.me first end message k.bytes (given o.endpoint.me before) (given o.endpoint.me after) k.is.is k.is_outgoing.says later under below,
       );
   same = refl;
   more = says.output ∷ [];
@@ -208,17 +208,17 @@ vote_goes : (phase : Phase) (number : ℕ) (digest : List ℕ) (o : OrdererData)
     → Multicasts o (vote_message phase o.log.view number digest) before after → MulticastsAgain (row_place number + vote_place phase) (row_place number + (vote_place phase + 1)) o before o after
 vote_goes phases.Prepare number digest o before after has says =
     goes_again (row_place number + 1) (row_place number + 2) (Prepare o.log.view number digest) o before after says (omega arith) (omega arith) tt refl
-    (λ active c s desk bytes posted below f. (
+    (λ active c s desk bytes is_outgoing below f. (
       tt,
       prepares_go_again c o.endpoint.me s desk o.log [] (given o.endpoint.me before) number digest bytes active has
-          (never_said o.endpoint.me (row_place number + 1) (Prepare o.log.view number digest) (given o.endpoint.me before) (λ l. absurd (omega (arith, l))) below) posted f,
+          (never_said o.endpoint.me (row_place number + 1) (Prepare o.log.view number digest) (given o.endpoint.me before) (λ l. absurd (omega (arith, l))) below) is_outgoing f,
     ))
 vote_goes phases.Commit number digest o before after has says =
     goes_again (row_place number + 2) (row_place number + 3) (Commit o.log.view number digest) o before after says (omega arith) (omega arith) tt refl
-    (λ active c s desk bytes posted below f. (
+    (λ active c s desk bytes is_outgoing below f. (
       (digest, committed_here c o.endpoint.me o.log (after_outputs s (given o.endpoint.me before)) number digest f.of_log has),
       commits_go_again c o.endpoint.me s desk o.log [] (given o.endpoint.me before) number digest bytes active has
-          (never_said o.endpoint.me (row_place number + 2) (Commit o.log.view number digest) (given o.endpoint.me before) (λ l. absurd (omega (arith, l))) below) posted f,
+          (never_said o.endpoint.me (row_place number + 2) (Commit o.log.view number digest) (given o.endpoint.me before) (λ l. absurd (omega (arith, l))) below) is_outgoing f,
     ))
 
 pub vote_again : (phase : Phase) (number : ℕ) (digest : List ℕ) (o new : OrdererData) (before after : List Output) → IsOrderer o → logs.vote_of phase o.log number o.log.me ≡ Some digest
@@ -226,7 +226,7 @@ pub vote_again : (phase : Phase) (number : ℕ) (digest : List ℕ) (o new : Ord
 vote_again phase number digest o new before after own has says is = (
   subst (λ (x : OrdererData). MulticastsAgain (row_place number + vote_place phase) (row_place number + (vote_place phase + 1)) o before x after) (sym is)
       (vote_goes phase number digest o before after (subst (λ (m : ℕ). logs.vote_of phase o.log number m ≡ Some digest) own.0 has) says),
-  λ other is_it. subst (λ (d : List ℕ). OutputsHave o (vote_message phase o.log.view number d) after) (some_injective digest other (sym has ∙ is_it)) (posted_now o (vote_message phase o.log.view number digest) before after says),
+  λ other is_it. subst (λ (d : List ℕ). OutputsHave o (vote_message phase o.log.view number d) after) (some_injective digest other (sym has ∙ is_it)) (outgoing_now o (vote_message phase o.log.view number digest) before after says),
 )
 
 -- the history has what stands in the log
@@ -235,10 +235,10 @@ logged_here : (c : Configuration) (me : ℕ) (log : LogData) (history : List Ent
 logged_here c me log history number text f has = f.batches number (passed (logs.is_in_marks log number) (logs.row_of log number).batch text has).0 ∙ has
 
 -- the batches of the new view with which the view began are below
-begun_below : (c : Configuration) (me number : ℕ) (o : OrdererData) (history : List Entry) → o.begun < number → FitsChanges c me o.log (changes_held o) history → IsBegunBelow c o.log.view number history
-begun_below c me number o history above f new once at = let most = f.begun new once at in omega (arith, most, above)
+assigned_below : (c : Configuration) (me number : ℕ) (o : OrdererData) (history : List Entry) → o.assigned < number → FitsChanges c me o.log (changes_held o) history → IsAssignedBelow c o.log.view number history
+assigned_below c me number o history above f new once at = let most = f.assigned new once at in omega (arith, most, above)
 
-pub batch_again : (number : ℕ) (text : List ℕ) (o new : OrdererData) (before after : List Output) → IsOrderer o → o.log.me ≡ logs.primary o.log o.log.view → o.begun < number
+pub batch_again : (number : ℕ) (text : List ℕ) (o new : OrdererData) (before after : List Output) → IsOrderer o → o.log.me ≡ logs.primary o.log o.log.view → o.assigned < number
     → logs.logged_batch o.log number ≡ Some text → Multicasts o (PrePrepare o.log.view number text) before after → new ≡ o → MulticastsAlso (row_place number) (row_place number + 1) (OutputsHaveBatch number) o before new after
 batch_again number text o new before after own primary above has says is = (
   subst (λ (x : OrdererData). MulticastsAgain (row_place number) (row_place number + 1) o before x after) (sym is) (record {
@@ -248,21 +248,21 @@ batch_again number text o new before after own primary above has says is = (
         let e = Sent o.endpoint.me k.bytes in
         let here = logged_here c o.endpoint.me o.log past number text f.fits.of_log has in
         let on = batches_go_again c o.endpoint.me s desk o.log [] (given o.endpoint.me before) number text k.bytes active (sym primary ∙ own.0) has
-        (begun_below c o.endpoint.me number o past above f.changes)
-        (never_said o.endpoint.me (row_place number) (PrePrepare o.log.view number text) (given o.endpoint.me before) (λ l. absurd (omega (arith, l))) below) k.posted f.fits in (
+        (assigned_below c o.endpoint.me number o past above f.changes)
+        (never_said o.endpoint.me (row_place number) (PrePrepare o.log.view number text) (given o.endpoint.me before) (λ l. absurd (omega (arith, l))) below) k.is_outgoing f.fits in (
           fits_behind c o.endpoint.me s o o desk desk w w [] [] before after e k.is refl f on
               (λ first. flags_stay c o.endpoint.me o.log.view o.used w desk.state desk.waiting past e
-              (batches_keep_numbers c o.endpoint.me o.log.view number text k.bytes past k.posted.says here).1
+              (batches_keep_numbers c o.endpoint.me o.log.view number text k.bytes past k.is_outgoing.says here).1
               (f.numbers first))
               (changes_still c o.endpoint.me s o o desk desk [] [] (given o.endpoint.me before) e f.fits on
-              (sent_keep c o.endpoint.me past (PrePrepare o.log.view number text) k.bytes k.posted.says (text, here) (λ signed. absurd cc)) (same_log o.log) refl refl f.changes),
-          one_below o.endpoint.me (row_place number) (row_place number + 1) (PrePrepare o.log.view number text) k.bytes (given o.endpoint.me before) (given o.endpoint.me after) k.is.is k.posted.says (omega arith) (omega arith) below,
+              (sent_keep c o.endpoint.me past (PrePrepare o.log.view number text) k.bytes k.is_outgoing.says (text, here) (λ signed. absurd cc)) (same_log o.log) refl refl f.changes),
+          one_below o.endpoint.me (row_place number) (row_place number + 1) (PrePrepare o.log.view number text) k.bytes (given o.endpoint.me before) (given o.endpoint.me after) k.is.is k.is_outgoing.says (omega arith) (omega arith) below,
         );
     same = refl;
     more = says.output ∷ [];
     given_is = says.given_is;
   }),
-  λ other mine over is_it. subst (λ (t : List ℕ). OutputsHave o (PrePrepare o.log.view number t) after) (some_injective text other (sym has ∙ is_it)) (posted_now o (PrePrepare o.log.view number text) before after says),
+  λ other mine over is_it. subst (λ (t : List ℕ). OutputsHave o (PrePrepare o.log.view number t) after) (some_injective text other (sym has ∙ is_it)) (outgoing_now o (PrePrepare o.log.view number text) before after says),
 )
 
 -- the replica's last checkpoint
@@ -274,16 +274,16 @@ checkpoint_again entry o new before after last says is place = (
         let k = said_in c o (Checkpoint entry.number entry.digest) before after known says in
         let past = after_outputs s (given o.endpoint.me before) in
         fits_on c o.endpoint.me s o o desk w [] [] before after (Sent o.endpoint.me k.bytes) k.is
-        (sent_beside c o.endpoint.me (Checkpoint entry.number entry.digest) (others c o.endpoint.me) k.bytes past tt k.posted)
-        (sent_keep c o.endpoint.me past (Checkpoint entry.number entry.digest) k.bytes k.posted.says (f.changes.latest ∙ last) (λ signed. absurd cc))
+        (sent_beside c o.endpoint.me (Checkpoint entry.number entry.digest) (others c o.endpoint.me) k.bytes past tt k.is_outgoing)
+        (sent_keep c o.endpoint.me past (Checkpoint entry.number entry.digest) k.bytes k.is_outgoing.says (f.changes.latest ∙ last) (λ signed. absurd cc))
         (same_log o.log) refl refl refl refl f
         (checkpoints_go_again c o.endpoint.me s desk o.log (given o.endpoint.me before) entry.number entry.digest k.bytes
-        (f.said entry last) (never_said o.endpoint.me place (Checkpoint entry.number entry.digest) (given o.endpoint.me before) (λ none. none) below) k.posted f.fits);
+        (f.said entry last) (never_said o.endpoint.me place (Checkpoint entry.number entry.digest) (given o.endpoint.me before) (λ none. none) below) k.is_outgoing f.fits);
     same = refl;
     more = says.output ∷ [];
     given_is = says.given_is;
   }),
-  λ other is_it. subst (λ (m : CheckpointEntry). OutputsHave o (Checkpoint m.number m.digest) after) (some_injective entry other (sym last ∙ is_it)) (posted_now o (Checkpoint entry.number entry.digest) before after says),
+  λ other is_it. subst (λ (m : CheckpointEntry). OutputsHave o (Checkpoint m.number m.digest) after) (some_injective entry other (sym last ∙ is_it)) (outgoing_now o (Checkpoint entry.number entry.digest) before after says),
 )
 
 -- the event goes on with the same orderer
@@ -376,7 +376,7 @@ held_are_genuine c me s desk log due outputs number text f may =
 
 pub says_batch : (number : ℕ) (text : List ℕ) (o mid new : OrdererData) (before after : List Output) → IsOrderer o
     → Multicasts o (PrePrepare o.log.view number text) before after → LogsBatch number text o mid → new ≡ record mid { used = number } → MulticastsOwnBatch number text o before new after
-says_batch number text o mid new before after own says (claims, adds, logs_it) is =
+says_batch number text o mid new before after own says (pq_sets, adds, logs_it) is =
     subst (λ (x : OrdererData). MulticastsOwnBatch number text o before x after) (sym (is ∙ ap (λ (x : OrdererData). record x { used = number }) logs_it)) (record {
       endpoint = refl;
       log = refl;
@@ -386,11 +386,11 @@ says_batch number text o mid new before after own says (claims, adds, logs_it) i
           let past = given o.endpoint.me before in
           let e = Sent o.endpoint.me k.bytes in
           let faults = f.fits.of_log.faults in
-          let on = batches_fit c o.endpoint.me s desk o.log due past number text k.bytes may k.posted f.fits in
-          fits_behind c o.endpoint.me s o (record o { log = with_batch o.log number text; claims = claims; used = number }) desk desk w (with_numbered (length (unnumbered w)) w) due due before after
+          let on = batches_fit c o.endpoint.me s desk o.log due past number text k.bytes may k.is_outgoing f.fits in
+          fits_behind c o.endpoint.me s o (record o { log = with_batch o.log number text; pq_sets = pq_sets; used = number }) desk desk w (with_numbered (length (unnumbered w)) w) due due before after
           e k.is refl f on
           (λ first. (flags_numbered c o.endpoint.me o.log.view o.used number w desk.state desk.waiting text k.bytes (after_outputs s past) calls
-          (sym (primary_same c o.log o.log.view faults) ∙ may.own ∙ own.0) may.free (held_are_genuine c o.endpoint.me s desk o.log due past number text f.fits may) reads k.posted.says (f.numbers first)).1)
-          (batches_are_claimed c o.endpoint.me (after_outputs s past) e o.log (changes_held o) claims o.endpoint.me number text
-          (outputs_pass c o.endpoint.me s desk desk o.log (with_batch o.log number text) due due past e f.fits on) may.within (sym (f.fits.of_log.batches number may.within) ∙ may.free.unused number (omega arith)) k.posted.says adds f.changes);
+          (sym (primary_same c o.log o.log.view faults) ∙ may.own ∙ own.0) may.free (held_are_genuine c o.endpoint.me s desk o.log due past number text f.fits may) reads k.is_outgoing.says (f.numbers first)).1)
+          (batches_enter_q c o.endpoint.me (after_outputs s past) e o.log (changes_held o) pq_sets o.endpoint.me number text
+          (outputs_pass c o.endpoint.me s desk desk o.log (with_batch o.log number text) due due past e f.fits on) may.within (sym (f.fits.of_log.batches number may.within) ∙ may.free.unused number (omega arith)) k.is_outgoing.says adds f.changes);
     })

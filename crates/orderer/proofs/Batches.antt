@@ -43,7 +43,7 @@ use Rattle.protocol.specs.Replica.Selection.{is_batch_entry_within, is_checkpoin
 use Rattle.replica_histories.proofs.Cutting.{cut_same}
 use Rattle.view_change.specs.declared.changes.Selection.{Selection}
 use Rattle.view_change.specs.Sets.{texts_of}
-use Rattle.claims.specs.ClaimsView.{ClaimsData, IsAmongTexts}
+use Rattle.pq_sets.specs.PqSetsView.{PqSetsData, IsAmongTexts}
 use Rattle.view_change.specs.ReceivedData.{HeldData, AreHeldFrom, IsJoined, later_view, later_views}
 use Rattle.view_change.specs.ReceivedView.{ReceivedState, AreReceived, judging_configuration}
 use Rattle.view_change.specs.Selecting.{AreFrom, IsAvailable}
@@ -112,22 +112,22 @@ selected_batches texts (x ∷ xs) each from = (one from.0, selected_batches text
 -- ---- the log
 
 -- if nothing new is logged
-less_held : (begun : ℕ) (old new : LogData) (texts less : List (List ℕ)) → ((i : ℕ) (text : List ℕ) → logs.logged_batch new i ≡ Some text → logs.logged_batch old i ≡ Some text) → Each (IsAmongTexts texts) less
-    → HoldsBatches begun old texts → HoldsBatches begun new less
-less_held begun old new texts less was among h = record {
+less_held : (assigned : ℕ) (old new : LogData) (texts less : List (List ℕ)) → ((i : ℕ) (text : List ℕ) → logs.logged_batch new i ≡ Some text → logs.logged_batch old i ≡ Some text) → Each (IsAmongTexts texts) less
+    → HoldsBatches assigned old texts → HoldsBatches assigned new less
+less_held assigned old new texts less was among h = record {
   logged = λ i text above there. h.logged i text above (was i text there);
-  claimed = all_among texts less h.claimed among;
+  in_q = all_among texts less h.in_q among;
 }
 
-same_held : (begun : ℕ) (old new : LogData) (texts : List (List ℕ)) → ((i : ℕ) → logs.logged_batch new i ≡ logs.logged_batch old i) → HoldsBatches begun old texts → HoldsBatches begun new texts
-same_held begun old new texts same h = record { logged = λ i text above there. h.logged i text above (sym (same i) ∙ there); claimed = h.claimed }
+same_held : (assigned : ℕ) (old new : LogData) (texts : List (List ℕ)) → ((i : ℕ) → logs.logged_batch new i ≡ logs.logged_batch old i) → HoldsBatches assigned old texts → HoldsBatches assigned new texts
+same_held assigned old new texts same h = record { logged = λ i text above there. h.logged i text above (sym (same i) ∙ there); in_q = h.in_q }
 
 same_logged : (phase : Phase) (number : ℕ) (vote : Vote) (log : LogData) → IsLog log → logs.is_in_marks log number ≡ true → (i : ℕ) → logs.logged_batch (logs.with_vote_in phase log number vote) i ≡ logs.logged_batch log i
 same_logged phases.Prepare number vote log is within i = (prepares_count log i number 0 vote is within).0
 same_logged phases.Commit number vote log is within i = (commits_count log i number 0 vote is within).0
 
-pub cut_held : (begun low : ℕ) (log : LogData) (texts less : List (List ℕ)) → IsLog log → Each (IsAmongTexts texts) less → HoldsBatches begun log texts → HoldsBatches begun (logs.cut_to log low) less
-cut_held begun low log texts less is among h = less_held begun log (logs.cut_to log low) texts less was among h
+pub cut_held : (assigned low : ℕ) (log : LogData) (texts less : List (List ℕ)) → IsLog log → Each (IsAmongTexts texts) less → HoldsBatches assigned log texts → HoldsBatches assigned (logs.cut_to log low) less
+cut_held assigned low log texts less is among h = less_held assigned log (logs.cut_to log low) texts less was among h
   where
     was : (i : ℕ) (text : List ℕ) → logs.logged_batch (logs.cut_to log low) i ≡ Some text → logs.logged_batch log i ≡ Some text
     was i text there = go (logs.is_in_marks (logs.cut_to log low) i) (sym (cuts_keep log low i 0 is).0 ∙ there)
@@ -136,37 +136,37 @@ cut_held begun low log texts less is among h = less_held begun log (logs.cut_to 
         go true e = e
         go false e = absurd cc
 
-pub entered_held : (begun last view : ℕ) (log : LogData) (texts : List (List ℕ)) → IsLog log → HoldsBatches begun log texts → HoldsBatches last (logs.entered log view) texts
-entered_held begun last view log texts is h = record {
+pub entered_held : (assigned last view : ℕ) (log : LogData) (texts : List (List ℕ)) → IsLog log → HoldsBatches assigned log texts → HoldsBatches last (logs.entered log view) texts
+entered_held assigned last view log texts is h = record {
   logged = λ i text above there. absurd (let none = (committed_stay log view i 0 is).0 in cc);
-  claimed = h.claimed;
+  in_q = h.in_q;
 }
 
-pub batch_held : (begun number : ℕ) (text : List ℕ) (log : LogData) (texts more : List (List ℕ)) → IsLog log → logs.is_in_marks log number ≡ true → IsBatch 0 text → (begun < number → IsBatch 1 text)
-    → Each (IsAmongTexts (text ∷ texts)) more → HoldsBatches begun log texts → HoldsBatches begun (logs.with_batch log number text) more
-batch_held begun number text log texts more is within batch some among h = record {
+pub batch_held : (assigned number : ℕ) (text : List ℕ) (log : LogData) (texts more : List (List ℕ)) → IsLog log → logs.is_in_marks log number ≡ true → IsBatch 0 text → (assigned < number → IsBatch 1 text)
+    → Each (IsAmongTexts (text ∷ texts)) more → HoldsBatches assigned log texts → HoldsBatches assigned (logs.with_batch log number text) more
+batch_held assigned number text log texts more is within batch some among h = record {
   logged = λ i other above there. go i other above (i == number) refl (sym (batches_are_logged log i number 0 text is within).0 ∙ there);
-  claimed = all_among (text ∷ texts) more (batch, h.claimed) among;
+  in_q = all_among (text ∷ texts) more (batch, h.in_q) among;
 }
   where
-    go : (i : ℕ) (other : List ℕ) → begun < i → (b : Bool) → (i == number) ≡ b → cond b (Some text) (logs.logged_batch log i) ≡ Some other → IsBatch 1 other
+    go : (i : ℕ) (other : List ℕ) → assigned < i → (b : Bool) → (i == number) ≡ b → cond b (Some text) (logs.logged_batch log i) ≡ Some other → IsBatch 1 other
     go i other above true e there =
         let same : i ≡ number = eqb-true i number e in
         let is_it : text ≡ other = cc in
-        subst (IsBatch 1) is_it (some (subst (λ (n : ℕ). begun < n) same above))
+        subst (IsBatch 1) is_it (some (subst (λ (n : ℕ). assigned < n) same above))
     go i other above false e there = h.logged i other above there
 
 -- ---- the orderer
 
 -- if nothing that the orderer keeps changes but the log
-pub with_log : (o : OrdererData) (log : LogData) → IsOrderer o → log.me ≡ o.log.me → log.faults ≡ o.log.faults → HoldsBatches o.begun log o.claims.texts → IsOrderer (record o { log = log })
+pub with_log : (o : OrdererData) (log : LogData) → IsOrderer o → log.me ≡ o.log.me → log.faults ≡ o.log.faults → HoldsBatches o.assigned log o.pq_sets.texts → IsOrderer (record o { log = log })
 with_log o log own me faults held = (me ∙ own.0, faults ∙ own.1, own.2, own.3, held)
 
 pub vote_added : (phase : Phase) (o : OrdererData) (number : ℕ) (vote : Vote) (log : LogData) → IsOrderer o → IsLog o.log → logs.is_in_marks o.log number ≡ true → log ≡ logs.with_vote_in phase o.log number vote → IsOrderer (record o { log = log })
 vote_added phase o number vote log own is within new =
     let voted : LogData = logs.with_vote_in phase o.log number vote in
     subst (λ (l : LogData). IsOrderer (record o { log = l })) (sym new)
-    (with_log o voted own refl refl (same_held o.begun o.log voted o.claims.texts (same_logged phase number vote o.log is within) own.4))
+    (with_log o voted own refl refl (same_held o.assigned o.log voted o.pq_sets.texts (same_logged phase number vote o.log is within) own.4))
 
 pub prepare_taken : (o : OrdererData) (sender : ReplicaId) (p : Prepare) (log : LogData) (r : Result Unit Dropped) → IsOrderer o → IsLog o.log → LogTakesPrepare o.log log sender p r → IsOrderer (record o { log = log })
 prepare_taken o sender p log (Ok done) own is (none, new) =
@@ -181,7 +181,7 @@ commit_taken o sender p log (Err e) own is (some, new) = subst (λ (l : LogData)
 pub checkpoint_counted : (o : OrdererData) (sender : ℕ) (entry : CheckpointEntry) (log : LogData) → IsOrderer o → log ≡ logs.with_checkpoint_of o.log sender entry → IsOrderer (record o { log = log })
 checkpoint_counted o sender entry log own is =
     subst (λ (l : LogData). IsOrderer (record o { log = l })) (sym is)
-    (with_log o (logs.with_checkpoint_of o.log sender entry) own refl refl (same_held o.begun o.log (logs.with_checkpoint_of o.log sender entry) o.claims.texts (λ i. refl) own.4))
+    (with_log o (logs.with_checkpoint_of o.log sender entry) own refl refl (same_held o.assigned o.log (logs.with_checkpoint_of o.log sender entry) o.pq_sets.texts (λ i. refl) own.4))
 
 pub checkpoint_taken : (o : OrdererData) (sender : ReplicaId) (p : Checkpoint) (log : LogData) (r : Result Unit Dropped) → IsOrderer o → LogTakesCheckpoint o.log log sender p r → IsOrderer (record o { log = log })
 checkpoint_taken o sender p log (Ok done) own (none, new) = checkpoint_counted o sender.0 (record { number = p.number.0; digest = p.root }) log own new
@@ -189,28 +189,28 @@ checkpoint_taken o sender p log (Err e) own (some, new) = subst (λ (l : LogData
 
 pub view_left : (o : OrdererData) (log : LogData) → IsOrderer o → log ≡ logs.left o.log → IsOrderer (record o { log = log })
 view_left o log own is =
-    subst (λ (l : LogData). IsOrderer (record o { log = l })) (sym is) (with_log o (logs.left o.log) own refl refl (same_held o.begun o.log (logs.left o.log) o.claims.texts (λ i. refl) own.4))
+    subst (λ (l : LogData). IsOrderer (record o { log = l })) (sym is) (with_log o (logs.left o.log) own refl refl (same_held o.assigned o.log (logs.left o.log) o.pq_sets.texts (λ i. refl) own.4))
 
-pub log_cut : (o : OrdererData) (low : ℕ) (log : LogData) (claims : ClaimsData) → IsOrderer o → IsLog o.log → log ≡ logs.cut_to o.log low → Each (IsAmongTexts o.claims.texts) claims.texts → IsOrderer (record o { log = log; claims = claims })
-log_cut o low log claims own is new among =
-    subst (λ (l : LogData). IsOrderer (record o { log = l; claims = claims })) (sym new) (
+pub log_cut : (o : OrdererData) (low : ℕ) (log : LogData) (pq_sets : PqSetsData) → IsOrderer o → IsLog o.log → log ≡ logs.cut_to o.log low → Each (IsAmongTexts o.pq_sets.texts) pq_sets.texts → IsOrderer (record o { log = log; pq_sets = pq_sets })
+log_cut o low log pq_sets own is new among =
+    subst (λ (l : LogData). IsOrderer (record o { log = l; pq_sets = pq_sets })) (sym new) (
       cut_same (λ (l : LogData). l.me) (λ l h rows. refl) o.log low ∙ own.0,
       cut_same (λ (l : LogData). l.faults) (λ l h rows. refl) o.log low ∙ own.1,
       own.2,
       own.3,
-      cut_held o.begun low o.log o.claims.texts claims.texts is among own.4,
+      cut_held o.assigned low o.log o.pq_sets.texts pq_sets.texts is among own.4,
     )
 
-pub batch_logged : (o : OrdererData) (number : ℕ) (text : List ℕ) (log : LogData) (claims : ClaimsData) → IsOrderer o → IsLog o.log → logs.is_in_marks o.log number ≡ true → IsBatch 0 text → (o.begun < number → IsBatch 1 text)
-    → log ≡ logs.with_batch o.log number text → Each (IsAmongTexts (text ∷ o.claims.texts)) claims.texts → IsOrderer (record o { log = log; claims = claims })
-batch_logged o number text log claims own is within batch some new among =
-    subst (λ (l : LogData). IsOrderer (record o { log = l; claims = claims })) (sym new)
-    (own.0, own.1, own.2, own.3, batch_held o.begun number text o.log o.claims.texts claims.texts is within batch some among own.4)
+pub batch_logged : (o : OrdererData) (number : ℕ) (text : List ℕ) (log : LogData) (pq_sets : PqSetsData) → IsOrderer o → IsLog o.log → logs.is_in_marks o.log number ≡ true → IsBatch 0 text → (o.assigned < number → IsBatch 1 text)
+    → log ≡ logs.with_batch o.log number text → Each (IsAmongTexts (text ∷ o.pq_sets.texts)) pq_sets.texts → IsOrderer (record o { log = log; pq_sets = pq_sets })
+batch_logged o number text log pq_sets own is within batch some new among =
+    subst (λ (l : LogData). IsOrderer (record o { log = l; pq_sets = pq_sets })) (sym new)
+    (own.0, own.1, own.2, own.3, batch_held o.assigned number text o.log o.pq_sets.texts pq_sets.texts is within batch some among own.4)
 
-pub view_entered : (o : OrdererData) (view last : ℕ) (log : LogData) → IsOrderer o → IsLog o.log → log ≡ logs.entered o.log view → IsOrderer (record o { log = log; used = last; begun = last })
+pub view_entered : (o : OrdererData) (view last : ℕ) (log : LogData) → IsOrderer o → IsLog o.log → log ≡ logs.entered o.log view → IsOrderer (record o { log = log; used = last; assigned = last })
 view_entered o view last log own is new =
-    subst (λ (l : LogData). IsOrderer (record o { log = l; used = last; begun = last })) (sym new)
-    (own.0, own.1, own.2, own.3, entered_held o.begun last view o.log o.claims.texts is own.4)
+    subst (λ (l : LogData). IsOrderer (record o { log = l; used = last; assigned = last })) (sym new)
+    (own.0, own.1, own.2, own.3, entered_held o.assigned last view o.log o.pq_sets.texts is own.4)
 
 -- a view change within its bounds is for a number
 view_within : (c : Configuration) (vc : ViewChangeData) → is_within c vc ≡ true → is_number vc.view ≡ true
@@ -255,9 +255,9 @@ pub joins_none : (o : OrdererData) (me : ℕ) (target : View) (view : Option Vie
 joins_none o me target None own are mine aimed h = joined_by_none o me target.0 own are mine aimed h
 joins_none o me target (Some v) own are mine aimed h = tt
 
--- a selection of claimed batches has batches
+-- a selection of batches of Q has batches
 pub selected_are : {E : Type 0} (o : OrdererData) (r : Result (Option Selection) E) → IsOrderer o → IfOk r (λ x. IfSome x (λ s. IsSelection o s.start.0 s.root (texts_of s.batches.items)))
     → IfOk r (λ x. IfSome x (λ s. Each (IsBatch 0) (texts_of s.batches.items)))
 selected_are o (Err e) own h = h
 selected_are o (Ok None) own h = tt
-selected_are o (Ok (Some s)) own h = selected_batches o.claims.texts (texts_of s.batches.items) own.4.claimed h.from
+selected_are o (Ok (Some s)) own h = selected_batches o.pq_sets.texts (texts_of s.batches.items) own.4.in_q h.from

@@ -25,14 +25,14 @@ use Rattle.wire_format.specs.Views.{view_change_data}
 use Rattle.frame_endpoint.specs.Endpoint.{SignedExceeds, says, IsOwnSigned}
 use Rattle.protocol.specs.Replica.RightReplica.{Point, HistoryReaches, IsNewViewChange, kept_states, SentBefore}
 use Rattle.view_change.specs.declared.changes.Change.{Change}
-use Rattle.claims.specs.ClaimsView.{ClaimsData}
+use Rattle.pq_sets.specs.PqSetsView.{PqSetsData}
 use Rattle.view_change.specs.Sets.{change_pair}
 use Rattle.replica_histories.specs.Changes.{FitsChanges}
 use Rattle.replica_histories.specs.Desk.{Desk, snapshot_of}
 use Rattle.replica_histories.specs.Logs.{FitsLog}
 use Rattle.replica_histories.specs.Views.{entries_of}
 use Rattle.replica_histories.proofs.OneChange.{said_valid, new_changes_are_one}
-use Rattle.orderer.specs.Claiming.{MaySign, MulticastsFrame}
+use Rattle.orderer.specs.PqSets.{MaySign, MulticastsFrame}
 use Rattle.orderer.specs.Fitting.{changes_held, given, FitsEvent}
 use Rattle.orderer.specs.Going.{IsVotedAll}
 use Rattle.std.proofs.lemmas.List.{append-nil}
@@ -147,7 +147,7 @@ module _ (c : Configuration) (me : ℕ) (desk : Desk) (o : OrdererData) (history
   pub is_change_for : (vc : ViewChangeData) (bytes : List ℕ) → vc.view ≡ v → IsNewViewChange c me history point vc → said bytes ≡ Some (record { sender = me; message = ViewChange vc })
       → vc ≡ change_for v (entries_of desk.snapshots) o
   is_change_for vc bytes at may says_it =
-      new_changes_are_one c me desk o.log history point now o.claims me vc bytes fits leaves (λ i. (voted i).1) kept f.claims may says_it
+      new_changes_are_one c me desk o.log history point now o.pq_sets me vc bytes fits leaves (λ i. (voted i).1) kept f.pq_sets may says_it
       ∙ ap (λ (w : ℕ). change_for w (entries_of desk.snapshots) o) at
 
   -- so its keys are spent
@@ -185,19 +185,19 @@ module _ (c : Configuration) (me : ℕ) (desk : Desk) (o : OrdererData) (history
 pub of_none : {A : Type 0} (P : Type 0) (o : Option A) → o ≡ None → IfNone o P → P
 of_none P o is h = subst (λ x. IfNone x P) is h
 
-made_is : (view low : ℕ) (checkpoints : List CheckpointEntry) (claims : ClaimsData) (o : OrdererData) (vc : ViewChangeData)
-    → vc ≡ record { view = view; low = low; checkpoints = checkpoints; prepared = claims.prepared; pre_prepared = claims.logged } → low ≡ o.log.low → claims ≡ o.claims → vc ≡ change_for view checkpoints o
-made_is view low checkpoints claims o vc made at same =
-    made ∙ ap₂ (λ (l : ℕ) (cs : ClaimsData). let x : ViewChangeData = record { view = view; low = l; checkpoints = checkpoints; prepared = cs.prepared; pre_prepared = cs.logged } in x) at same
+made_is : (view low : ℕ) (checkpoints : List CheckpointEntry) (pq_sets : PqSetsData) (o : OrdererData) (vc : ViewChangeData)
+    → vc ≡ record { view = view; low = low; checkpoints = checkpoints; prepared = pq_sets.prepared; pre_prepared = pq_sets.logged } → low ≡ o.log.low → pq_sets ≡ o.pq_sets → vc ≡ change_for view checkpoints o
+made_is view low checkpoints pq_sets o vc made at same =
+    made ∙ ap₂ (λ (l : ℕ) (cs : PqSetsData). let x : ViewChangeData = record { view = view; low = l; checkpoints = checkpoints; prepared = cs.prepared; pre_prepared = cs.logged } in x) at same
 
 -- the copy of the view change isn't signed
-pub not_signed : (o later : OrdererData) (view low : ℕ) (checkpoints : List CheckpointEntry) (claims : ClaimsData) (said x : Change) (message : Message) (r : Option (Vec ℕ Global))
-    → view_change_data x.change ≡ record { view = view; low = low; checkpoints = checkpoints; prepared = claims.prepared; pre_prepared = claims.logged } → low ≡ o.log.low → claims ≡ o.claims
+pub not_signed : (o later : OrdererData) (view low : ℕ) (checkpoints : List CheckpointEntry) (pq_sets : PqSetsData) (said x : Change) (message : Message) (r : Option (Vec ℕ Global))
+    → view_change_data x.change ≡ record { view = view; low = low; checkpoints = checkpoints; prepared = pq_sets.prepared; pre_prepared = pq_sets.logged } → low ≡ o.log.low → pq_sets ≡ o.pq_sets
     → change_pair said ≡ change_pair x → message ≡ ViewChange (view_change_data said.change) → r ≡ None → MaySign message o later r → (later ≡ o) × IsUnsendable o (change_for view checkpoints o)
-not_signed o later view low checkpoints claims said x message r made at same copy is none signs = let h = subst (MaySign message o later) none signs in (h.0, go h.1)
+not_signed o later view low checkpoints pq_sets said x message r made at same copy is none signs = let h = subst (MaySign message o later) none signs in (h.0, go h.1)
   where
     says_it : message ≡ ViewChange (change_for view checkpoints o)
-    says_it = is ∙ ap (λ (p : ℕ × ViewChangeData). ViewChange p.1) copy ∙ ap (λ (y : ViewChangeData). ViewChange y) (made_is view low checkpoints claims o (view_change_data x.change) made at same)
+    says_it = is ∙ ap (λ (p : ℕ × ViewChangeData). ViewChange p.1) copy ∙ ap (λ (y : ViewChangeData). ViewChange y) (made_is view low checkpoints pq_sets o (view_change_data x.change) made at same)
 
     go : (o.spent ≡ 64) ⊎ SignedExceeds (says o.endpoint.me message) → IsUnsendable o (change_for view checkpoints o)
     go (inl spent) = inl spent
@@ -210,29 +210,29 @@ not_signed o later view low checkpoints claims said x message r made at same cop
 pub own_is_signed : (o : OrdererData) (x : Change) (frame : List ℕ) → IsOrderer o → IsLog o.log → x.sender.0 ≡ o.log.me → IsOwnSigned o.endpoint (ViewChange (view_change_data x.change)) frame
     → signed_change (judging_configuration o.received) frame ≡ Some (x.sender.0, view_change_data x.change)
 own_is_signed o x frame own is sender signed =
-    own_are_signed (judging_configuration o.received) o.endpoint.me (view_change_data x.change) frame known (record { says = posted.says; is_sealed = posted.is_sealed })
+    own_are_signed (judging_configuration o.received) o.endpoint.me (view_change_data x.change) frame known (record { says = is_outgoing.says; is_sealed = is_outgoing.is_sealed })
     ∙ ap (λ (m : ℕ). Some (m, view_change_data x.change)) (sym (sender ∙ own.0))
   where
     -- of these members, with the seed of the keys
     c : Configuration
     c = record (judging_configuration o.received) { faults = o.endpoint.membership.faults; clients = o.endpoint.membership.clients }
 
-    posted : IsOutgoing c o.endpoint.me (ViewChange (view_change_data x.change)) [] frame
-    posted = signed c (ap (λ (seed : List ℕ). record o.endpoint.membership { seed = seed }) own.2)
+    is_outgoing : IsOutgoing c o.endpoint.me (ViewChange (view_change_data x.change)) [] frame
+    is_outgoing = signed c (ap (λ (seed : List ℕ). record o.endpoint.membership { seed = seed }) own.2)
 
     known : o.endpoint.me < replicas (judging_configuration o.received)
     known = let me = own.0 in let faults = own.1 in let sizes = own.3 in let few = is.me in omega (arith, me, faults, sizes, few)
 
-pub signs_change : (view low : ℕ) (checkpoints : List CheckpointEntry) (claims : ClaimsData) (old new : OrdererData) (x : Change) (frame : List ℕ) → x.sender.0 ≡ old.log.me
-    → view_change_data x.change ≡ record { view = view; low = low; checkpoints = checkpoints; prepared = claims.prepared; pre_prepared = claims.logged } → low ≡ old.log.low → claims ≡ old.claims
+pub signs_change : (view low : ℕ) (checkpoints : List CheckpointEntry) (pq_sets : PqSetsData) (old new : OrdererData) (x : Change) (frame : List ℕ) → x.sender.0 ≡ old.log.me
+    → view_change_data x.change ≡ record { view = view; low = low; checkpoints = checkpoints; prepared = pq_sets.prepared; pre_prepared = pq_sets.logged } → low ≡ old.log.low → pq_sets ≡ old.pq_sets
     → IsOwnSigned old.endpoint (ViewChange (view_change_data x.change)) frame → leaf_of frame ≡ Some old.spent → ReceivesViewChange (held_as x frame) (record old { spent = old.spent + 1 }) new true
     → SignsChange view checkpoints old new frame
-signs_change view low checkpoints claims old new x frame sender made at same signed by receives = record {
+signs_change view low checkpoints pq_sets old new x frame sender made at same signed by receives = record {
   by_leaf = by;
   own = held_as x frame;
   sender = sender;
   frame_is = refl;
-  change = made ∙ ap₂ (λ (l : ℕ) (cs : ClaimsData). record { view = view; low = l; checkpoints = checkpoints; prepared = cs.prepared; pre_prepared = cs.logged }) at same;
+  change = made ∙ ap₂ (λ (l : ℕ) (cs : PqSetsData). record { view = view; low = l; checkpoints = checkpoints; prepared = cs.prepared; pre_prepared = cs.logged }) at same;
   signed = signed;
   new_is = receives.1;
 }
@@ -280,11 +280,11 @@ change_again o frame before after own has says = (
         let there : Some h.own.frame ≡ Some frame =
         ap (option_map (λ (x : HeldData). x.frame)) (sym h.held) ∙ ap (λ (m : ℕ). option_map (λ (x : HeldData). x.frame) (held_of o.received.held m)) (sym own.0) ∙ has in
         let is = some_injective h.own.frame frame there in
-        let posted : IsOutgoing c me (ViewChange h.own.change) [] frame = subst (IsOutgoing c me (ViewChange h.own.change) []) is h.posted in
+        let is_outgoing : IsOutgoing c me (ViewChange h.own.change) [] frame = subst (IsOutgoing c me (ViewChange h.own.change) []) is h.is_outgoing in
         let left : o.log.view < target past = leb-false (target past) o.log.view (f.fits.of_log.active ∙ inactive) in
         let last : h.own.change.view ≡ target past = h.view ∙ sym f.changes.target in
-        fits_on c me s o o desk w [] [] before after (Sent me frame) (emits_one c me before after says.output (Sent me frame) says.given_is says.sends.sends (says.sends.meant c (ViewChange h.own.change) known posted))
-        (sent_beside c me (ViewChange h.own.change) [] frame past tt posted) (sent_keep c me past (ViewChange h.own.change) frame posted.says (omega (arith, last)) (λ signed. subst (λ (b : List ℕ). SentBefore b past) is h.sent))
+        fits_on c me s o o desk w [] [] before after (Sent me frame) (emits_one c me before after says.output (Sent me frame) says.given_is says.sends.sends (says.sends.meant c (ViewChange h.own.change) known is_outgoing))
+        (sent_beside c me (ViewChange h.own.change) [] frame past tt is_outgoing) (sent_keep c me past (ViewChange h.own.change) frame is_outgoing.says (omega (arith, last)) (λ signed. subst (λ (b : List ℕ). SentBefore b past) is h.sent))
         (same_log o.log) refl refl refl refl f
         (view_changes_go_again c me s desk o.log [] (given me before) h.own.change frame left last (subst (λ (b : List ℕ). SentBefore b past) is h.sent)
-        (never_said me 0 (ViewChange h.own.change) (given me before) (λ none. none) below) posted f.fits)
+        (never_said me 0 (ViewChange h.own.change) (given me before) (λ none. none) below) is_outgoing f.fits)

@@ -1,20 +1,20 @@
--- How an orderer logs and claims batches, enters a new view with them, and makes its own.
+-- How an orderer logs batches, puts them into Q, enters a new view with them, and makes its own.
 use Rattle.std.proofs.Common.{◌≡◌, ℕ, List, ◌∷◌, ap, ◌∙◌, subst, suc, ◌+◌, ◌≤◌, ◌<◌, ◌⊎◌, inl, inr, Bool, true, false, cond, [], refl, sym, arith, ◌==◌, eqb-true, ◌++◌, length, map, Vec, Option, Some, None, Result, Ok, Err, IfOk, IfSome, IfNone, MatchOption}
 use Rattle.wire_format.specs.Lists.{Each}
 use Rattle.ordering.specs.Log.{with_batch, Row, LogData, is_in_marks}
-use Rattle.claims.specs.ClaimsView.{ClaimsData, claim_of, IsAmongTexts, digests_of}
-use Rattle.claims.specs.Recording.{with_logged, with_all}
+use Rattle.pq_sets.specs.PqSetsView.{PqSetsData, pq_entry_of, IsAmongTexts, digests_of}
+use Rattle.pq_sets.specs.Recording.{with_logged, with_all}
 use Rattle.orderer.specs.State.{OrdererData}
-use Rattle.orderer.specs.Claiming.{LogsBatch, MaySign, MulticastsFrame}
+use Rattle.orderer.specs.PqSets.{LogsBatch, MaySign, MulticastsFrame}
 use Rattle.std.specs.Arc.{arc_value}
 use Rattle.std.specs.declared.sync.Arc.{Arc}
 use Rattle.std.specs.declared.alloc.Global.{Global}
 use Rattle.std.proofs.lemmas.Bool.{eqb-false}
-use Rattle.wire_format.specs.Messages.{BatchEntryData as Claim, BodyData as Body, MessageData as Message, NewViewData, ViewChangeData, new_view as NewView}
+use Rattle.wire_format.specs.Messages.{BatchEntryData as PqEntry, BodyData as Body, MessageData as Message, NewViewData, ViewChangeData, new_view as NewView}
 use Rattle.events.specs.declared.output.Output.{Output}
 use Rattle.view_change.specs.Sets.{texts_of, sized}
 use Rattle.protocol.proofs.Words.Elements.{each_has, each_weaker}
-use Rattle.replica_histories.specs.Changes.{AddsLogged, claims_from, texts_in_marks, KeepsChanges, IsOwnView}
+use Rattle.replica_histories.specs.Changes.{AddsLogged, pq_entries_from, texts_in_marks, KeepsChanges, IsOwnView}
 use Rattle.replica_histories.specs.Views.{with_batches}
 use Rattle.desk.specs.Waiting.{texts}
 use Rattle.orderer.specs.Going.{NoVoteIsDue}
@@ -47,19 +47,19 @@ use Rattle.replica_histories.specs.Numbers.{is_pre_prepare}
 use Rattle.replica_histories.proofs.Changing.{new_views_go_again}
 use Rattle.replica_histories.proofs.ChangesKept.{sent_keep}
 use Rattle.orderer.specs.Fitting.{given}
-use Rattle.replica_histories.proofs.Primaries.{claimed_select_nothing}
+use Rattle.replica_histories.proofs.Primaries.{q_selects_nothing}
 use Rattle.orderer.proofs.Again.{frame_now, nothing_again, never_said, one_below}
 use Rattle.orderer.proofs.Staying.{EmitsOne, emits_one, IsBeside, fits_on}
 
-pub logs_batch : (number view : ℕ) (text noted : List ℕ) (inside old new : OrdererData) (claims : ClaimsData) → inside ≡ old → view ≡ inside.log.view → noted ≡ text
-    → claims.prepared ≡ inside.claims.prepared → claims.logged ≡ with_logged (claim_of number view noted) inside.claims.logged → Each (IsAmongTexts (noted ∷ inside.claims.texts)) claims.texts
-    → new ≡ record inside { log = with_batch inside.log number text; claims = claims } → LogsBatch number text old new
-logs_batch number view text noted inside old new claims same at read prepared logged texts is = subst (λ (o : OrdererData). LogsBatch number text o new) same (
-  claims,
+pub logs_batch : (number view : ℕ) (text noted : List ℕ) (inside old new : OrdererData) (pq_sets : PqSetsData) → inside ≡ old → view ≡ inside.log.view → noted ≡ text
+    → pq_sets.prepared ≡ inside.pq_sets.prepared → pq_sets.logged ≡ with_logged (pq_entry_of number view noted) inside.pq_sets.logged → Each (IsAmongTexts (noted ∷ inside.pq_sets.texts)) pq_sets.texts
+    → new ≡ record inside { log = with_batch inside.log number text; pq_sets = pq_sets } → LogsBatch number text old new
+logs_batch number view text noted inside old new pq_sets same at read prepared logged texts is = subst (λ (o : OrdererData). LogsBatch number text o new) same (
+  pq_sets,
   record {
     prepared = prepared;
-    logged = logged ∙ ap (λ (v : ℕ). with_logged (claim_of number v noted) inside.claims.logged) at ∙ ap (λ (t : List ℕ). with_logged (claim_of number inside.log.view t) inside.claims.logged) read;
-    texts = subst (λ (t : List ℕ). Each (IsAmongTexts (t ∷ inside.claims.texts)) claims.texts) read texts;
+    logged = logged ∙ ap (λ (v : ℕ). with_logged (pq_entry_of number v noted) inside.pq_sets.logged) at ∙ ap (λ (t : List ℕ). with_logged (pq_entry_of number inside.log.view t) inside.pq_sets.logged) read;
+    texts = subst (λ (t : List ℕ). Each (IsAmongTexts (t ∷ inside.pq_sets.texts)) pq_sets.texts) read texts;
   },
   is,
 )
@@ -98,10 +98,10 @@ one_voted start last a b d x y z p q = record {
 
 -- ---- batches that are logged
 
-claims_same : (m : LogData) (rows : List Row) (v i : ℕ) (texts : List (List ℕ)) → claims_from (record m { rows = rows }) v i texts ≡ claims_from m v i texts
-claims_same m rows v i [] = refl
-claims_same m rows v i (text ∷ texts) =
-    ap (λ (cs : List Claim). cond (is_in_marks m i) (claim_of i v text ∷ cs) cs) (claims_same m rows v (suc i) texts)
+pq_sets_same : (m : LogData) (rows : List Row) (v i : ℕ) (texts : List (List ℕ)) → pq_entries_from (record m { rows = rows }) v i texts ≡ pq_entries_from m v i texts
+pq_sets_same m rows v i [] = refl
+pq_sets_same m rows v i (text ∷ texts) =
+    ap (λ (cs : List PqEntry). cond (is_in_marks m i) (pq_entry_of i v text ∷ cs) cs) (pq_sets_same m rows v (suc i) texts)
 
 texts_same : (m : LogData) (rows : List Row) (i : ℕ) (texts : List (List ℕ)) → texts_in_marks (record m { rows = rows }) i texts ≡ texts_in_marks m i texts
 texts_same m rows i [] = refl
@@ -112,33 +112,33 @@ all_among xs [] f = tt
 all_among xs (y ∷ ys) f = (inl (f y (inl refl)), all_among xs ys (λ t h. f t (inr h)))
 
 pub logs_none : (k : ℕ) (o : OrdererData) → LogsBatches k [] o o
-logs_none k o = (o.claims, record { prepared = refl; logged = refl; texts = all_among o.claims.texts o.claims.texts (λ t h. h) }, refl)
+logs_none k o = (o.pq_sets, record { prepared = refl; logged = refl; texts = all_among o.pq_sets.texts o.pq_sets.texts (λ t h. h) }, refl)
 
 module _ (k : ℕ) (text : List ℕ) (texts : List (List ℕ)) (a d : OrdererData) where
   -- the batch is within the marks
-  within_then : (claims : ClaimsData) → is_in_marks a.log k ≡ true → AddsLogged k a.log.view text a.claims claims
-      → LogsBatches (suc k) texts (record a { log = with_batch a.log k text; claims = claims }) d → LogsBatches k (text ∷ texts) a d
-  within_then claims w one rest = (
+  within_then : (pq_sets : PqSetsData) → is_in_marks a.log k ≡ true → AddsLogged k a.log.view text a.pq_sets pq_sets
+      → LogsBatches (suc k) texts (record a { log = with_batch a.log k text; pq_sets = pq_sets }) d → LogsBatches k (text ∷ texts) a d
+  within_then pq_sets w one rest = (
     rest.0,
     record {
       prepared = rest.1.prepared ∙ one.prepared;
       logged = rest.1.logged
-          ∙ ap (λ (cs : List Claim). with_all with_logged (claims_from (with_batch a.log k text) a.log.view (suc k) texts) cs) one.logged
-          ∙ ap (λ (cs : List Claim). with_all with_logged cs (with_logged (claim_of k a.log.view text) a.claims.logged)) (claims_same a.log (with_batch a.log k text).rows a.log.view (suc k) texts)
-          ∙ ap (λ (t : Bool). with_all with_logged (cond t (claim_of k a.log.view text ∷ claims_from a.log a.log.view (suc k) texts) (claims_from a.log a.log.view (suc k) texts)) a.claims.logged) (sym w);
-      texts = each_weaker (λ t. IsAmongTexts claims.texts t ⊎ IsAmongTexts (texts_in_marks (with_batch a.log k text) (suc k) texts) t) (λ t. IsAmongTexts a.claims.texts t ⊎ IsAmongTexts (texts_in_marks a.log k (text ∷ texts)) t) among rest.0.texts rest.1.texts;
+          ∙ ap (λ (cs : List PqEntry). with_all with_logged (pq_entries_from (with_batch a.log k text) a.log.view (suc k) texts) cs) one.logged
+          ∙ ap (λ (cs : List PqEntry). with_all with_logged cs (with_logged (pq_entry_of k a.log.view text) a.pq_sets.logged)) (pq_sets_same a.log (with_batch a.log k text).rows a.log.view (suc k) texts)
+          ∙ ap (λ (t : Bool). with_all with_logged (cond t (pq_entry_of k a.log.view text ∷ pq_entries_from a.log a.log.view (suc k) texts) (pq_entries_from a.log a.log.view (suc k) texts)) a.pq_sets.logged) (sym w);
+      texts = each_weaker (λ t. IsAmongTexts pq_sets.texts t ⊎ IsAmongTexts (texts_in_marks (with_batch a.log k text) (suc k) texts) t) (λ t. IsAmongTexts a.pq_sets.texts t ⊎ IsAmongTexts (texts_in_marks a.log k (text ∷ texts)) t) among rest.0.texts rest.1.texts;
     },
-    rest.2 ∙ ap (λ (t : Bool). record a { log = with_batches (cond t (with_batch a.log k text) a.log) (suc k) texts; claims = rest.0 }) (sym w),
+    rest.2 ∙ ap (λ (t : Bool). record a { log = with_batches (cond t (with_batch a.log k text) a.log) (suc k) texts; pq_sets = rest.0 }) (sym w),
   )
     where
       here : (t : List ℕ) → IsAmongTexts (text ∷ texts_in_marks a.log (suc k) texts) t → IsAmongTexts (texts_in_marks a.log k (text ∷ texts)) t
       here t h = subst (λ (b : Bool). IsAmongTexts (cond b (text ∷ texts_in_marks a.log (suc k) texts) (texts_in_marks a.log (suc k) texts)) t) (sym w) h
 
-      among : (t : List ℕ) → IsAmongTexts claims.texts t ⊎ IsAmongTexts (texts_in_marks (with_batch a.log k text) (suc k) texts) t → IsAmongTexts a.claims.texts t ⊎ IsAmongTexts (texts_in_marks a.log k (text ∷ texts)) t
+      among : (t : List ℕ) → IsAmongTexts pq_sets.texts t ⊎ IsAmongTexts (texts_in_marks (with_batch a.log k text) (suc k) texts) t → IsAmongTexts a.pq_sets.texts t ⊎ IsAmongTexts (texts_in_marks a.log k (text ∷ texts)) t
       among t (inr h) = inr (here t (inr (subst (λ (ts : List (List ℕ)). IsAmongTexts ts t) (texts_same a.log (with_batch a.log k text).rows (suc k) texts) h)))
-      among t (inl h) = go (each_has (IsAmongTexts (text ∷ a.claims.texts)) claims.texts t one.texts h)
+      among t (inl h) = go (each_has (IsAmongTexts (text ∷ a.pq_sets.texts)) pq_sets.texts t one.texts h)
         where
-          go : IsAmongTexts (text ∷ a.claims.texts) t → IsAmongTexts a.claims.texts t ⊎ IsAmongTexts (texts_in_marks a.log k (text ∷ texts)) t
+          go : IsAmongTexts (text ∷ a.pq_sets.texts) t → IsAmongTexts a.pq_sets.texts t ⊎ IsAmongTexts (texts_in_marks a.log k (text ∷ texts)) t
           go (inl same) = inr (here t (inl same))
           go (inr old) = inl old
 
@@ -152,10 +152,10 @@ module _ (k : ℕ) (text : List ℕ) (texts : List (List ℕ)) (a d : OrdererDat
     record {
       prepared = rest.1.prepared;
       logged = rest.1.logged
-          ∙ ap (λ (t : Bool). with_all with_logged (cond t (claim_of k a.log.view text ∷ claims_from a.log a.log.view (suc k) texts) (claims_from a.log a.log.view (suc k) texts)) a.claims.logged) (sym w);
-      texts = subst (λ (b : Bool). Each (λ t. IsAmongTexts a.claims.texts t ⊎ IsAmongTexts (cond b (text ∷ texts_in_marks a.log (suc k) texts) (texts_in_marks a.log (suc k) texts)) t) rest.0.texts) (sym w) rest.1.texts;
+          ∙ ap (λ (t : Bool). with_all with_logged (cond t (pq_entry_of k a.log.view text ∷ pq_entries_from a.log a.log.view (suc k) texts) (pq_entries_from a.log a.log.view (suc k) texts)) a.pq_sets.logged) (sym w);
+      texts = subst (λ (b : Bool). Each (λ t. IsAmongTexts a.pq_sets.texts t ⊎ IsAmongTexts (cond b (text ∷ texts_in_marks a.log (suc k) texts) (texts_in_marks a.log (suc k) texts)) t) rest.0.texts) (sym w) rest.1.texts;
     },
-    rest.2 ∙ ap (λ (t : Bool). record a { log = with_batches (cond t (with_batch a.log k text) a.log) (suc k) texts; claims = rest.0 }) (sym w),
+    rest.2 ∙ ap (λ (t : Bool). record a { log = with_batches (cond t (with_batch a.log k text) a.log) (suc k) texts; pq_sets = rest.0 }) (sym w),
   )
 
 -- logging the rest leads to the end of the whole
@@ -190,13 +190,13 @@ no_view_again o outs none = (nothing_again 0 1 o outs (omega arith), λ frame is
 -- the replica takes no second new view of its view
 module _ (c : Configuration) (me v : ℕ) (past : List Entry) (frame : List ℕ) (own : IsOwnView c me v past frame) (here : view c past ≡ v) where
   keeps_all : KeepsChanges c me past (Sent me frame)
-  keeps_all = sent_keep c me past (NewView own.new) frame own.posted.says (let a = own.view in let b = here in omega (arith, a, b)) (λ signed. own.sent)
+  keeps_all = sent_keep c me past (NewView own.new) frame own.is_outgoing.says (let a = own.view in let b = here in omega (arith, a, b)) (λ signed. own.sent)
 
   is_beside : IsBeside c me past (Sent me frame)
   is_beside = record {
     here = refl;
     none = keeps_all.views.none;
-    sends = ap (λ (o : Option Body). option_map_or (λ (b : Body). is_pre_prepare b.message) o false) own.posted.says;
+    sends = ap (λ (o : Option Body). option_map_or (λ (b : Body). is_pre_prepare b.message) o false) own.is_outgoing.says;
   }
 
 pub view_again : (frame : List ℕ) (o : OrdererData) (before after : List Output) → o.new_view ≡ Some frame → MulticastsFrame o frame before after → MulticastsAlso 0 1 OutputsHaveNewView o before o after
@@ -207,13 +207,13 @@ view_again frame o before after there says = (
         let past : List Entry = after_outputs s (given me before) in
         let own : IsOwnView c me o.log.view past frame = f.changes.own_view frame there in
         let is : EmitsOne c me before after (Sent me frame) =
-        emits_one c me before after says.output (Sent me frame) says.given_is says.sends.sends (says.sends.meant c (NewView own.new) known own.posted) in (
+        emits_one c me before after says.output (Sent me frame) says.given_is says.sends.sends (says.sends.meant c (NewView own.new) known own.is_outgoing) in (
           fits_on c me s o o desk w [] [] before after (Sent me frame) is
               (is_beside c me o.log.view past frame own f.fits.of_log.view) (keeps_all c me o.log.view past frame own f.fits.of_log.view)
               (same_log o.log) refl refl refl refl f
               (new_views_go_again c me s desk o.log [] (given me before) own.new frame active own.view own.primary own.sent
-              (never_said me 0 (NewView own.new) (given me before) (λ l. absurd (omega (arith, l))) below) own.posted f.fits),
-          one_below me 0 1 (NewView own.new) frame (given me before) (given me after) is.is own.posted.says (omega arith) (omega arith) below,
+              (never_said me 0 (NewView own.new) (given me before) (λ l. absurd (omega (arith, l))) below) own.is_outgoing f.fits),
+          one_below me 0 1 (NewView own.new) frame (given me before) (given me after) is.is own.is_outgoing.says (omega arith) (omega arith) below,
         );
     same = refl;
     more = says.output ∷ [];
@@ -228,7 +228,7 @@ abbrev SelectsSome : (N : Type 0) → Sizes → ℕ → List (ℕ × ViewChangeD
 SelectsSome N sizes view set texts x = MatchOption x N (λ s. SelectsNewView (sized sizes) view set texts s.start.0 s.root (texts_of s.batches.items))
 
 is_selection : {E : Type 0} (N : Type 0) (o : OrdererData) (r : Result (Option Selection) E) → o.log.active ≡ false → logs.primary o.log o.target ≡ o.log.me
-    → IfOk r (SelectsSome N o.received.sizes o.target (pairs_for o.target o.received.held) o.claims.texts)
+    → IfOk r (SelectsSome N o.received.sizes o.target (pairs_for o.target o.received.held) o.pq_sets.texts)
     → IfOk r (λ x. IfSome x (λ s. IsSelection o s.start.0 s.root (texts_of s.batches.items)))
 is_selection N o (Err e) inactive primary h = h
 is_selection N o (Ok None) inactive primary h = tt
@@ -236,7 +236,7 @@ is_selection N o (Ok (Some s)) inactive primary h = record { inactive = inactive
 
 -- over the stored view changes
 pub held_selects : {E : Type 0} (N : Type 0) (o : OrdererData) (r : Result (Option Selection) E) (sizes : Sizes) (set : List (ℕ × ViewChangeData)) (texts : List (List ℕ)) → o.log.active ≡ false → logs.primary o.log o.target ≡ o.log.me
-    → sizes ≡ o.received.sizes → set ≡ pairs_for o.target o.received.held → texts ≡ o.claims.texts → IfOk r (SelectsSome N sizes o.target set texts)
+    → sizes ≡ o.received.sizes → set ≡ pairs_for o.target o.received.held → texts ≡ o.pq_sets.texts → IfOk r (SelectsSome N sizes o.target set texts)
     → IfOk r (λ x. IfSome x (λ s. IsSelection o s.start.0 s.root (texts_of s.batches.items)))
 held_selects N o r sizes set texts inactive primary size_is set_is texts_are h =
     is_selection N o r inactive primary
@@ -245,15 +245,15 @@ held_selects N o r sizes set texts inactive primary size_is set_is texts_are h =
     (subst (λ (x : Sizes). IfOk r (SelectsSome N x o.target set texts)) size_is h)))
 
 -- or none exists
-no_selection : {E : Type 0} (o : OrdererData) (r : Result (Option Selection) E) → map sha256 o.claims.texts ≡ digests_of o.claims.logged
-    → IfOk r (SelectsSome (NothingSelects (sized o.received.sizes) o.target (pairs_for o.target o.received.held) o.claims.texts) o.received.sizes o.target (pairs_for o.target o.received.held) o.claims.texts)
+no_selection : {E : Type 0} (o : OrdererData) (r : Result (Option Selection) E) → map sha256 o.pq_sets.texts ≡ digests_of o.pq_sets.logged
+    → IfOk r (SelectsSome (NothingSelects (sized o.received.sizes) o.target (pairs_for o.target o.received.held) o.pq_sets.texts) o.received.sizes o.target (pairs_for o.target o.received.held) o.pq_sets.texts)
     → IfOk r (λ x. IfNone x (HasNoSelection o))
 no_selection o (Err e) named h = h
-no_selection o (Ok None) named h = λ off own. claimed_select_nothing (sized o.received.sizes) o.target o.received.held o.claims named h
+no_selection o (Ok None) named h = λ off own. q_selects_nothing (sized o.received.sizes) o.target o.received.held o.pq_sets named h
 no_selection o (Ok (Some s)) named h = tt
 
-pub none_selects : {E : Type 0} (o : OrdererData) (r : Result (Option Selection) E) (sizes : Sizes) (set : List (ℕ × ViewChangeData)) (texts : List (List ℕ)) → map sha256 o.claims.texts ≡ digests_of o.claims.logged
-    → sizes ≡ o.received.sizes → set ≡ pairs_for o.target o.received.held → texts ≡ o.claims.texts → IfOk r (SelectsSome (NothingSelects (sized sizes) o.target set texts) sizes o.target set texts)
+pub none_selects : {E : Type 0} (o : OrdererData) (r : Result (Option Selection) E) (sizes : Sizes) (set : List (ℕ × ViewChangeData)) (texts : List (List ℕ)) → map sha256 o.pq_sets.texts ≡ digests_of o.pq_sets.logged
+    → sizes ≡ o.received.sizes → set ≡ pairs_for o.target o.received.held → texts ≡ o.pq_sets.texts → IfOk r (SelectsSome (NothingSelects (sized sizes) o.target set texts) sizes o.target set texts)
     → IfOk r (λ x. IfNone x (HasNoSelection o))
 none_selects o r sizes set texts named size_is set_is texts_are h =
     no_selection o r named

@@ -13,19 +13,19 @@ use Rattle.protocol.specs.Replica.RightReplica.{is_newer, with_waiting, still_wa
 use Rattle.protocol.specs.Replica.Owed.{IsNumbered, NumbersOnce}
 use Rattle.protocol.proofs.Words.Elements.{each_has, each_where, has_filter}
 use Rattle.protocol.proofs.Words.Pairs.{all_pairs, pairs_of}
-use Rattle.replica_histories.specs.Numbers.{FitsNumbers, Waiting, BegunCall as HistoryCall, calls_of, AreCalls, KeepsNumbers, NoneFalls, AreOfNoLaterView, begun_in, arrived, entries_with, IsNextFree}
+use Rattle.replica_histories.specs.Numbers.{FitsNumbers, Waiting, AssignedCall as HistoryCall, calls_of, AreCalls, KeepsNumbers, NoneFalls, AreOfNoLaterView, assigned_in, arrived, entries_with, IsNextFree}
 use Rattle.replica_histories.specs.Numbers as numbers
 use Rattle.replica_histories.proofs.Numbers.{first_numbers_fit, numbers_are_assigned}
-use Rattle.replica_histories.proofs.NumbersBegun.{views_begin}
+use Rattle.replica_histories.proofs.NumbersAssigned.{views_begin}
 use Rattle.replica_histories.proofs.NumbersGiven.{numbers_fit}
 use Rattle.replica_histories.proofs.NumbersLists.{has_taken, mapped_kept, pairs_mapped}
 use Rattle.replica_histories.proofs.NumbersKept.{numbers_stay}
 use Rattle.replica_histories.proofs.NumbersWaiting.{requests_fit, states_fit}
 use Rattle.desk.specs.declared.waiting.WaitingRequest.{WaitingRequest}
-use Rattle.desk.specs.declared.waiting.BegunCall.{BegunCall}
-use Rattle.desk.specs.Waiting.{WaitingData, none_waiting, texts, is_of, is_begun, all_unnumbered, unnumbered, count_unnumbered, all_numbered, with_numbered, renumbered, with_view, forgotten}
+use Rattle.desk.specs.declared.waiting.AssignedCall.{AssignedCall}
+use Rattle.desk.specs.Waiting.{WaitingData, none_waiting, texts, is_of, is_assigned, all_unnumbered, unnumbered, count_unnumbered, all_numbered, with_numbered, renumbered, with_view, forgotten}
 use Rattle.orderer.specs.Flags.{flagged_call, flagged, FitsFlags}
-use Rattle.desk.specs.Begun.{begun_of}
+use Rattle.desk.specs.Assigned.{assigned_of}
 use Rattle.desk.specs.DeskOf.{waiting_call, waiting_calls, SpellCalls, AreOfDifferentClients}
 
 -- ---- the calls, with the flags of their requests
@@ -43,15 +43,15 @@ flagged_numbered c (suc n) (r ∷ rs) = go r.numbered (flagged_numbered c (suc n
     go false many fewer = ap (λ (ws : List Waiting). record { call = waiting_call c r; numbered = true } ∷ ws) fewer
 
 -- if a view begins
-begun_same : (begun : List BegunCall) (client timestamp : ℕ) → list_any (λ b. (b.client == client) && (b.timestamp == timestamp)) (begun_of begun) ≡ is_begun begun client timestamp
-begun_same [] client timestamp = refl
-begun_same (b ∷ begun) client timestamp = ap (λ t. ((b.client.number == client) && (b.timestamp.0 == timestamp)) || t) (begun_same begun client timestamp)
+assigned_same : (assigned : List AssignedCall) (client timestamp : ℕ) → list_any (λ b. (b.client == client) && (b.timestamp == timestamp)) (assigned_of assigned) ≡ is_assigned assigned client timestamp
+assigned_same [] client timestamp = refl
+assigned_same (b ∷ assigned) client timestamp = ap (λ t. ((b.client.number == client) && (b.timestamp.0 == timestamp)) || t) (assigned_same assigned client timestamp)
 
-flagged_begun : (c : Configuration) (begun : List BegunCall) (rs : List WaitingRequest) → flagged c (map (renumbered begun) rs) ≡ map (arrived (begun_of begun)) (waiting_calls c rs)
-flagged_begun c begun [] = refl
-flagged_begun c begun (r ∷ rs) =
-    ap (λ (b : Bool). record { call = waiting_call c r; numbered = b } ∷ flagged c (map (renumbered begun) rs)) (sym (begun_same begun r.client.number r.timestamp.0))
-    ∙ ap (λ (ws : List Waiting). arrived (begun_of begun) (waiting_call c r) ∷ ws) (flagged_begun c begun rs)
+flagged_assigned : (c : Configuration) (assigned : List AssignedCall) (rs : List WaitingRequest) → flagged c (map (renumbered assigned) rs) ≡ map (arrived (assigned_of assigned)) (waiting_calls c rs)
+flagged_assigned c assigned [] = refl
+flagged_assigned c assigned (r ∷ rs) =
+    ap (λ (b : Bool). record { call = waiting_call c r; numbered = b } ∷ flagged c (map (renumbered assigned) rs)) (sym (assigned_same assigned r.client.number r.timestamp.0))
+    ∙ ap (λ (ws : List Waiting). arrived (assigned_of assigned) (waiting_call c r) ∷ ws) (flagged_assigned c assigned rs)
 
 -- those without numbers
 flagged_unnumbered : (c : Configuration) (rs : List WaitingRequest) → flagged c (all_unnumbered rs) ≡ numbers.unnumbered (flagged c rs)
@@ -77,18 +77,18 @@ flags_first c me v st = first_numbers_fit c me v st
 
 pub flags_stay : (c : Configuration) (me v used : ℕ) (w : WaitingData) (st : State) (calls : List Call) (past : List Entry) (e : Entry) → KeepsNumbers c me v past e
     → FitsFlags c me v used w st calls past → FitsFlags c me v used w st calls (e ∷ past)
-flags_stay c me v used w st calls past e = numbers_stay c me v used (begun_of w.begun) (flagged c w.requests) st calls past e
+flags_stay c me v used w st calls past e = numbers_stay c me v used (assigned_of w.assigned) (flagged c w.requests) st calls past e
 
 -- another state
 pub flags_forgotten : (c : Configuration) (me v used : ℕ) (w : WaitingData) (old new : State) (calls : List Call) (history : List Entry) → NoneFalls old new
     → FitsFlags c me v used w old calls history → FitsFlags c me v used (forgotten new w) new (still_waiting new calls) history
 flags_forgotten c me v used w old new calls history grows f =
-    subst (λ (ws : List Waiting). FitsNumbers c me v used (begun_of w.begun) ws new (still_waiting new calls) history)
+    subst (λ (ws : List Waiting). FitsNumbers c me v used (assigned_of w.assigned) ws new (still_waiting new calls) history)
     (sym (mapped_kept (flagged_call c) (λ x. nat_lt (last_time new x.call.client) x.call.timestamp) w.requests))
-    (states_fit c me v used (begun_of w.begun) (flagged c w.requests) old new calls history grows f)
+    (states_fit c me v used (assigned_of w.assigned) (flagged c w.requests) old new calls history grows f)
 
 -- a newer request, which replaces its client's
-module _ (c : Configuration) (me v used : ℕ) (w : WaitingData) (st : State) (calls : List Call) (history : List Entry) (r : WaitingRequest) (flag_is : r.numbered ≡ is_begun w.begun r.client.number r.timestamp.0)
+module _ (c : Configuration) (me v used : ℕ) (w : WaitingData) (st : State) (calls : List Call) (history : List Entry) (r : WaitingRequest) (flag_is : r.numbered ≡ is_assigned w.assigned r.client.number r.timestamp.0)
     (newer : (nat_lt (last_time st r.client.number) r.timestamp.0 && list_all (is_newer (waiting_call c r)) calls) ≡ true) (f : FitsFlags c me v used w st calls history) where
   abbrev call : Call
   call = waiting_call c r
@@ -96,20 +96,20 @@ module _ (c : Configuration) (me v used : ℕ) (w : WaitingData) (st : State) (c
   abbrev others : List Waiting
   others = filter (λ z. not (z.call.client == r.client.number)) (flagged c w.requests)
 
-  chosen : entries_with (begun_of w.begun) st (flagged c w.requests) call ≡ others ++ arrived (begun_of w.begun) call ∷ []
-  chosen = ap (λ b. cond b (others ++ arrived (begun_of w.begun) call ∷ []) (flagged c w.requests))
+  chosen : entries_with (assigned_of w.assigned) st (flagged c w.requests) call ≡ others ++ arrived (assigned_of w.assigned) call ∷ []
+  chosen = ap (λ b. cond b (others ++ arrived (assigned_of w.assigned) call ∷ []) (flagged c w.requests))
       (ap (λ (ys : List Call). nat_lt (last_time st call.client) call.timestamp && list_all (is_newer call) ys) f.calls ∙ newer)
 
-  entries_are : flagged c (filter (λ x. not (is_of r.client.number x)) w.requests ++ r ∷ []) ≡ others ++ arrived (begun_of w.begun) call ∷ []
+  entries_are : flagged c (filter (λ x. not (is_of r.client.number x)) w.requests ++ r ∷ []) ≡ others ++ arrived (assigned_of w.assigned) call ∷ []
   entries_are =
       map-append (flagged_call c) (filter (λ x. not (is_of r.client.number x)) w.requests) (r ∷ [])
       ∙ ap (λ (ws : List Waiting). ws ++ flagged_call c r ∷ []) (mapped_kept (flagged_call c) (λ z. not (z.call.client == r.client.number)) w.requests)
-      ∙ ap (λ (b : Bool). others ++ record { call = call; numbered = b } ∷ []) (flag_is ∙ sym (begun_same w.begun r.client.number r.timestamp.0))
+      ∙ ap (λ (b : Bool). others ++ record { call = call; numbered = b } ∷ []) (flag_is ∙ sym (assigned_same w.assigned r.client.number r.timestamp.0))
 
   pub flags_waiting : FitsFlags c me v used (record w { requests = filter (λ x. not (is_of r.client.number x)) w.requests ++ r ∷ [] }) st (with_waiting st calls call) history
   flags_waiting =
-      subst (λ (ws : List Waiting). FitsNumbers c me v used (begun_of w.begun) ws st (with_waiting st calls call) history) (chosen ∙ sym entries_are)
-      (requests_fit c me v used (begun_of w.begun) (flagged c w.requests) st calls history call f)
+      subst (λ (ws : List Waiting). FitsNumbers c me v used (assigned_of w.assigned) ws st (with_waiting st calls call) history) (chosen ∙ sym entries_are)
+      (requests_fit c me v used (assigned_of w.assigned) (flagged c w.requests) st calls history call f)
 
 -- the oldest without a number get one
 pub flags_numbered : (c : Configuration) (me v used i : ℕ) (w : WaitingData) (st : State) (calls : List Call) (batch bytes : List ℕ) (past : List Entry) → SpellCalls c w.requests
@@ -119,7 +119,7 @@ pub flags_numbered : (c : Configuration) (me v used i : ℕ) (w : WaitingData) (
     → NumbersOnce c me past (Sent me bytes) × FitsFlags c me v i (with_numbered (length (unnumbered w)) w) st calls (Sent me bytes ∷ past)
 flags_numbered c me v used i w st calls batch bytes past h own free genuine reads says f = (
   given.0,
-  subst (λ (ws : List Waiting). FitsNumbers c me v i (begun_of w.begun) ws st calls (Sent me bytes ∷ past)) (sym (flagged_numbered c (length (unnumbered w)) w.requests)) given.1,
+  subst (λ (ws : List Waiting). FitsNumbers c me v i (assigned_of w.assigned) ws st calls (Sent me bytes ∷ past)) (sym (flagged_numbered c (length (unnumbered w)) w.requests)) given.1,
 )
   where
     -- as many as there are, up to 16
@@ -130,15 +130,15 @@ flags_numbered c me v used i w st calls batch bytes past h own free genuine read
     spells = subst (λ (xs : List (List ℕ)). AreCalls c xs (calls_of (take (length (unnumbered w)) (numbers.unnumbered (flagged c w.requests))))) (ap texts (front 16 (all_unnumbered w.requests)) ∙ sym reads)
         (oldest_spelled c (length (unnumbered w)) w.requests h)
 
-    given : NumbersOnce c me past (Sent me bytes) × FitsNumbers c me v i (begun_of w.begun) (numbers.with_numbered (length (unnumbered w)) (flagged c w.requests)) st calls (Sent me bytes ∷ past)
-    given = numbers_fit c me v used i (length (unnumbered w)) (begun_of w.begun) (flagged c w.requests) st calls batch bytes past own free genuine spells says f
+    given : NumbersOnce c me past (Sent me bytes) × FitsNumbers c me v i (assigned_of w.assigned) (numbers.with_numbered (length (unnumbered w)) (flagged c w.requests)) st calls (Sent me bytes ∷ past)
+    given = numbers_fit c me v used i (length (unnumbered w)) (assigned_of w.assigned) (flagged c w.requests) st calls batch bytes past own free genuine spells says f
 
 -- a view begins
-pub flags_begun : (c : Configuration) (me : ℕ) (w : WaitingData) (begun : List BegunCall) (st : State) (past : List Entry) (e : Entry) (new : NewViewData)
-    → AreOfDifferentClients w.requests → taken c past e ≡ Some new → AreOfNoLaterView c me past → begun_of begun ≡ begun_in c new.batches
-    → FitsFlags c me new.view (new.start + length new.batches) (with_view begun w) st (waiting_calls c w.requests) (e ∷ past)
-flags_begun c me w begun st past e new differ enters none is =
-    subst (λ (ws : List Waiting). FitsNumbers c me new.view (new.start + length new.batches) (begun_of begun) ws st (waiting_calls c w.requests) (e ∷ past)) (sym (flagged_begun c begun w.requests))
+pub flags_assigned : (c : Configuration) (me : ℕ) (w : WaitingData) (assigned : List AssignedCall) (st : State) (past : List Entry) (e : Entry) (new : NewViewData)
+    → AreOfDifferentClients w.requests → taken c past e ≡ Some new → AreOfNoLaterView c me past → assigned_of assigned ≡ assigned_in c new.batches
+    → FitsFlags c me new.view (new.start + length new.batches) (with_view assigned w) st (waiting_calls c w.requests) (e ∷ past)
+flags_assigned c me w assigned st past e new differ enters none is =
+    subst (λ (ws : List Waiting). FitsNumbers c me new.view (new.start + length new.batches) (assigned_of assigned) ws st (waiting_calls c w.requests) (e ∷ past)) (sym (flagged_assigned c assigned w.requests))
     (subst (λ (bs : List HistoryCall). FitsNumbers c me new.view (new.start + length new.batches) bs (map (arrived bs) (waiting_calls c w.requests)) st (waiting_calls c w.requests) (e ∷ past)) (sym is)
     (views_begin c me st (waiting_calls c w.requests) past e new enters none
     (all_pairs (λ (call twin : Call). call.client ≢ twin.client) (waiting_calls c w.requests)
@@ -148,4 +148,4 @@ flags_begun c me w begun st past e new differ enters none is =
 pub flags_given : (c : Configuration) (me v used : ℕ) (w : WaitingData) (st : State) (calls : List Call) (history : List Entry) → FitsFlags c me v used w st calls history
     → (IsNextFree c me history used st.number → count_unnumbered w ≡ 0) → (i : ℕ) (call : Call) → Has (λ x. x ≡ call) calls → IsFree c me history st.number v i → IsNumbered c me history v call.client call.timestamp
 flags_given c me v used w st calls history f all =
-    numbers_are_assigned c me v used (begun_of w.begun) (flagged c w.requests) st calls history f (λ free. sym (count_same c w) ∙ all free)
+    numbers_are_assigned c me v used (assigned_of w.assigned) (flagged c w.requests) st calls history f (λ free. sym (count_same c w) ∙ all free)

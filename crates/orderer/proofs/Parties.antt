@@ -11,11 +11,11 @@ pub party_kept_twice : (a b d : OrdererData) → KeepsParty a b → KeepsParty b
 party_kept_twice a b d first then = record { endpoint = then.endpoint ∙ first.endpoint; sizes = then.sizes ∙ first.sizes }
 
 pub same_choice : (o : OrdererData) → KeepsChoice o o
-same_choice o = record { received = refl; spent = refl; logged = λ claim has. has }
+same_choice o = record { received = refl; spent = refl; logged = λ pq_entry has. has }
 
 pub choices_twice : (a b d : OrdererData) → KeepsChoice a b → KeepsChoice b d → KeepsChoice a d
 choices_twice a b d first then =
-    record { received = then.received ∙ first.received; spent = then.spent ∙ first.spent; logged = λ claim has. first.logged claim (then.logged claim has) }
+    record { received = then.received ∙ first.received; spent = then.spent ∙ first.spent; logged = λ pq_entry has. first.logged pq_entry (then.logged pq_entry has) }
 
 pub same_log : (log : LogData) → IsSameLog log log
 same_log log = record { me = refl; faults = refl; span = refl; view = refl; active = refl; low = omega arith }

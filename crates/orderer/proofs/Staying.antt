@@ -21,7 +21,7 @@ use Rattle.replica_histories.specs.Desk.{Desk}
 use Rattle.replica_histories.specs.Events as events
 use Rattle.replica_histories.specs.Events.{Start, after_outputs}
 use Rattle.replica_histories.specs.Numbers.{KeepsNumbers, is_pre_prepare, sends_pre_prepare}
-use Rattle.replica_histories.specs.Changes.{Changes, CutsClaims, FitsChanges, KeepsChanges}
+use Rattle.replica_histories.specs.Changes.{Changes, CutsPqSets, FitsChanges, KeepsChanges}
 use Rattle.replica_histories.proofs.NumbersKept.{others_keep_numbers}
 use Rattle.replica_histories.proofs.Words.{primary_same}
 use Rattle.orderer.specs.State.{OrdererData}
@@ -29,7 +29,7 @@ use Rattle.desk.specs.Waiting.{WaitingData}
 use Rattle.orderer.specs.Flags.{FitsFlags}
 use Rattle.orderer.specs.Going.{IsSameLog}
 use Rattle.orderer.proofs.Flags.{flags_stay}
-use Rattle.replica_histories.proofs.ChangesPassing.{changes_stay, claims_are_above, outputs_pass}
+use Rattle.replica_histories.proofs.ChangesPassing.{changes_stay, pq_sets_are_above, outputs_pass}
 
 pub given_one : (me : ℕ) (outs more : List Output) (o : Output) → more ≡ outs ++ o ∷ [] → given me more ≡ entry_of me o ∷ given me outs
 given_one me outs more o same =
@@ -68,11 +68,11 @@ proposes_none (PrePrepare v i batch) h = absurd h
 proposes_none _ h = refl
 
 pub sent_beside : (c : Configuration) (me : ℕ) (message : Message) (receivers bytes : List ℕ) (past : List Entry) → AssignsNoNumber message → IsOutgoing c me message receivers bytes → IsBeside c me past (Sent me bytes)
-sent_beside c me message receivers bytes past none posted = record {
+sent_beside c me message receivers bytes past none is_outgoing = record {
   here = refl;
   none = ap (option_and_then (λ (new : NewViewData). then_some (is_later (view c past) (target past) new) new))
-      (ap (option_and_then (new_view_from c)) posted.says ∙ begins_none c me message none);
-  sends = ap (λ (o : Option Body). option_map_or (λ (b : Body). is_pre_prepare b.message) o false) posted.says ∙ proposes_none message none;
+      (ap (option_and_then (new_view_from c)) is_outgoing.says ∙ begins_none c me message none);
+  sends = ap (λ (o : Option Body). option_map_or (λ (b : Body). is_pre_prepare b.message) o false) is_outgoing.says ∙ proposes_none message none;
 }
 
 pub executed_beside : (c : Configuration) (me number : ℕ) (batch : List ℕ) (past : List Entry) → IsBeside c me past (Executed me number batch)
@@ -115,14 +115,14 @@ said_on me last past e h entry is = inr (h entry is)
 
 -- ---- view-change data
 
--- If the low mark moves, the claims up to it are dropped.
+-- If the low mark moves, the entries of P and Q up to it are dropped.
 pub changes_cut : (c : Configuration) (me : ℕ) (s : Start) (old new : OrdererData) (desk later : Desk) (due rest : List Message) (outputs : List Entry) (e : Entry)
     → events.BothFitWithinEvent c me s desk old.log due outputs → events.BothFitWithinEvent c me s later new.log rest (e ∷ outputs) → KeepsChanges c me (after_outputs s outputs) e → IsSameLog old.log new.log
-    → CutsClaims new.log.low old.claims new.claims → changes_held new ≡ record (changes_held old) { claims = new.claims }
+    → CutsPqSets new.log.low old.pq_sets new.pq_sets → changes_held new ≡ record (changes_held old) { pq_sets = new.pq_sets }
     → FitsChanges c me old.log (changes_held old) (after_outputs s outputs) → FitsChanges c me new.log (changes_held new) (e ∷ after_outputs s outputs)
 changes_cut c me s old new desk later due rest outputs e f on keeps same cuts held x =
     subst (λ (y : Changes). FitsChanges c me new.log y (e ∷ after_outputs s outputs)) (sym held)
-    (changes_stay c me (after_outputs s outputs) e old.log new.log (changes_held old) new.claims (outputs_pass c me s desk later old.log new.log due rest outputs e f on)
+    (changes_stay c me (after_outputs s outputs) e old.log new.log (changes_held old) new.pq_sets (outputs_pass c me s desk later old.log new.log due rest outputs e f on)
     (record { view = same.view; active = same.active }) keeps cuts x)
 
 -- If it stays, nothing changes.
@@ -132,9 +132,9 @@ pub changes_still : (c : Configuration) (me : ℕ) (s : Start) (old new : Ordere
     → FitsChanges c me old.log (changes_held old) (after_outputs s outputs) → FitsChanges c me new.log (changes_held new) (e ∷ after_outputs s outputs)
 changes_still c me s old new desk later due rest outputs e f on keeps same low held x =
     subst (λ (y : Changes). FitsChanges c me new.log y (e ∷ after_outputs s outputs)) (sym held)
-    (changes_stay c me (after_outputs s outputs) e old.log new.log (changes_held old) old.claims (outputs_pass c me s desk later old.log new.log due rest outputs e f on)
+    (changes_stay c me (after_outputs s outputs) e old.log new.log (changes_held old) old.pq_sets (outputs_pass c me s desk later old.log new.log due rest outputs e f on)
     (record { view = same.view; active = same.active }) keeps
-    (subst (λ (n : ℕ). CutsClaims n old.claims old.claims) (sym low) (claims_are_above c me old.log (after_outputs s outputs) old.claims f.of_log x.claims)) x)
+    (subst (λ (n : ℕ). CutsPqSets n old.pq_sets old.pq_sets) (sym low) (pq_sets_are_above c me old.log (after_outputs s outputs) old.pq_sets f.of_log x.pq_sets)) x)
 
 -- ---- in an event
 

@@ -19,20 +19,20 @@ use Rattle.protocol.specs.System.Frames.{IsOutgoing}
 use Rattle.protocol.specs.System.Trace.{Entry, Has}
 use Rattle.protocol.specs.System.Trace.Entry.{Sent}
 use Rattle.protocol.proofs.Words.Options.{some_injective}
-use Rattle.claims.specs.ClaimsView.{ClaimsData}
-use Rattle.claims.specs.Recording.{with_prepared}
+use Rattle.pq_sets.specs.PqSetsView.{PqSetsData}
+use Rattle.pq_sets.specs.Recording.{with_prepared}
 use Rattle.protocol.specs.Replica.RightReplica.{others}
-use Rattle.frame_endpoint.proofs.Posting.{posted_for_others}
+use Rattle.frame_endpoint.proofs.Outgoing.{outgoing_for_others}
 use Rattle.events.specs.declared.output.Output.{Output}
 use Rattle.replica_histories.specs.Events as events
 use Rattle.replica_histories.specs.Events.{after_outputs, Start}
 use Rattle.replica_histories.specs.Changes.{FitsChanges}
-use Rattle.replica_histories.proofs.ChangesPassing.{outputs_pass, commits_are_claimed}
+use Rattle.replica_histories.proofs.ChangesPassing.{outputs_pass, commits_enter_p}
 use Rattle.replica_histories.proofs.Giving.{prepares_fit, commits_fit}
 use Rattle.orderer.specs.State.{OrdererData, IsOrderer}
 use Rattle.orderer.specs.Fitting.{given, changes_held, FitsEvent}
 use Rattle.orderer.specs.Going.{KeepsFitting, NoVoteIsDue}
-use Rattle.orderer.specs.Claiming.{claiming, ClaimsLogged}
+use Rattle.orderer.specs.PqSets.{noting_prepared, NotesPrepared}
 use Rattle.orderer.specs.Multicasting.{Multicasts, AddsVote, MulticastsVote, MulticastsPrepare, MulticastsCommit, MulticastsVotes}
 use Rattle.orderer.proofs.Staying.{EmitsOne, emits_one, sent_beside, same_rows, fits_on, fits_with, changes_still, fits_behind, numbers_beside}
 use Rattle.orderer.proofs.Parties.{same_orderer, orderers_twice, same_log}
@@ -124,15 +124,15 @@ prepare_stays m i vote is hi = ap (prepare_by m (is_in_marks m i)) (row_here m i
 -- the sent message, as the laws over histories ask for it
 pub record SaidIn (c : Configuration) (o : OrdererData) (message : Message) (before after : List Output) : Type 0 where
   pub bytes : List ℕ
-  pub posted : IsOutgoing c o.endpoint.me message (others c o.endpoint.me) bytes
+  pub is_outgoing : IsOutgoing c o.endpoint.me message (others c o.endpoint.me) bytes
   pub is : EmitsOne c o.endpoint.me before after (Sent o.endpoint.me bytes)
 
 pub said_in : (c : Configuration) (o : OrdererData) (message : Message) (before after : List Output) → members c ≡ o.endpoint.membership → Multicasts o message before after
     → SaidIn c o message before after
 said_in c o message before after known s = record {
-  bytes = s.posts.bytes;
-  posted = posted_for_others o.endpoint.membership o.endpoint.me message s.posts.bytes s.posts.posted c known;
-  is = emits_one c o.endpoint.me before after s.output (Sent o.endpoint.me s.posts.bytes) s.given_is s.posts.sends (s.posts.meant c known);
+  bytes = s.sends_frame.bytes;
+  is_outgoing = outgoing_for_others o.endpoint.membership o.endpoint.me message s.sends_frame.bytes s.sends_frame.is_outgoing c known;
+  is = emits_one c o.endpoint.me before after s.output (Sent o.endpoint.me s.sends_frame.bytes) s.given_is s.sends_frame.sends (s.sends_frame.meant c known);
 }
 
 -- nothing is asked for, and nothing is sent
@@ -148,16 +148,16 @@ silent number o outs = record {
 pub no_commit : (number : ℕ) (o : OrdererData) (outs : List Output) → due_commit o.log number ≡ None → MulticastsCommit number o outs o outs
 no_commit number o outs h = record { says = silent number o outs; said = h; prepared = refl }
 
--- a vote is counted, and no claim of a logged batch changes
-votes : (phase : Phase) (number : ℕ) (vote : Vote) (old : OrdererData) (claims : ClaimsData) (before after : List Output) → claims.logged ≡ old.claims.logged → is_in_marks old.log number ≡ true
-    → (let new : OrdererData = record old { log = with_vote_in phase old.log number vote; claims = claims } in KeepsFitting old before new after → MulticastsVote number old before new after)
-votes phase number vote old claims before after logged inside goes = record {
+-- a vote is counted, and Q does not change
+votes : (phase : Phase) (number : ℕ) (vote : Vote) (old : OrdererData) (pq_sets : PqSetsData) (before after : List Output) → pq_sets.logged ≡ old.pq_sets.logged → is_in_marks old.log number ≡ true
+    → (let new : OrdererData = record old { log = with_vote_in phase old.log number vote; pq_sets = pq_sets } in KeepsFitting old before new after → MulticastsVote number old before new after)
+votes phase number vote old pq_sets before after logged inside goes = record {
   goes = goes;
   same = record {
     endpoint = refl;
     log = same_rows old.log (with_vote_in phase old.log number vote).rows;
     target = refl;
-    choice = λ off. record { received = refl; spent = refl; logged = λ claim has. subst (Has (λ x. x ≡ claim)) logged has };
+    choice = λ off. record { received = refl; spent = refl; logged = λ pq_entry has. subst (Has (λ x. x ≡ pq_entry)) logged has };
   };
   low = refl;
   used = refl;
@@ -172,16 +172,16 @@ prepare_goes : (number : ℕ) (digest : List ℕ) (vote : Vote) (o : OrdererData
 prepare_goes number digest vote o before after own due sender same says c s desk w d known f =
     let k = said_in c o (Prepare o.log.view number digest) before after known says in
     fits_on c o.endpoint.me s o (record o { log = with_prepare o.log number vote }) desk w d d before after (Sent o.endpoint.me k.bytes) k.is
-    (sent_beside c o.endpoint.me (Prepare o.log.view number digest) (others c o.endpoint.me) k.bytes (after_outputs s (given o.endpoint.me before)) tt k.posted)
-    (sent_keep c o.endpoint.me (after_outputs s (given o.endpoint.me before)) (Prepare o.log.view number digest) k.bytes k.posted.says tt (λ signed. absurd cc))
+    (sent_beside c o.endpoint.me (Prepare o.log.view number digest) (others c o.endpoint.me) k.bytes (after_outputs s (given o.endpoint.me before)) tt k.is_outgoing)
+    (sent_keep c o.endpoint.me (after_outputs s (given o.endpoint.me before)) (Prepare o.log.view number digest) k.bytes k.is_outgoing.says tt (λ signed. absurd cc))
     (same_rows o.log (with_prepare o.log number vote).rows) refl refl refl refl f
-    (prepares_fit c o.endpoint.me s desk o.log d (given o.endpoint.me before) number digest k.bytes vote due (sender ∙ own) same k.posted f.fits)
+    (prepares_fit c o.endpoint.me s desk o.log d (given o.endpoint.me before) number digest k.bytes vote due (sender ∙ own) same k.is_outgoing f.fits)
 
 pub says_prepare : (number : ℕ) (digest : List ℕ) (old new : OrdererData) (before after : List Output) → IsLog old.log → IsOrderer old → due_prepare old.log number ≡ Some digest
     → Multicasts old (Prepare old.log.view number digest) before after → AddsVote phases.Prepare number digest old new → MulticastsPrepare number old before new after
 says_prepare number digest old new before after is own due says adds =
     subst (λ (x : OrdererData). MulticastsPrepare number old before x after) (sym adds.new_is) (record {
-      says = votes phases.Prepare number adds.vote old old.claims before after refl inside (prepare_goes number digest adds.vote old before after own.0 due adds.sender adds.digest_is says);
+      says = votes phases.Prepare number adds.vote old old.pq_sets before after refl inside (prepare_goes number digest adds.vote old before after own.0 due adds.sender adds.digest_is says);
       said = vote_said phases.Prepare old.log number adds.vote is inside adds.sender;
     })
   where
@@ -198,38 +198,38 @@ digest_logged m i = go (is_in_marks m i)
     go true = refl
     go false = refl
 
--- the batch whose commit is due is claimed
-pub record ClaimsDue (number : ℕ) (digest : List ℕ) (old new : OrdererData) : Type 0 where
+-- the batch whose commit is due enters P
+pub record PqSetsDue (number : ℕ) (digest : List ℕ) (old new : OrdererData) : Type 0 where
   pub text : List ℕ
   pub digest_is : sha256 text ≡ digest
-  pub new_is : new ≡ claiming number text old
+  pub new_is : new ≡ noting_prepared number text old
 
-abbrev ClaimsFound : ℕ → OrdererData → OrdererData → Option (List ℕ) → Type 0
-ClaimsFound number old new found = elim found [ Some text ↦ new ≡ claiming number text old | None ↦ new ≡ old ]
+abbrev NotesFound : ℕ → OrdererData → OrdererData → Option (List ℕ) → Type 0
+NotesFound number old new found = elim found [ Some text ↦ new ≡ noting_prepared number text old | None ↦ new ≡ old ]
 
-pub claims_due : (number : ℕ) (digest : List ℕ) (old new : OrdererData) → due_commit old.log number ≡ Some digest → ClaimsLogged number old new → ClaimsDue number digest old new
-claims_due number digest old new due claims = go (logged_batch old.log number) has claims
+pub pq_sets_due : (number : ℕ) (digest : List ℕ) (old new : OrdererData) → due_commit old.log number ≡ Some digest → NotesPrepared number old new → PqSetsDue number digest old new
+pq_sets_due number digest old new due pq_sets = go (logged_batch old.log number) has pq_sets
   where
     has : option_map sha256 (logged_batch old.log number) ≡ Some digest
     has = sym (digest_logged old.log number)
         ∙ (passed (old.log.active && is_prepared old.log number && is_none (commit_of old.log number old.log.me)) (logged_digest old.log number) digest due).1
 
-    go : (o : Option (List ℕ)) → option_map sha256 o ≡ Some digest → ClaimsFound number old new o → ClaimsDue number digest old new
+    go : (o : Option (List ℕ)) → option_map sha256 o ≡ Some digest → NotesFound number old new o → PqSetsDue number digest old new
     go None e is = absurd cc
     go (Some text) e is = record { text = text; digest_is = some_injective (sha256 text) digest e; new_is = is }
 
 commit_goes : (number : ℕ) (digest text : List ℕ) (vote : Vote) (o : OrdererData) (before after : List Output) → o.log.me ≡ o.endpoint.me → due_commit o.log number ≡ Some digest
-    → sha256 text ≡ digest → vote.sender.0 ≡ o.log.me → vote.digest ≡ digest → Multicasts (claiming number text o) (Commit o.log.view number digest) before after
-    → KeepsFitting o before (record (claiming number text o) { log = with_commit o.log number vote }) after
+    → sha256 text ≡ digest → vote.sender.0 ≡ o.log.me → vote.digest ≡ digest → Multicasts (noting_prepared number text o) (Commit o.log.view number digest) before after
+    → KeepsFitting o before (record (noting_prepared number text o) { log = with_commit o.log number vote }) after
 commit_goes number digest text vote o before after own due hashed sender same says c s desk w d known f =
-    fits_with c me s o (record (claiming number text o) { log = log }) desk w d d before after e k.is
-    (sent_beside c me (Commit o.log.view number digest) (others c me) k.bytes past tt k.posted)
+    fits_with c me s o (record (noting_prepared number text o) { log = log }) desk w d d before after e k.is
+    (sent_beside c me (Commit o.log.view number digest) (others c me) k.bytes past tt k.is_outgoing)
     (same_rows o.log log.rows) refl refl
     (subst (λ (x : List ℕ). FitsChanges c me log (record (changes_held o) {
-      claims = record o.claims { prepared = with_prepared (record { number = number; digest = x; view = o.log.view }) o.claims.prepared };
+      pq_sets = record o.pq_sets { prepared = with_prepared (record { number = number; digest = x; view = o.log.view }) o.pq_sets.prepared };
     }) (e ∷ past)) (sym hashed)
-    (commits_are_claimed c me past o.log log (changes_held o) number digest k.bytes (outputs_pass c me s desk desk o.log log d d (given me before) e f.fits on)
-    (record { view = refl; active = refl }) refl due k.posted.says f.changes)) f on
+    (commits_enter_p c me past o.log log (changes_held o) number digest k.bytes (outputs_pass c me s desk desk o.log log d d (given me before) e f.fits on)
+    (record { view = refl; active = refl }) refl due k.is_outgoing.says f.changes)) f on
   where
     me : ℕ
     me = o.endpoint.me
@@ -240,20 +240,20 @@ commit_goes number digest text vote o before after own due hashed sender same sa
     log : LogData
     log = with_commit o.log number vote
 
-    k : SaidIn c (claiming number text o) (Commit o.log.view number digest) before after
-    k = said_in c (claiming number text o) (Commit o.log.view number digest) before after known says
+    k : SaidIn c (noting_prepared number text o) (Commit o.log.view number digest) before after
+    k = said_in c (noting_prepared number text o) (Commit o.log.view number digest) before after known says
 
     e : Entry
     e = Sent me k.bytes
 
     on : events.BothFitWithinEvent c me s desk log d (e ∷ given me before)
-    on = commits_fit c me s desk o.log d (given me before) number digest k.bytes vote due (sender ∙ own) same k.posted f.fits
+    on = commits_fit c me s desk o.log d (given me before) number digest k.bytes vote due (sender ∙ own) same k.is_outgoing f.fits
 
-claimed_commit : (number : ℕ) (digest text : List ℕ) (old new : OrdererData) (before after : List Output) → IsLog old.log → IsOrderer old → due_commit old.log number ≡ Some digest → sha256 text ≡ digest
-    → Multicasts (claiming number text old) (Commit old.log.view number digest) before after → AddsVote phases.Commit number digest (claiming number text old) new → MulticastsCommit number old before new after
-claimed_commit number digest text old new before after is own due hashed says adds =
+commit_in_p : (number : ℕ) (digest text : List ℕ) (old new : OrdererData) (before after : List Output) → IsLog old.log → IsOrderer old → due_commit old.log number ≡ Some digest → sha256 text ≡ digest
+    → Multicasts (noting_prepared number text old) (Commit old.log.view number digest) before after → AddsVote phases.Commit number digest (noting_prepared number text old) new → MulticastsCommit number old before new after
+commit_in_p number digest text old new before after is own due hashed says adds =
     subst (λ (x : OrdererData). MulticastsCommit number old before x after) (sym adds.new_is) (record {
-      says = votes phases.Commit number adds.vote old (claiming number text old).claims before after refl inside (commit_goes number digest text adds.vote old before after own.0 due hashed adds.sender adds.digest_is says);
+      says = votes phases.Commit number adds.vote old (noting_prepared number text old).pq_sets before after refl inside (commit_goes number digest text adds.vote old before after own.0 due hashed adds.sender adds.digest_is says);
       said = vote_said phases.Commit old.log number adds.vote is inside adds.sender;
       prepared = prepare_stays old.log number adds.vote is inside;
     })
@@ -262,10 +262,10 @@ claimed_commit number digest text old new before after is own due hashed says ad
     inside = due_within phases.Commit old.log number digest due
 
 pub says_commit : (number : ℕ) (digest : List ℕ) (old mid new : OrdererData) (before after : List Output) → IsLog old.log → IsOrderer old → due_commit old.log number ≡ Some digest
-    → ClaimsLogged number old mid → Multicasts mid (Commit mid.log.view number digest) before after → AddsVote phases.Commit number digest mid new → MulticastsCommit number old before new after
-says_commit number digest old mid new before after is own due claims says adds =
-    let k = claims_due number digest old mid due claims in
-    claimed_commit number digest k.text old new before after is own due k.digest_is
+    → NotesPrepared number old mid → Multicasts mid (Commit mid.log.view number digest) before after → AddsVote phases.Commit number digest mid new → MulticastsCommit number old before new after
+says_commit number digest old mid new before after is own due pq_sets says adds =
+    let k = pq_sets_due number digest old mid due pq_sets in
+    commit_in_p number digest k.text old new before after is own due k.digest_is
     (subst (λ (x : OrdererData). Multicasts x (Commit x.log.view number digest) before after) k.new_is says)
     (subst (λ (x : OrdererData). AddsVote phases.Commit number digest x new) k.new_is adds)
 
@@ -308,15 +308,15 @@ module _ (c : Configuration) (s : Start) (o : OrdererData) (desk : Desk) (w : Wa
       → FitsEvent c me s o with_it w rest after
   behind_it due rest f on =
       fits_behind c me s o o desk with_it w w due rest before after (Sent me said.bytes) said.is refl f on
-      (numbers_beside c me w o desk past (Sent me said.bytes) f.fits.of_log.faults f.fits.of_log.own (sent_beside c me (fetch_of t) (others c me) said.bytes past tt said.posted) f.numbers)
-      (changes_still c me s o o desk with_it due rest (given me before) (Sent me said.bytes) f.fits on (sent_keep c me past (fetch_of t) said.bytes said.posted.says tt (λ signed. absurd cc)) (same_log o.log) refl refl f.changes)
+      (numbers_beside c me w o desk past (Sent me said.bytes) f.fits.of_log.faults f.fits.of_log.own (sent_beside c me (fetch_of t) (others c me) said.bytes past tt said.is_outgoing) f.numbers)
+      (changes_still c me s o o desk with_it due rest (given me before) (Sent me said.bytes) f.fits on (sent_keep c me past (fetch_of t) said.bytes said.is_outgoing.says tt (λ signed. absurd cc)) (same_log o.log) refl refl f.changes)
 
   pub asks : (due : List Message) → TransferMayAsk c me t desk.state.number past → AsksNext c me t desk.state past → FitsEvent c me s o desk w due before → FitsEvent c me s o with_it w due after
-  asks due may next f = behind_it due due f (fetches_fit c me s desk o.log due (given me before) t said.bytes may next said.posted f.fits)
+  asks due may next f = behind_it due due f (fetches_fit c me s desk o.log due (given me before) t said.bytes may next said.is_outgoing f.fits)
 
   -- the fetch was due
   pub asks_due : (rest : List Message) → TransferMayAsk c me t desk.state.number past → AsksNext c me t desk.state past → FitsEvent c me s o desk w (fetch_of t ∷ rest) before → FitsEvent c me s o with_it w rest after
-  asks_due rest may next f = behind_it (fetch_of t ∷ rest) rest f (due_fetches_fit c me s desk o.log rest (given me before) t said.bytes may next said.posted f.fits)
+  asks_due rest may next f = behind_it (fetch_of t ∷ rest) rest f (due_fetches_fit c me s desk o.log rest (given me before) t said.bytes may next said.is_outgoing f.fits)
 
   -- the open transfer may ask again, if a fetch is due
   pub asks_again : (rest : List Message) → desk.transfer ≡ Some t → TransferMayAsk c me t desk.state.number past → AsksNext c me t desk.state past → FitsEvent c me s o desk w (fetch_of t ∷ rest) before → FitsEvent c me s o desk w rest after

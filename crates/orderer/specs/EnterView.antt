@@ -5,7 +5,7 @@ use Rattle.wire_format.specs.Messages.{NewViewData, new_view as NewView}
 use Rattle.events.specs.declared.output.Output.{Output}
 use Rattle.frame_endpoint.specs.Endpoint.{IsOwnSigned}
 use Rattle.ordering.specs.Log as logs
-use Rattle.claims.specs.ClaimsView.{ClaimsData}
+use Rattle.pq_sets.specs.PqSetsView.{PqSetsData}
 use Rattle.view_change.specs.ReceivedData.{pairs_for, frames_for}
 use Rattle.view_change.specs.ReceivedView.{judging_configuration}
 use Rattle.view_change.specs.Selecting.{meets, AreFrom}
@@ -23,15 +23,15 @@ abbrev pub entering : ℕ → ℕ → Option (List ℕ) → OrdererData → Orde
 entering view last own o = record o {
   log = logs.entered o.log view;
   used = last;
-  begun = last;
+  assigned = last;
   new_view = own;
 }
 
--- The batches from a number on are logged and claimed, as far as they are within the marks.
+-- The batches from a number on are logged and enter Q, as far as they are within the marks.
 abbrev pub LogsBatches : ℕ → List (List ℕ) → OrdererData → OrdererData → Type 0
-LogsBatches first texts old new = (claims : ClaimsData)
-    × AddsBatches old.log old.log.view first texts old.claims claims
-    × (new ≡ record old { log = with_batches old.log first texts; claims = claims })
+LogsBatches first texts old new = (pq_sets : PqSetsData)
+    × AddsBatches old.log old.log.view first texts old.pq_sets pq_sets
+    × (new ≡ record old { log = with_batches old.log first texts; pq_sets = pq_sets })
 
 -- The orderer goes on. The log asks for no votes for the numbers after the start, up to the last, and for no more than
 -- before for others.
@@ -46,17 +46,17 @@ pub record MulticastsVotesOf (start last : ℕ) (old : OrdererData) (before : Li
 -- ---- own new views
 
 -- The replica moved to a view of which it is the primary. Over its stored view changes for the view, the start and
--- these batches, which it has claimed, satisfy the new-view rules.
+-- these batches, which are in its Q, satisfy the new-view rules.
 pub record IsSelection (o : OrdererData) (start : ℕ) (root : List ℕ) (texts : List (List ℕ)) : Type 0 where
   pub inactive : o.log.active ≡ false
   pub primary : logs.primary o.log o.target ≡ o.log.me
   pub meets : meets (sized o.received.sizes) o.target (pairs_for o.target o.received.held) start root texts ≡ true
-  pub from : AreFrom o.claims.texts texts
+  pub from : AreFrom o.pq_sets.texts texts
 
 -- If it moved to such a view, no selection exists over the stored view changes.
 abbrev pub HasNoSelection : OrdererData → Type 0
 HasNoSelection o = o.log.active ≡ false → logs.primary o.log o.target ≡ o.log.me
-    → SelectsNothing (sized o.received.sizes) o.target o.received.held o.claims
+    → SelectsNothing (sized o.received.sizes) o.target o.received.held o.pq_sets
 
 -- the new view with that start and these batches
 abbrev pub new_view_of : OrdererData → ℕ → List ℕ → List (List ℕ) → NewViewData

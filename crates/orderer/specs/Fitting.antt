@@ -29,9 +29,9 @@ FitsWaiting c me o w desk history = logs.primary o.log o.log.view ≡ o.log.me
 abbrev pub changes_held : OrdererData → Changes
 changes_held o = record {
   target = o.target;
-  begun = o.begun;
+  assigned = o.assigned;
   new_view = o.new_view;
-  claims = o.claims;
+  pq_sets = o.pq_sets;
   held = o.received.held;
   last_checkpoint = o.last_checkpoint;
   spent = o.spent;

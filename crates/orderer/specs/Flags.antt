@@ -5,7 +5,7 @@ use Rattle.protocol.specs.System.Trace.{Entry}
 use Rattle.protocol.specs.Replica.State.{State, Call}
 use Rattle.replica_histories.specs.Numbers.{FitsNumbers, Waiting}
 use Rattle.desk.specs.declared.waiting.WaitingRequest.{WaitingRequest}
-use Rattle.desk.specs.Begun.{begun_of}
+use Rattle.desk.specs.Assigned.{assigned_of}
 use Rattle.desk.specs.DeskOf.{waiting_call}
 use Rattle.desk.specs.Waiting.{WaitingData}
 
@@ -19,4 +19,4 @@ flagged c requests = map (flagged_call c) requests
 -- In the view v, whose greatest assigned number is `used`, the flags of the waiting requests are those of the history.
 abbrev pub FitsFlags : Configuration → ℕ → ℕ → ℕ → WaitingData → State → List Call → List Entry → Type 0
 FitsFlags c me v used w st calls history =
-    FitsNumbers c me v used (begun_of w.begun) (flagged c w.requests) st calls history
+    FitsNumbers c me v used (assigned_of w.assigned) (flagged c w.requests) st calls history

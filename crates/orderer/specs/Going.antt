@@ -1,6 +1,6 @@
 -- How an orderer goes on within an event.
 use Rattle.std.specs.Prelude.{◌≡◌, ◌≢◌, ℕ, ◌≤◌, false, List, Some, None}
-use Rattle.wire_format.specs.Messages.{MessageData as Message, BatchEntryData as Claim}
+use Rattle.wire_format.specs.Messages.{MessageData as Message, BatchEntryData as PqEntry}
 use Rattle.events.specs.declared.output.Output.{Output}
 use Rattle.ordering.specs.Log as logs
 use Rattle.ordering.specs.Log.{LogData}
@@ -44,12 +44,13 @@ abbrev pub CommitsNoMore : LogData → LogData → Type 0
 CommitsNoMore old new =
     (i : ℕ) (text : List ℕ) → logs.committed_batch new i ≡ Some text → logs.committed_batch old i ≡ Some text
 
--- A primary has no more choice for a new view: the stored view changes are the same, it claims no more, and it used no
+-- A primary has no more choice for a new view: the stored view changes are the same, Q has no more, and it used no
 -- key.
 pub record KeepsChoice (old new : OrdererData) : Type 0 where
   pub received : new.received ≡ old.received
   pub spent : new.spent ≡ old.spent
-  pub logged : (claim : Claim) → Has (λ x. x ≡ claim) new.claims.logged → Has (λ x. x ≡ claim) old.claims.logged
+  pub logged : (pq_entry : PqEntry) → Has (λ x. x ≡ pq_entry) new.pq_sets.logged
+      → Has (λ x. x ≡ pq_entry) old.pq_sets.logged
 
 -- both are the same replica's, and judge view changes by the same sizes
 pub record KeepsParty (old new : OrdererData) : Type 0 where

@@ -3,7 +3,7 @@ pub mod OrdererView
 pub mod Flags
 pub mod Fitting
 pub mod Going
-pub mod Claiming
+pub mod PqSets
 pub mod Taking
 pub mod Multicasting
 pub mod Checkpoints

@@ -28,7 +28,7 @@ use Rattle.orderer.specs.Going.{KeepsFitting, NoVoteIsDue, IsSameOrderer}
 -- the orderer sends the message to the other replicas, after the earlier outputs
 pub record Multicasts (o : OrdererData) (message : Message) (before after : List Output) : Type 0 where
   pub output : Output
-  pub posts : SendsMessageToOthers o.endpoint message output
+  pub sends_frame : SendsMessageToOthers o.endpoint message output
   pub given_is : after ≡ before ++ output ∷ []
 
 -- the message by which a replica votes in a phase
@@ -144,7 +144,7 @@ OutputsHaveFrame o frame outs = Has (λ output. entry_of o.endpoint.me output �
 -- the outputs have the primary's batch of a number, if it is above those of the new view
 abbrev pub OutputsHaveBatch : ℕ → OrdererData → List Output → Type 0
 OutputsHaveBatch number o outs =
-    (text : List ℕ) → o.log.me ≡ logs.primary o.log o.log.view → o.begun < number
+    (text : List ℕ) → o.log.me ≡ logs.primary o.log o.log.view → o.assigned < number
     → logs.logged_batch o.log number ≡ Some text → OutputsHave o (PrePrepare o.log.view number text) outs
 
 -- the outputs have the replica's own vote that the log has

@@ -10,10 +10,10 @@ orderer_data o = record {
   endpoint = record o.endpoint.value { used = 0 };
   log = o.log;
   used = o.used.0;
-  begun = o.begun.0;
+  assigned = o.assigned.0;
   target = o.target.0;
   new_view = option_map (λ frame. frame.items) o.new_view;
-  claims = o.claims;
+  pq_sets = o.pq_sets;
   received = o.received;
   last_checkpoint = option_map checkpoint_entry_data o.last_checkpoint;
   spent = o.endpoint.value.used;

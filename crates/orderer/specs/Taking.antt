@@ -9,9 +9,9 @@ use Rattle.ordering.specs.Log.{new_log, with_prepare, with_commit}
 use Rattle.ordering.specs.Messages.{preprepare_fault_of, prepare_fault_of, commit_fault_of}
 use Rattle.frame_endpoint.specs.Endpoint.{are_authentic}
 use Rattle.protocol.specs.System.Configuration.{Configuration, members, replicas, span}
-use Rattle.claims.specs.ClaimsView.{no_claims}
+use Rattle.pq_sets.specs.PqSetsView.{empty_pq_sets}
 use Rattle.orderer.specs.State.{OrdererData}
-use Rattle.orderer.specs.Claiming.{LogsBatch}
+use Rattle.orderer.specs.PqSets.{LogsBatch}
 
 -- an orderer before its first message
 abbrev pub IsNewOrderer : Configuration → ℕ → OrdererData → Type 0
@@ -19,10 +19,10 @@ IsNewOrderer c me o = (o ≡ record {
   endpoint = record { membership = members c; me = me; used = 0 };
   log = new_log me c.faults (span c);
   used = 0;
-  begun = 0;
+  assigned = 0;
   target = 0;
   new_view = None;
-  claims = no_claims;
+  pq_sets = empty_pq_sets;
   received = record {
     seed = c.seed;
     sizes = o.received.sizes;

@@ -36,14 +36,14 @@ AreChanges held =
     (s : ℕ) (h : HeldData) → held_of held s ≡ Some h
     → (sender : ℕ) × (said h.frame ≡ Some (record { sender = sender; message = ViewChange h.change }))
 
--- the view change for the view, with these checkpoints and all claims
+-- the view change for the view, with these checkpoints and the sets P and Q
 abbrev pub change_for : ℕ → List CheckpointEntry → OrdererData → ViewChangeData
 change_for view checkpoints o = record {
   view = view;
   low = o.log.low;
   checkpoints = checkpoints;
-  prepared = o.claims.prepared;
-  pre_prepared = o.claims.logged;
+  prepared = o.pq_sets.prepared;
+  pre_prepared = o.pq_sets.logged;
 }
 
 -- The view change can't be sent: each leaf is spent, or no frame spells it, or others would refuse it.

@@ -22,14 +22,18 @@ impl Orderer {
         self.log.keeps();
         self.log.enter(view);
         self.used = last;
-        self.begun = last;
+        self.assigned = last;
         self.new_view = own;
     }
 
     /// Logs the batches after the start that are within the marks.
-    pub fn log_begun(&mut self, start: Number, batches: Vec<Arc<HashedBatch>>) -> Result<(), Stop>
+    pub fn log_assigned(
+        &mut self,
+        start: Number,
+        batches: Vec<Arc<HashedBatch>>,
+    ) -> Result<(), Stop>
         requires fits { start.0 + length batches.items < 2 ^ 64 }
-        requires begun { start.0 + length batches.items ≤ self.old.begun }
+        requires assigned { start.0 + length batches.items ≤ self.old.assigned }
         requires batches { Each (IsBatch 0) (texts_of batches.items) }
         ensures ok { OnOk result (LogsBatches (suc start.0) (texts_of batches.items) self.old self.new) }
         ensures party { KeepsParty self.old self.new }

@@ -3,7 +3,7 @@
 //! knows no state, and executes nothing.
 //!
 //! An [`Orderer`] has the endpoint, which authenticates and seals frames, and the log of the three phases. It has the
-//! number used last and the checkpoint sent last. For view changes it has the target, the claims, the view changes that
+//! number used last and the checkpoint sent last. For view changes it has the target, P and Q, the view changes that
 //! came, and its own new view. The crate `replica` joins it to a desk, hands it the messages that came, and asks it for
 //! committed batches.
 //!
@@ -11,8 +11,8 @@
 //!
 //! For each number within the marks, at most 32: one batch, a prepare and a commit of each replica, and the batch that
 //! was committed in an earlier view. Of each replica: the three checkpoints of the largest numbers, and the latest view
-//! change with its frame. Its own claims, which few views can make many (`claims::Claims`), and the frame of its own
-//! new view.
+//! change with its frame. Its own sets P and Q, which few views can make large (`pq_sets::PqSets`), and the frame of
+//! its own new view.
 //!
 //! # What it costs
 //!
@@ -22,7 +22,7 @@
 //! # What is proved
 //!
 //! If a history fits the outputs before a call, with the orderer before it, it fits those after it (`KeepsFitting`). So
-//! two calls compose, and a loop's invariant is its contract. What fits is `FitsEvent`: the log and the claims are what
+//! two calls compose, and a loop's invariant is its contract. What fits is `FitsEvent`: the log, P and Q are what
 //! the history certifies, and each frame among the outputs goes to the parties for whom it is. It holds beside any
 //! desk.
 //!
@@ -38,20 +38,20 @@
 //! `sign_change` signs and stores the replica's own view change, or nothing changes (`MaySignChange`). `receive` stores
 //! another's if nothing refuses it. `joined_view` gives the view to which `f + 1` others move the replica
 //! (`IsJoinedBy`). `selection` gives what the new view begins with, if the view changes allow it (`IsSelection`).
-//! `enter`, `log_begun` and `multicast_all_votes` enter a view, batch by batch.
+//! `enter`, `log_assigned` and `multicast_all_votes` enter a view, batch by batch.
 //!
 //! If memory runs out, a call gives an error, and its caller stops.
 //!
 //! # How it is made
 //!
-//! - Contracts see an [`Orderer`] as `OrdererData`: its log, its claims and what it stores for view changes.
+//! - Contracts see an [`Orderer`] as `OrdererData`: its log, its sets P and Q and what it stores for view changes.
 //! - Its histories have waiting requests, of which it has none. So the definitions name the desk's (`FitsWaiting`), and
 //!   the crate stands above `desk`. Its code calls nothing there.
 //! - A signed frame is kept as bytes, so a view change spends one key, however often it goes again.
 #![tactic(auto)]
 
-mod claiming;
 mod enter_view;
+mod logging;
 mod marks;
 mod multicasting;
 mod new_view;

@@ -5,7 +5,7 @@ ghost use Rattle.wire_format.specs.Messages.{checkpoint};
 ghost use Rattle.wire_format.specs.Views.{checkpoint_entry_data};
 ghost use Rattle.ordering.specs.Log.{count_checkpoints};
 ghost use Rattle.orderer.specs.Going.{KeepsParty};
-ghost use Rattle.orderer.specs.Claiming.{CutsLog};
+ghost use Rattle.orderer.specs.PqSets.{CutsLog};
 ghost use Rattle.orderer.specs.Checkpoints.{MulticastsCheckpoint, TakesCheckpoint, said_entry};
 ghost use Rattle.orderer.specs.Multicasting.{OutputsHaveCheckpoint, Multicasts, MulticastsLastAlso};
 
@@ -95,7 +95,7 @@ impl Orderer {
     {
         self.log.keeps();
         self.log.cut(low);
-        self.claims.cut(self.log.low());
+        self.pq_sets.cut(self.log.low());
     }
 }
 

@@ -97,7 +97,7 @@ impl Orderer {
     {
         self.keeps();
         // Up to this number the new view has the batches.
-        if !self.is_primary() || number.0 <= self.begun.0 {
+        if !self.is_primary() || number.0 <= self.assigned.0 {
             return Ok(());
         }
         let Some(batch) = self.log.logged_batch(number) else {

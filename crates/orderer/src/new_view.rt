@@ -31,7 +31,7 @@ impl Orderer {
             return Ok(None);
         }
         let set = self.received.changes_for(alloc, view)?;
-        let held = self.claims.batches(alloc)?;
+        let held = self.pq_sets.batches(alloc)?;
         select(alloc, &set, self.received.sizes(), view, &held)
     }
 

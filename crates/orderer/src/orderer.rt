@@ -12,10 +12,10 @@ ghost use Rattle.orderer.specs.ViewChangeOut.{AreChanges};
 ghost use Rattle.orderer.specs.Taking.{IsNewOrderer, TakesBatch, TakesPrepare, TakesCommit};
 
 use authenticator::{Ring, signing_seed};
-use claims::Claims;
 use events::{Config, Stop};
 use frame_endpoint::Endpoint;
 use ordering::{HashedBatch, Log};
+use pq_sets::PqSets;
 use signing::{AuthenticRequest, PublicKeys, Signer};
 use std::alloc::Global;
 use std::marker::Model;
@@ -34,13 +34,13 @@ pub struct Orderer {
     /// first.
     pub(crate) used: Number,
     /// The greatest number that the new view assigned, 0 in the first view.
-    pub(crate) begun: Number,
+    pub(crate) assigned: Number,
     /// The greatest view that the replica sent a view change for, 0 before the first.
     pub(crate) target: View,
     /// The frame of the new view with which the view began, if the replica made it.
     pub(crate) new_view: Option<Vec<u8>>,
     /// What the replica logged and prepared, for its own view changes.
-    pub(crate) claims: Claims,
+    pub(crate) pq_sets: PqSets,
     /// The latest view change of each replica.
     pub(crate) received: Received,
     /// The last checkpoint that the replica sent.
@@ -83,10 +83,10 @@ impl Orderer {
             endpoint: Box::new(alloc, endpoint)?,
             log: Log::new(alloc, me, faults, 2 * u64::from(config.period()))?,
             used: Number(0),
-            begun: Number(0),
+            assigned: Number(0),
             target: View(0),
             new_view: None,
-            claims: Claims::new(alloc),
+            pq_sets: PqSets::new(alloc),
             received,
             last_checkpoint: None,
         })

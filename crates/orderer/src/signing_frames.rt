@@ -3,7 +3,7 @@
 ghost use Rattle.std.specs.Prelude.{◌≡◌, true, IfOk, OnOk};
 ghost use Rattle.wire_format.specs.Spelling.{IsMessage, is_signed};
 ghost use Rattle.wire_format.specs.Views.{message_data};
-ghost use Rattle.orderer.specs.Claiming.{MaySign, MulticastsFrame};
+ghost use Rattle.orderer.specs.PqSets.{MaySign, MulticastsFrame};
 
 use crate::orderer::Orderer;
 use events::{Outputs, Stop, emit};

@@ -9,9 +9,9 @@ ghost use Rattle.orderer.specs.ViewChangeOut.{IsNextView, MaySignChange, target_
 ghost use Rattle.orderer.specs.Multicasting.{OutputsHaveViewChange, MulticastsLastAlso};
 
 use crate::orderer::Orderer;
-use claims::make;
 use events::{Outputs, Stop};
 use frame_endpoint::view_change_message;
+use pq_sets::make;
 use std::alloc::Global;
 use terms::View;
 use view_change::{Change, copy_change};
@@ -57,7 +57,7 @@ impl Orderer {
     {
         self.keeps();
         let low = self.log.low();
-        let Some(change) = make(alloc, view, low, checkpoints, &self.claims)? else {
+        let Some(change) = make(alloc, view, low, checkpoints, &self.pq_sets)? else {
             return Ok(None);
         };
         let held = Change {

@@ -1,4 +1,4 @@
-//! Tests of the parts of a replica and of a client: a replica's endpoint (`posting`), the state that it executes
+//! Tests of the parts of a replica and of a client: a replica's endpoint (`frame_endpoint`), the state that it executes
 //! (`execution`), its reads beside the order (`read_only`), and a client (`client_cert`). And tests of the points at
 //! which the calls of a trace take effect (`points`).
 #![tactic(auto)]

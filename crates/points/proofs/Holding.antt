@@ -12,9 +12,9 @@ use Rattle.authenticator.specs.Membership.{Membership}
 use Rattle.protocol.specs.System.Trace.{Entry}
 use Rattle.protocol.specs.Space.Linear.{Placing, insert_point, is_double, sorted}
 use Rattle.points.specs.declared.levels.Rise.{Rise}
-use Rattle.points.specs.declared.seats.Seat.{Seat}
+use Rattle.points.specs.declared.scans.ClientScan.{ClientScan}
 use Rattle.points.specs.Places.{position_in}
-use Rattle.points.specs.Seating.{AreSeats, EndsNone, EntryEndsRead, entry_read, seat_reads, with_read}
+use Rattle.points.specs.Scanning.{AreScans, EndsNone, EntryEndsRead, entry_read, reads_by_scans, with_read}
 use Rattle.points.specs.declared.sorting.CallKey.{CallKey}
 use Rattle.points.specs.declared.point.Placed.{Placed}
 use Rattle.points.specs.declared.sorting.Key.{Key}
@@ -140,17 +140,17 @@ pub holds_less : (low bound : ℕ) (reads : List Placing) (held : Reads) → low
 holds_less low bound reads held l h = record { sorted = h.sorted; ranked = λ r m. h.ranked r (omega arith); calls = h.calls }
 
 -- after one more entry
-pub ended_on : (m ring : Membership) (found : List Rise) (past : List Entry) (e : Entry) (seats : List (ℕ × Seat)) (old new : Reads) (rank bound : ℕ)
-    → ring ≡ m → AddsEnded ring found seats e rank old new → AreSeats past seats → rank + 1 ≡ bound
-    → HoldsReads bound (seat_reads m (position_in found) past) old → HoldsReads rank (seat_reads m (position_in found) (e ∷ past)) new
-ended_on m ring found past e seats old new rank bound same adds at next h =
-    subst (λ r. HoldsReads rank (with_read r (seat_reads m (position_in found) past)) new) (ap (λ (x : Membership). entry_read x (position_in found) past e) same)
-    (adds past at (seat_reads m (position_in found) past) (subst (λ b. HoldsReads b (seat_reads m (position_in found) past) old) (sym next) h))
+pub ended_on : (m ring : Membership) (found : List Rise) (past : List Entry) (e : Entry) (scans : List (ℕ × ClientScan)) (old new : Reads) (rank bound : ℕ)
+    → ring ≡ m → AddsEnded ring found scans e rank old new → AreScans past scans → rank + 1 ≡ bound
+    → HoldsReads bound (reads_by_scans m (position_in found) past) old → HoldsReads rank (reads_by_scans m (position_in found) (e ∷ past)) new
+ended_on m ring found past e scans old new rank bound same adds at next h =
+    subst (λ r. HoldsReads rank (with_read r (reads_by_scans m (position_in found) past)) new) (ap (λ (x : Membership). entry_read x (position_in found) past e) same)
+    (adds past at (reads_by_scans m (position_in found) past) (subst (λ b. HoldsReads b (reads_by_scans m (position_in found) past) old) (sym next) h))
 
 -- an entry that ends no read adds none
-pub adds_not : (m : Membership) (found : List Rise) (seats : List (ℕ × Seat)) (e : Entry) (rank : ℕ) (held : Reads) → EndsNone e → AddsEnded m found seats e rank held held
-adds_not m found seats e rank held none past at = subst (λ r. AddsRead rank r held held) (none m (position_in found) past) (adds_none rank held)
+pub adds_not : (m : Membership) (found : List Rise) (scans : List (ℕ × ClientScan)) (e : Entry) (rank : ℕ) (held : Reads) → EndsNone e → AddsEnded m found scans e rank held held
+adds_not m found scans e rank held none past at = subst (λ r. AddsRead rank r held held) (none m (position_in found) past) (adds_none rank held)
 
-pub adds_ended : (m : Membership) (found : List Rise) (seats : List (ℕ × Seat)) (e : Entry) (rank : ℕ) (read : Option Placing) (old new : Reads)
-    → EntryEndsRead m found seats e read → AddsRead rank read old new → AddsEnded m found seats e rank old new
-adds_ended m found seats e rank read old new is adds past at = subst (λ r. AddsRead rank r old new) (is past at) adds
+pub adds_ended : (m : Membership) (found : List Rise) (scans : List (ℕ × ClientScan)) (e : Entry) (rank : ℕ) (read : Option Placing) (old new : Reads)
+    → EntryEndsRead m found scans e read → AddsRead rank read old new → AddsEnded m found scans e rank old new
+adds_ended m found scans e rank read old new is adds past at = subst (λ r. AddsRead rank r old new) (is past at) adds

@@ -10,5 +10,5 @@ pub mod Ordering
 pub mod Replying
 pub mod Results
 pub mod Rising
-pub mod Seating
+pub mod Scanning
 pub mod Whole

@@ -12,44 +12,44 @@ use Rattle.space.proofs.Filing.{at_same, at_other}
 use Rattle.wire_format.specs.Lists.{Each}
 use Rattle.protocol.specs.System.Trace.{Entry, party_of}
 use Rattle.points.specs.declared.levels.Rise.{Rise}
-use Rattle.points.specs.declared.seats.Seat.{Seat}
-use Rattle.points.specs.Seating.{SeatData, empty_seat, seat_after_entry, seat_of, seat_at, seat_data, AreSeats, NotesSeat}
+use Rattle.points.specs.declared.scans.ClientScan.{ClientScan}
+use Rattle.points.specs.Scanning.{ClientScanData, empty_scan, scan_after_entry, scan_of, scan_at, scan_data, AreScans, NotesEntry}
 
--- ---- seats
+-- ---- scans
 
-abbrev Seats : Type 0
-Seats = List (ℕ × Seat)
+abbrev ClientScans : Type 0
+ClientScans = List (ℕ × ClientScan)
 
--- the new seats have this one at the client's number, and else those of the old
-abbrev pub Puts : ℕ → Seat → Seats → Seats → Type 0
-Puts k seat old new = (q : ℕ) → lookup (is_at (nat_cmp q)) new ≡ cond (is_at (nat_cmp k) q) (Some seat) (lookup (is_at (nat_cmp q)) old)
+-- the new scans have this one at the client's number, and else those of the old
+abbrev pub Puts : ℕ → ClientScan → ClientScans → ClientScans → Type 0
+Puts k scan old new = (q : ℕ) → lookup (is_at (nat_cmp q)) new ≡ cond (is_at (nat_cmp k) q) (Some scan) (lookup (is_at (nat_cmp q)) old)
 
-pub notes_own : (k position : ℕ) (e : Entry) (old new : Seats) (seat : Seat) → party_of e ≡ 256 + k → Puts k seat old new
-    → seat_data seat ≡ seat_after_entry position e (seat_at old k) → NotesSeat position e old new
-notes_own k position e old new seat own puts is past at seats q = go (cases_order k q)
+pub notes_own : (k position : ℕ) (e : Entry) (old new : ClientScans) (scan : ClientScan) → party_of e ≡ 256 + k → Puts k scan old new
+    → scan_data scan ≡ scan_after_entry position e (scan_at old k) → NotesEntry position e old new
+notes_own k position e old new scan own puts is past at scans q = go (cases_order k q)
   where
-    read : Option Seat → SeatData
-    read o = option_map_or seat_data o empty_seat
+    read : Option ClientScan → ClientScanData
+    read o = option_map_or scan_data o empty_scan
 
-    other : (k ≡ q → ⊥) → seat_at new q ≡ cond (party_of e == 256 + q) (seat_after_entry (length past) e (seat_of (256 + q) past)) (seat_of (256 + q) past)
+    other : (k ≡ q → ⊥) → scan_at new q ≡ cond (party_of e == 256 + q) (scan_after_entry (length past) e (scan_of (256 + q) past)) (scan_of (256 + q) past)
     other ne =
-        ap read (puts q ∙ ap (λ b. cond b (Some seat) (lookup (is_at (nat_cmp q)) old)) (at_other k q ne)) ∙ seats q
-        ∙ sym (ap (λ b. cond b (seat_after_entry (length past) e (seat_of (256 + q) past)) (seat_of (256 + q) past)) (ne_eqb (party_of e) (256 + q) (λ same. ne (omega (arith, own, same)))))
+        ap read (puts q ∙ ap (λ b. cond b (Some scan) (lookup (is_at (nat_cmp q)) old)) (at_other k q ne)) ∙ scans q
+        ∙ sym (ap (λ b. cond b (scan_after_entry (length past) e (scan_of (256 + q) past)) (scan_of (256 + q) past)) (ne_eqb (party_of e) (256 + q) (λ same. ne (omega (arith, own, same)))))
 
-    go : (k ≡ q) ⊎ ((k < q) ⊎ (q < k)) → seat_at new q ≡ cond (party_of e == 256 + q) (seat_after_entry (length past) e (seat_of (256 + q) past)) (seat_of (256 + q) past)
+    go : (k ≡ q) ⊎ ((k < q) ⊎ (q < k)) → scan_at new q ≡ cond (party_of e == 256 + q) (scan_after_entry (length past) e (scan_of (256 + q) past)) (scan_of (256 + q) past)
     go (inl same) =
-        ap read (puts q ∙ ap (λ b. cond b (Some seat) (lookup (is_at (nat_cmp q)) old)) (subst (λ n. is_at (nat_cmp k) n ≡ true) same (at_same k)))
-        ∙ is ∙ ap (λ n. seat_after_entry n e (seat_at old k)) at ∙ ap (seat_after_entry (length past) e) (seats k) ∙ ap (λ n. seat_after_entry (length past) e (seat_of (256 + n) past)) same
-        ∙ sym (ap (λ b. cond b (seat_after_entry (length past) e (seat_of (256 + q) past)) (seat_of (256 + q) past)) (eq-eqb (party_of e) (256 + q) (own ∙ ap (λ n. 256 + n) same)))
+        ap read (puts q ∙ ap (λ b. cond b (Some scan) (lookup (is_at (nat_cmp q)) old)) (subst (λ n. is_at (nat_cmp k) n ≡ true) same (at_same k)))
+        ∙ is ∙ ap (λ n. scan_after_entry n e (scan_at old k)) at ∙ ap (scan_after_entry (length past) e) (scans k) ∙ ap (λ n. scan_after_entry (length past) e (scan_of (256 + n) past)) same
+        ∙ sym (ap (λ b. cond b (scan_after_entry (length past) e (scan_of (256 + q) past)) (scan_of (256 + q) past)) (eq-eqb (party_of e) (256 + q) (own ∙ ap (λ n. 256 + n) same)))
     go (inr (inl l)) = other (λ same. omega arith)
     go (inr (inr l)) = other (λ same. omega arith)
 
-pub notes_none : (position : ℕ) (e : Entry) (seats : Seats) → party_of e < 256 → NotesSeat position e seats seats
-notes_none position e old l past at seats q =
-    seats q ∙ sym (ap (λ b. cond b (seat_after_entry (length past) e (seat_of (256 + q) past)) (seat_of (256 + q) past)) (ne_eqb (party_of e) (256 + q) (λ same. omega arith)))
+pub notes_none : (position : ℕ) (e : Entry) (scans : ClientScans) → party_of e < 256 → NotesEntry position e scans scans
+notes_none position e old l past at scans q =
+    scans q ∙ sym (ap (λ b. cond b (scan_after_entry (length past) e (scan_of (256 + q) past)) (scan_of (256 + q) past)) (ne_eqb (party_of e) (256 + q) (λ same. omega arith)))
 
-pub no_seats : AreSeats [] []
-no_seats q = refl
+pub no_scans : AreScans [] []
+no_scans q = refl
 
 -- ---- levels
 

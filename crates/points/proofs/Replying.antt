@@ -17,7 +17,7 @@ use Rattle.protocol.specs.Client.RightClient.{Vote}
 use Rattle.authenticator.specs.Membership.{Membership}
 use Rattle.signing.specs.AuthenticBody.{authentic}
 use Rattle.signing.proofs.AuthenticBody.{authentic_was_opened}
-use Rattle.points.specs.Seating.{answers, number_in, read_number}
+use Rattle.points.specs.Scanning.{answers, number_in, read_number}
 
 abbrev pub said_by : ℕ → Message → BodyData
 said_by s m = record { sender = s; message = message_data m }

@@ -4,5 +4,5 @@ pub mod Numbering
 pub mod Places
 pub mod PointView
 pub mod Running
-pub mod Seating
+pub mod Scanning
 pub mod Sorting

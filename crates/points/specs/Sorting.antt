@@ -15,9 +15,9 @@ use Rattle.points.specs.declared.sorting.CallKey.{CallKey}
 use Rattle.points.specs.declared.sorting.Reads.{Reads}
 use Rattle.points.specs.PointView.{placing_of}
 use Rattle.points.specs.Places.{position_in}
-use Rattle.points.specs.Seating.{AreSeats, entry_read, with_read}
+use Rattle.points.specs.Scanning.{AreScans, entry_read, with_read}
 use Rattle.points.specs.declared.levels.Rise.{Rise}
-use Rattle.points.specs.declared.seats.Seat.{Seat}
+use Rattle.points.specs.declared.scans.ClientScan.{ClientScan}
 use Rattle.authenticator.specs.Membership.{Membership}
 use Rattle.protocol.specs.System.Trace.{Entry}
 
@@ -81,9 +81,9 @@ AddsRead rank read old new =
     (reads : List Placing) → HoldsReads (rank + 1) reads old → HoldsReads rank (with_read read reads) new
 
 -- the read that an entry ends, if it ends one, leads from the earlier reads to the later ones
-abbrev pub AddsEnded : Membership → List Rise → List (ℕ × Seat) → Entry → ℕ → Reads → Reads → Type 0
-AddsEnded m found seats e rank old new =
-    (past : List Entry) → AreSeats past seats → AddsRead rank (entry_read m (position_in found) past e) old new
+abbrev pub AddsEnded : Membership → List Rise → List (ℕ × ClientScan) → Entry → ℕ → Reads → Reads → Type 0
+AddsEnded m found scans e rank old new =
+    (past : List Entry) → AreScans past scans → AddsRead rank (entry_read m (position_in found) past e) old new
 
 -- the points are these ordered ones, without those of reads, and the reads, sorted
 abbrev pub MergesInto : Reads → List Placing → List Placing → Type 0

@@ -15,7 +15,7 @@
 //! 1. One scan keeps the number that each replica reached. It notes where the level of all but `f` of the correct ones
 //!    rises (`src/levels.rt`). A binary search finds the first position of a number among these rises
 //!    (`src/places.rt`).
-//! 2. A second scan keeps a seat for each client (`src/seats.rt`): its open call, the position of its invocation, and
+//! 2. A second scan notes of each client (`src/scans.rt`): its open call, the position of its invocation, and
 //!    the bytes that came last. So an acceptance opens one frame (`src/reads.rt`).
 //! 3. A third scan notes the first batch of each number (`src/batches.rt`). These batches run one after another on a
 //!    space and last replies without pages (`src/running.rt`).
@@ -33,7 +33,7 @@ mod places;
 mod point;
 mod reads;
 mod running;
-mod seats;
+mod scans;
 mod sorting;
 
 use batches::find_batches;

@@ -9,12 +9,12 @@ ghost use Rattle.protocol.specs.System.Configuration.{members};
 ghost use Rattle.points.specs.Places.{position_in};
 ghost use Rattle.points.specs.PointView.{placing_of};
 ghost use Rattle.protocol.specs.System.Frames.{same_mode};
-ghost use Rattle.points.specs.Seating.{EndsNone, EntryEndsRead, answers, number_in, read_number, seat_data, seat_read, seat_reads};
+ghost use Rattle.points.specs.Scanning.{EndsNone, EntryEndsRead, answers, number_in, read_number, scan_data, read_by_scan, reads_by_scans};
 ghost use Rattle.points.specs.Sorting.{AddsEnded, AreRankedAbove, HoldsReads};
 
 use crate::places::Places;
 use crate::point::{Placed, Point};
-use crate::seats::{Seat, Seats, note, seat_of};
+use crate::scans::{ClientScan, ClientScans, note, scan_of};
 use crate::sorting::Reads;
 use authenticator::Ring;
 use events::{Config, Entry, EntryKind};
@@ -39,19 +39,19 @@ pub(crate) fn find_reads(
     places: &Places,
     trace: &[Entry],
 ) -> Result<Reads, NoMemory>
-    ensures { IfOk result (HoldsReads (2 ^ 63) (seat_reads (members config.now)
+    ensures { IfOk result (HoldsReads (2 ^ 63) (reads_by_scans (members config.now)
         (position_in (reverse places.now.rises.items)) (reverse trace.now))) }
 {
     let mut ring = Ring::new(alloc, config.seed(), config.faults(), config.clients());
     let publics = PublicKeys::new(alloc, config.seed())?;
-    let mut seats = BTreeMap::new(alloc);
+    let mut scans = BTreeMap::new(alloc);
     let mut reads = Reads::new(alloc);
     for (position, entry) in trace.iter().enumerate() {
         let rank = usize::MAX - position;
         add_ended(
-            alloc, &mut ring, &publics, places, &seats, entry, rank, &mut reads,
+            alloc, &mut ring, &publics, places, &scans, entry, rank, &mut reads,
         )?;
-        note(&mut seats, position, entry)?;
+        note(&mut scans, position, entry)?;
     }
     Ok(reads)
 }
@@ -62,7 +62,7 @@ fn add_ended(
     ring: &mut Ring,
     publics: &PublicKeys,
     places: &Places,
-    seats: &Seats<'_>,
+    scans: &ClientScans<'_>,
     entry: &Entry,
     rank: usize,
     reads: &mut Reads,
@@ -70,14 +70,14 @@ fn add_ended(
     requires keys { publics.now ≡ ring.old.seed }
     requires ranked { AreRankedAbove rank reads.old.sorted.entries }
     ensures adds { OnOk result (AddsEnded ring.old (reverse places.now.rises.items)
-        seats.now.entries entry.now rank reads.old reads.new) }
+        scans.now.entries entry.now rank reads.old reads.new) }
     ensures same { ring.new ≡ ring.old }
 {
     // Few entries end a read. The others go by without the room that a read takes.
     if !may_end(entry) {
         return Ok(());
     }
-    let read = read_ended(alloc, ring, publics, places, seats, entry)?;
+    let read = read_ended(alloc, ring, publics, places, scans, entry)?;
     reads.add(rank, read)
 }
 
@@ -97,26 +97,26 @@ fn read_ended(
     ring: &mut Ring,
     publics: &PublicKeys,
     places: &Places,
-    seats: &Seats<'_>,
+    scans: &ClientScans<'_>,
     entry: &Entry,
 ) -> Result<Option<Placed>, NoMemory>
     requires keys { publics.now ≡ ring.old.seed }
     ensures read { IfOk result (λ read. EntryEndsRead ring.old (reverse places.now.rises.items)
-        seats.now.entries entry.now (option_map placing_of read)) }
+        scans.now.entries entry.now (option_map placing_of read)) }
     ensures same { ring.new ≡ ring.old }
 {
     match entry.kind() {
         EntryKind::Accepted(client, timestamp, answer) => {
-            let seat = seat_of(seats, *client);
+            let scan = scan_of(scans, *client);
             read_at(
-                alloc, ring, publics, places, *client, *timestamp, answer, seat,
+                alloc, ring, publics, places, *client, *timestamp, answer, scan,
             )
         }
         _ => Ok(None),
     }
 }
 
-// The read that an acceptance ends, by the client's seat.
+// The read that an acceptance ends, by the client's scan.
 fn read_at(
     alloc: Global,
     ring: &mut Ring,
@@ -125,24 +125,24 @@ fn read_at(
     client: ClientId,
     timestamp: Timestamp,
     answer: &Answer<Global>,
-    seat: Seat<'_>,
+    scan: ClientScan<'_>,
 ) -> Result<Option<Placed>, NoMemory>
     requires keys { publics.now ≡ ring.old.seed }
     ensures read { IfOk result (λ read. option_map placing_of read
-        ≡ seat_read ring.old (position_in (reverse places.now.rises.items))
-        (client_party client.number) timestamp.0 (outcome_of answer.now) (seat_data seat.entry)) }
+        ≡ read_by_scan ring.old (position_in (reverse places.now.rises.items))
+        (client_party client.number) timestamp.0 (outcome_of answer.now) (scan_data scan.entry)) }
     ensures same { ring.new ≡ ring.old }
 {
-    let Some(call) = seat.call else {
+    let Some(call) = scan.call else {
         return Ok(None);
     };
-    let Some(bytes) = seat.got else {
+    let Some(bytes) = scan.got else {
         return Ok(None);
     };
     let Some(number) = read_number(alloc, ring, publics, client, timestamp, bytes)? else {
         return Ok(None);
     };
-    let position = seat.invoked.max(places.position(number));
+    let position = scan.invoked.max(places.position(number));
     let op = call.op.copy_in(alloc)?;
     let answer = answer.copy_in(alloc)?;
     Ok(Some(Placed {

@@ -115,7 +115,7 @@ pub record Voted (c : Configuration) (trace mine : List Entry) (me t : ℕ) (mod
 pub record Asked (c : Configuration) (me : ℕ) (mode : Mode) (call : OpenCall) (later : List Entry) : Type 0 where
   pub bytes : List ℕ
   pub is_sent : HasEntry (Sent me bytes) later
-  pub posted : IsOutgoing c me (Request call.timestamp mode call.op) (range_with_len 0 (replicas c)) bytes
+  pub is_outgoing : IsOutgoing c me (Request call.timestamp mode call.op) (range_with_len 0 (replicas c)) bytes
 
 -- ---- the law
 
@@ -182,7 +182,7 @@ module _ (c : Configuration) (setting : IsConfiguration c) (later start : List E
         go outs is among = record {
           bytes = is.0;
           is_sent = in_trace me (Sent me is.0) later (not_to_come (Sent me is.0) (history_of me later) (among (Sent me is.0) (subst (λ (ys : List Entry). HasEntry (Sent me is.0) ys) (sym is.1) (inl refl))));
-          posted = is.2;
+          is_outgoing = is.2;
         }
 
     -- ---- a replica's reply to the request reaches the client
@@ -190,9 +190,9 @@ module _ (c : Configuration) (setting : IsConfiguration c) (later start : List E
     module _ (mode : Mode) (request : Asked c me mode call later) (r : ℕ) (correct : is_correct_replica c r ≡ true) where
       pub hears_request : Heard c me r (Request call.timestamp mode call.op) request.bytes
       hears_request =
-          sealed_is_authentic c me r (Request call.timestamp mode call.op) request.bytes request.posted.says
+          sealed_is_authentic c me r (Request call.timestamp mode call.op) request.bytes request.is_outgoing.says
           (λ frame is plain.
-          let s = request.posted.is_sealed frame is in
+          let s = request.is_outgoing.is_sealed frame is in
           let small : r < 0 + replicas c = (let l = below r correct in omega arith) in
           (s.0, subst (λ (xs : List ℕ). Has (λ x. x ≡ r) xs) (sym s.1) (in_range 0 (replicas c) r (omega arith) small)))
           refl (and_parts (is_client c me) _ client).0 (apart_from r correct)

@@ -29,7 +29,7 @@ use Rattle.progress.specs.Delivery.{HasEntry, AllDelivered}
 use Rattle.progress.specs.Leaving.{SaysFrom}
 use Rattle.progress.specs.Changing.{NextViewIsReady, NextViewsAreEntered}
 use Rattle.progress.proofs.Answering.{in_history, in_trace}
-use Rattle.progress.proofs.Choosing.{prepared_views_are_begun}
+use Rattle.progress.proofs.Choosing.{prepared_views_begin}
 use Rattle.progress.proofs.Entering.{signed_is_meant, enters}
 use Rattle.progress.proofs.Happened.{At, once_at}
 use Rattle.progress.proofs.Leaving.{signed_by}
@@ -247,7 +247,7 @@ module _ (c : Configuration) (setting : IsConfiguration c) (trace : List Entry) 
 
     -- so it can begin the view
     cannot_be : ⊥
-    cannot_be = go (prepared_views_are_begun c setting trace is_run goes unforged (primary c v) v start root n.from refl (has_left (primary c v) n.from) (is_correct_replica c) (many_correct c setting)
+    cannot_be = go (prepared_views_begin c setting trace is_run goes unforged (primary c v) v start root n.from refl (has_left (primary c v) n.from) (is_correct_replica c) (many_correct c setting)
         (λ s small h. (h, has_it s h)) (λ s w i batch h chosen less above prepared. n.had none s w i batch h less above prepared))
       where
         go : (v ≤ view c (history_of (primary c v) trace)) ⊎ AreKeysSpent (history_of (primary c v) trace) → ⊥

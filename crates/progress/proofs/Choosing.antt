@@ -16,7 +16,7 @@ use Rattle.protocol.specs.System.Trace.{Entry, history_of, Once, Always, Has, Un
 use Rattle.protocol.specs.System.Trace.Entry.{Got, Sent}
 use Rattle.protocol.specs.System.Run.{IsRun}
 use Rattle.protocol.specs.Replica.Selection.{is_within, null_batch, changes_of, may_select}
-use Rattle.protocol.specs.Replica.Certificates.{view, target, is_active_in, is_later, taken, new_view_in, new_view_from, low, is_in_marks, batch_from, batch_begun, begun_proposal, entry_proposal, proposal, first_given, logged, prepare_of, Prepared}
+use Rattle.protocol.specs.Replica.Certificates.{view, target, is_active_in, is_later, taken, new_view_in, new_view_from, low, is_in_marks, batch_from, assigned_batch, assigned_proposal, entry_proposal, proposal, first_given, logged, prepare_of, Prepared}
 use Rattle.protocol.specs.Replica.RightReplica.{Point, MaySendMessage, SentBefore, SafeReplica}
 use Rattle.protocol.specs.Replica.Owed.{IsSending, AreKeysSpent, BringsChange, HasLatestChange, HasBatch}
 use Rattle.protocol.specs.Laws.Bounds.{IsBounded}
@@ -38,7 +38,7 @@ use Rattle.protocol.proofs.Agreement.Signed.{changing}
 use Rattle.protocol.proofs.Agreement.Voting.{RightAt, right_always, voter_logs, primary_votes_not}
 use Rattle.evidence.proofs.SelectedTests.{pairs_of_ascending}
 use Rattle.evidence.proofs.SelectedRules.{new_views_meet_the_rules, changes_are}
-use Rattle.progress.specs.Leaving.{SaysFrom, PreparedViewsAreBegun}
+use Rattle.progress.specs.Leaving.{SaysFrom, PreparedViewsBegin}
 use Rattle.progress.proofs.Committing.{pre_prepare_is}
 use Rattle.progress.proofs.Gathering.{Change, Gathered, gather}
 use Rattle.progress.proofs.Leaving.{Bytes, came_bytes, own_bytes, primaries_begin_views}
@@ -68,33 +68,33 @@ entry_target c me w i b past (Sent p bytes) r h =
 entry_target c me w i b past _ r h = absurd cc
 
 proposal_target : (c : Configuration) (me w i : ℕ) (b : List ℕ) (past : List Entry) (e : Entry) → RightAt c me past e → proposal c me past e w i ≡ Some b → target past ≤ w
-proposal_target c me w i b past e r h = go (or_else_cases (begun_proposal c me past e w i) (entry_proposal c me past e w i) b h)
+proposal_target c me w i b past e r h = go (or_else_cases (assigned_proposal c me past e w i) (entry_proposal c me past e w i) b h)
   where
-    begun : (m : Bool) → cond m (option_and_then (batch_begun w i) (taken c past e)) None ≡ Some b → target past ≤ w
-    begun true k =
-        let t = and_then_some (batch_begun w i) (taken c past e) b k in
+    assigned : (m : Bool) → cond m (option_and_then (assigned_batch w i) (taken c past e)) None ≡ Some b → target past ≤ w
+    assigned true k =
+        let t = and_then_some (assigned_batch w i) (taken c past e) b k in
         let l = taken_target c past e t.0 t.1 in
         let is = (proposes c w i t.0 b t.2).view_is in
         omega arith
-    begun false k = absurd cc
+    assigned false k = absurd cc
 
-    go : (begun_proposal c me past e w i ≡ Some b) ⊎ (entry_proposal c me past e w i ≡ Some b) → target past ≤ w
-    go (inl k) = begun (is_in_marks c (low c me (e ∷ past)) i) k
+    go : (assigned_proposal c me past e w i ≡ Some b) ⊎ (entry_proposal c me past e w i ≡ Some b) → target past ≤ w
+    go (inl k) = assigned (is_in_marks c (low c me (e ∷ past)) i) k
     go (inr k) = entry_target c me w i b past e r k
 
 -- an entry that sends a view change proposes nothing
 change_proposes : (c : Configuration) (s w i : ℕ) (b : List ℕ) (vc : ViewChangeData) (past : List Entry) (e : Entry) → Speaks (changing s vc) past e → proposal c s past e w i ≡ Some b → ⊥
-change_proposes c s w i b vc past (Sent p bytes) says h = go (or_else_cases (begun_proposal c s past (Sent p bytes) w i) (entry_proposal c s past (Sent p bytes) w i) b h)
+change_proposes c s w i b vc past (Sent p bytes) says h = go (or_else_cases (assigned_proposal c s past (Sent p bytes) w i) (entry_proposal c s past (Sent p bytes) w i) b h)
   where
-    begun : (m : Bool) → cond m (option_and_then (batch_begun w i) (taken c past (Sent p bytes))) None ≡ Some b → ⊥
-    begun true k =
-        let t = and_then_some (batch_begun w i) (taken c past (Sent p bytes)) b k in
+    assigned : (m : Bool) → cond m (option_and_then (assigned_batch w i) (taken c past (Sent p bytes))) None ≡ Some b → ⊥
+    assigned true k =
+        let t = and_then_some (assigned_batch w i) (taken c past (Sent p bytes)) b k in
         let bad : None ≡ Some t.0 = sym (ap (option_and_then (new_view_from c)) says) ∙ (takes c 0 past (Sent p bytes) t.0 t.1).brought in
         cc
-    begun false k = cc
+    assigned false k = cc
 
-    go : (begun_proposal c s past (Sent p bytes) w i ≡ Some b) ⊎ (entry_proposal c s past (Sent p bytes) w i ≡ Some b) → ⊥
-    go (inl k) = begun (is_in_marks c (low c s (Sent p bytes ∷ past)) i) k
+    go : (assigned_proposal c s past (Sent p bytes) w i ≡ Some b) ⊎ (entry_proposal c s past (Sent p bytes) w i ≡ Some b) → ⊥
+    go (inl k) = assigned (is_in_marks c (low c s (Sent p bytes ∷ past)) i) k
     go (inr k) =
         let t = (entry_batch c s w i b past (Sent p bytes) k).1 in
         let same : changing s vc ≡ t.0 = some_injective (changing s vc) t.0 (sym says ∙ t.1) in
@@ -679,8 +679,8 @@ module _ (c : Configuration) (setting : IsConfiguration c) (trace : List Entry) 
           let e = long_enough in
           inr (subst (λ (n : ℕ). SomePrepared g.set n) (sym long_enough) h, (let r : length filled.batches ≤ 2 * c.period = omega arith in r))
 
-pub prepared_views_are_begun : PreparedViewsAreBegun
-prepared_views_are_begun c setting trace is_run goes unforged p v start root correct own left from enough says has =
+pub prepared_views_begin : PreparedViewsBegin
+prepared_views_begin c setting trace is_run goes unforged p v start root correct own left from enough says has =
     subst (λ (n : ℕ). (n ≤ view c (history_of p trace)) ⊎ AreKeysSpent (history_of p trace)) (made_view c setting trace is_run unforged p v start root correct from enough says has)
     (primaries_begin_views c trace goes p (made c setting trace is_run unforged p v start root correct from enough says has) correct
     (ap (primary c) (made_view c setting trace is_run unforged p v start root correct from enough says has) ∙ own)

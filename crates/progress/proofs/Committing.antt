@@ -16,7 +16,7 @@ use Rattle.protocol.specs.System.Configuration.{Configuration, IsConfiguration, 
 use Rattle.protocol.specs.System.Trace.{Entry, party_of, history_of, Once, Unforged}
 use Rattle.protocol.specs.System.Trace.Entry.{Got, Sent}
 use Rattle.protocol.specs.System.Run.{OnlyTheseStopped}
-use Rattle.protocol.specs.Replica.Certificates.{is_active_in, low, is_in_marks, are_genuine, brought, counts_at, batch_from, begun_proposal, entry_proposal, proposal, logged, first_given, prepare_from, commit_from, vote_in, prepare_of, commit_of, Prepared, Committed}
+use Rattle.protocol.specs.Replica.Certificates.{is_active_in, low, is_in_marks, are_genuine, brought, counts_at, batch_from, assigned_proposal, entry_proposal, proposal, logged, first_given, prepare_from, commit_from, vote_in, prepare_of, commit_of, Prepared, Committed}
 use Rattle.protocol.specs.Replica.RightReplica.{Point, HistoryReaches, MaySend, MaySendMessage, IsFor, others}
 use Rattle.protocol.specs.Replica.Owed.{HistoryIsPrompt, SendsMessage}
 use Rattle.protocol.specs.Laws.Histories.{AreReplicasSafe}
@@ -237,7 +237,7 @@ module _ (c : Configuration) (setting : IsConfiguration c) (trace : List Entry) 
     unfolding logged
     logs h =
         some_given (λ earlier e. proposal c s earlier e v i) (whole s)
-        (happens (λ past e. (y : List ℕ) × (proposal c s past e v i ≡ Some y)) (either (begun_proposal c s x.past x.entry v i)))
+        (happens (λ past e. (y : List ℕ) × (proposal c s past e v i ≡ Some y)) (either (assigned_proposal c s x.past x.entry v i)))
       where
         entry : entry_proposal c s x.past x.entry v i ≡ Some batch
         entry = ap (λ (b : Bool). cond b (option_and_then (batch_from c s v i) (brought c x.entry)) None) x.counts ∙ ap (option_and_then (batch_from c s v i)) x.brings ∙ h

@@ -14,7 +14,7 @@ use Rattle.protocol.specs.System.Trace.{Entry, party_of, history_of, Once, Sends
 use Rattle.protocol.specs.System.Trace.Entry.{Got, Tick, Installed, Sent, Accepted}
 use Rattle.protocol.specs.System.Texts.{NoCollision}
 use Rattle.protocol.specs.System.Run.{IsRun, OnlyTheseStopped}
-use Rattle.protocol.specs.Replica.Certificates.{view, taken, low, is_in_marks, batch_begun, begun_proposal, entry_proposal, proposal, brought, first_given, logged, Committed}
+use Rattle.protocol.specs.Replica.Certificates.{view, taken, low, is_in_marks, assigned_batch, assigned_proposal, entry_proposal, proposal, brought, first_given, logged, Committed}
 use Rattle.protocol.specs.Replica.State.{State, opening, last_time}
 use Rattle.protocol.specs.Replica.RightReplica.{Point, HistoryReaches, IsStep, IsFree, MaySendMessage, MayPrePrepare}
 use Rattle.protocol.specs.Replica.Owed.{BeginsViewWith, IsOfView, IsNumbered}
@@ -54,9 +54,9 @@ giving c i batch = record { sender = primary c 0; message = PrePrepare 0 i batch
 -- ---- the primary sent each batch that is proposed in the first view
 
 -- no new view that is taken is for it
-none_begins : (c : Configuration) (me i : ℕ) (batch : List ℕ) (past : List Entry) (e : Entry) (b : Bool) → cond b (option_and_then (batch_begun 0 i) (taken c past e)) None ≡ Some batch → ⊥
+none_begins : (c : Configuration) (me i : ℕ) (batch : List ℕ) (past : List Entry) (e : Entry) (b : Bool) → cond b (option_and_then (assigned_batch 0 i) (taken c past e)) None ≡ Some batch → ⊥
 none_begins c me i batch past e true h =
-    let t = and_then_some (batch_begun 0 i) (taken c past e) batch h in
+    let t = and_then_some (assigned_batch 0 i) (taken c past e) batch h in
     let above = (takes c me past e t.0 t.1).above in
     let first = (proposes c 0 i t.0 batch t.2).view_is in
     omega arith
@@ -71,14 +71,14 @@ gave : (c : Configuration) (i : ℕ) (batch : List ℕ) (e : Entry) (past : List
     → Gave c i batch e past leaves.0
 gave c i batch e past point leaves h = go e leaves.2 brings
   where
-    by_entry : (begun_proposal c (primary c 0) past e 0 i ≡ Some batch) ⊎ (entry_proposal c (primary c 0) past e 0 i ≡ Some batch) → entry_proposal c (primary c 0) past e 0 i ≡ Some batch
+    by_entry : (assigned_proposal c (primary c 0) past e 0 i ≡ Some batch) ⊎ (entry_proposal c (primary c 0) past e 0 i ≡ Some batch) → entry_proposal c (primary c 0) past e 0 i ≡ Some batch
     by_entry (inl k) = absurd (none_begins c (primary c 0) i batch past e (is_in_marks c (low c (primary c 0) (e ∷ past)) i) k)
     by_entry (inr k) = k
 
     brings : brought c e ≡ Some (giving c i batch)
     brings =
         let b = (entry_batch c (primary c 0) 0 i batch past e
-        (by_entry (or_else_cases (begun_proposal c (primary c 0) past e 0 i) (entry_proposal c (primary c 0) past e 0 i) batch h))).1 in
+        (by_entry (or_else_cases (assigned_proposal c (primary c 0) past e 0 i) (entry_proposal c (primary c 0) past e 0 i) batch h))).1 in
         b.1 ∙ ap Some (pre_prepare_is c (primary c 0) 0 i batch b.0.sender b.0.message b.2).0
 
     go : (e : Entry) → IsStep c (primary c 0) past leaves.0 e point → brought c e ≡ Some (giving c i batch) → Gave c i batch e past leaves.0

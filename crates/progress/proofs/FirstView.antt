@@ -1,5 +1,5 @@
 -- In the first view a low mark is never above the executed number, so a number that left the marks was executed.
-use Rattle.std.proofs.Common.{◌≡◌, ℕ, suc, ◌+◌, ◌≤◌, ◌<◌, ◌⊎◌, inl, inr, Bool, true, false, cond, List, [], ◌∷◌, ◌++◌, take, Option, Some, None, refl, sym, ap, ◌∙◌, subst, arith, ◌&&◌, eqb-true, eq-eqb, bytes_eq}
+use Rattle.std.proofs.Common.{◌≡◌, ℕ, ◌+◌, ◌≤◌, ◌<◌, ◌⊎◌, inl, inr, Bool, true, false, cond, List, [], ◌∷◌, ◌++◌, take, Option, Some, None, refl, sym, ap, ◌∙◌, subst, arith, ◌&&◌, eqb-true, eq-eqb, bytes_eq}
 use Rattle.std.specs.Prelude.{◌==◌, nat_lt, nat_le}
 use Rattle.std.specs.Option.{option_map_or}
 use Rattle.std.proofs.lemmas.Bool.{and_parts, and_from, ltb-true, ltb-false, leb-true, leb-false, lt-ltb, le-leb}
@@ -213,8 +213,8 @@ module _ (c : Configuration) (setting : IsConfiguration c) (later start : List E
     is_first = (active_parts c (whole q) 0 (active q correct)).0
 
   module _ (i : ℕ) (given : IsGivenFirst c i later start) (positive : 1 ≤ i) where
-    begun : logged c (primary c 0) (whole (primary c 0)) 0 i ≡ Some given.batch
-    begun = begins c setting later start is_run goes unforged 0 from stays all i given.batch given.says
+    assigned : logged c (primary c 0) (whole (primary c 0)) 0 i ≡ Some given.batch
+    assigned = begins c setting later start is_run goes unforged 0 from stays all i given.batch given.says
 
     -- a number that left the marks is committed
     left : (q : ℕ) (correct : is_correct_replica c q ≡ true) → i ≤ low c q (whole q) → Committed c q (whole q) 0 i given.batch
@@ -227,7 +227,7 @@ module _ (c : Configuration) (setting : IsConfiguration c) (later start : List E
         let f = is_first q correct in
         let here : Committed c q (whole q) 0 i k.1 = subst (λ (u : ℕ). Committed c q (whole q) u i k.1) (omega arith) k.2 in
         let one = logged_was_offered c trace q 0 i k.1 (λ p h. is_replica_right c p (history_of p trace) (is_run.replicas p h)) unforged correct from here.prepared.logged in
-        let two = logged_was_offered c trace (primary c 0) 0 i given.batch (λ p h. is_replica_right c p (history_of p trace) (is_run.replicas p h)) unforged from from begun in
+        let two = logged_was_offered c trace (primary c 0) 0 i given.batch (λ p h. is_replica_right c p (history_of p trace) (is_run.replicas p h)) unforged from from assigned in
         subst (λ (b : List ℕ). Committed c q (whole q) 0 i b) (some_injective k.1 given.batch (sym one ∙ two)) here
       where
         none_here : (r n : ℕ) (root : List ℕ) → HasEntry (Installed r n root) (whole q) → ⊥

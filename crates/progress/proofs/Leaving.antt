@@ -21,7 +21,7 @@ use Rattle.protocol.proofs.Words.Reacting.{one_of, proceeds_leaves, is_replica_r
 use Rattle.protocol.proofs.Words.Elements.{each_weaker}
 use Rattle.protocol.proofs.Agreement.Signed.{changing}
 use Rattle.protocol.proofs.Agreement.States.{history_append}
-use Rattle.progress.specs.Leaving.{WaitingReplicasLeave, PrimariesBeginViews, UnpreparedViewsAreBegun}
+use Rattle.progress.specs.Leaving.{WaitingReplicasLeave, PrimariesBeginViews, UnpreparedViewsBegin}
 use Rattle.progress.proofs.Flipping.{next_output}
 use Rattle.progress.proofs.Receiving.{Spelled, spelled_as}
 use Rattle.progress.proofs.Listing.{view_changes_exist}
@@ -136,12 +136,12 @@ waiting_replicas_leave c setting r later start run goes unforged correct small w
 none_there : (c : Configuration) (me : ℕ) (new : NewViewData) → CanBeginView c me [] new → ⊥
 none_there c me new can = let l = can.left in absurd (omega arith)
 
-pub all_begun : (c : Configuration) (me : ℕ) (made : NewViewData) (xs outputs : List Entry) (new point : Point) → HistoryIsPrompt c me xs outputs new point → CanBeginView c me (reverse outputs ++ xs) made → AreKeysSpent (reverse outputs ++ xs)
-all_begun c me made [] outputs new point h can = absurd (none_there c me made (subst (λ (o : List Entry). CanBeginView c me (reverse o ++ []) made) h.1 can))
-all_begun c me made (e ∷ past) outputs new point h can =
+pub all_assigned : (c : Configuration) (me : ℕ) (made : NewViewData) (xs outputs : List Entry) (new point : Point) → HistoryIsPrompt c me xs outputs new point → CanBeginView c me (reverse outputs ++ xs) made → AreKeysSpent (reverse outputs ++ xs)
+all_assigned c me made [] outputs new point h can = absurd (none_there c me made (subst (λ (o : List Entry). CanBeginView c me (reverse o ++ []) made) h.1 can))
+all_assigned c me made (e ∷ past) outputs new point h can =
     one_of (is_output e) (HistoryIsPrompt c me past (e ∷ outputs) new h.0) (Owes c me past e outputs (reverse outputs ++ e ∷ past) h.0 new × HistoryIsPrompt c me past [] h.0 h.0)
     (AreKeysSpent (reverse outputs ++ e ∷ past)) h.2
-    (λ p. subst AreKeysSpent (sym (next_output outputs past e)) (all_begun c me made past (e ∷ outputs) new h.0 p (subst (λ (xs : List Entry). CanBeginView c me xs made) (next_output outputs past e) can)))
+    (λ p. subst AreKeysSpent (sym (next_output outputs past e)) (all_assigned c me made past (e ∷ outputs) new h.0 p (subst (λ (xs : List Entry). CanBeginView c me xs made) (next_output outputs past e) can)))
     (λ p. p.0.new_views made can)
 
 pub primaries_begin_views : PrimariesBeginViews
@@ -151,7 +151,7 @@ primaries_begin_views c trace goes p new correct own left selected changes batch
     go true e = inl (leb-true new.view (view c (history_of p trace)) e)
     go false e =
         let l = leb-false new.view (view c (history_of p trace)) e in
-        inr (all_begun c p new (history_of p trace) [] (goes.replicas p correct refl).0 (goes.replicas p correct refl).0 (goes.replicas p correct refl).1
+        inr (all_assigned c p new (history_of p trace) [] (goes.replicas p correct refl).0 (goes.replicas p correct refl).0 (goes.replicas p correct refl).1
         (record { left = (omega arith); view = sym left; primary = own; selected = selected; changes = changes; batches = batches }))
 
 -- ---- a frame of a view change
@@ -217,8 +217,8 @@ own_bytes c me vc (_ ∷ past) point known leaves (inl h) = absurd h
 abbrev Latest : Configuration → ℕ → List Entry → ℕ → ℕ → List ℕ → ℕ × ViewChangeData → Type 0
 Latest c p past v start root x = HasLatestChange c p past x × IsBare c v start root x
 
-pub unprepared_views_are_begun : UnpreparedViewsAreBegun
-unprepared_views_are_begun c trace run goes p v start root correct own left from enough says =
+pub unprepared_views_begin : UnpreparedViewsBegin
+unprepared_views_begin c trace run goes p v start root correct own left from enough says =
     primaries_begin_views c trace goes p (bare_view v start root g.frames) correct is_own is_left (bare_is_selected c v start root (Latest c p (history_of p trace) v start root) (λ x h. h.1) from enough g) changes none
   where
     right : SafeReplica c p (history_of p trace)

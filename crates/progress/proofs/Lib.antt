@@ -31,7 +31,7 @@ pub mod Silence
 pub mod SilentView
 pub mod Choosing
 pub mod Changing
-pub mod Begun
+pub mod Assigned
 pub mod NextView
 pub mod Faults
 pub mod SecondView

@@ -27,7 +27,7 @@ use Rattle.progress.specs.Delivery.{HasEntry, AllDelivered}
 use Rattle.progress.specs.Answered.{KeepsReply}
 use Rattle.progress.specs.Redelivered.{AllRedelivered, StaysActive, IsGiven}
 use Rattle.progress.specs.Waiting.{StandsAtPrimary}
-use Rattle.progress.specs.Begun.{ViewIsBegun}
+use Rattle.progress.specs.Assigned.{NumberIsAssigned}
 use Rattle.progress.specs.NextView.{BatchHasNumber, ViewGoesOn, CallsOutliveChanges}
 use Rattle.progress.proofs.Replies.{run_of}
 use Rattle.progress.proofs.Keeping.{by_at, by_grows, keeps_reply}
@@ -35,7 +35,7 @@ use Rattle.progress.proofs.Answering.{executed_calls_are_accepted}
 use Rattle.progress.proofs.Redelivering.{committed}
 use Rattle.progress.proofs.Normal.{answered, in_either}
 use Rattle.progress.proofs.Numbering.{open_calls_are_numbered}
-use Rattle.progress.proofs.Begun.{begun_is_committed, begun_numbers_are_executed}
+use Rattle.progress.proofs.Assigned.{assigned_is_committed, assigned_numbers_are_executed}
 use Rattle.progress.proofs.Changing.{next_is_entered}
 
 module _ (c : Configuration) (setting : IsConfiguration c) (later start : List Entry) (is_run : IsRun c (later ++ start)) (goes : OnlyTheseStopped c [] (later ++ start))
@@ -44,10 +44,10 @@ module _ (c : Configuration) (setting : IsConfiguration c) (later start : List E
   trace = later ++ start
 
   -- the new view or the primary assigned each number that the primary logged
-  either : (i : ℕ) → is_some (logged c (primary c v) (history_of (primary c v) (later ++ start)) v i) ≡ true → ViewIsBegun c v i later start ⊎ IsGiven c v i later start
+  either : (i : ℕ) → is_some (logged c (primary c v) (history_of (primary c v) (later ++ start)) v i) ≡ true → NumberIsAssigned c v i later start ⊎ IsGiven c v i later start
   either i h = go (f.numbers i (has_value (logged c (primary c v) (history_of (primary c v) (later ++ start)) v i) h).0 (has_value (logged c (primary c v) (history_of (primary c v) (later ++ start)) v i) h).1).1
     where
-      go : BatchHasNumber c v i (has_value (logged c (primary c v) (history_of (primary c v) (later ++ start)) v i) h).0 later start → ViewIsBegun c v i later start ⊎ IsGiven c v i later start
+      go : BatchHasNumber c v i (has_value (logged c (primary c v) (history_of (primary c v) (later ++ start)) v i) h).0 later start → NumberIsAssigned c v i later start ⊎ IsGiven c v i later start
       go (inl x) = inl x.0
       go (inr x) = inr x.0
 
@@ -55,7 +55,7 @@ module _ (c : Configuration) (setting : IsConfiguration c) (later start : List E
   reach : (m : ℕ) → (m ≤ reached (later ++ start) (primary c v)) ⊎ (is_some (logged c (primary c v) (history_of (primary c v) (later ++ start)) v m) ≡ true) → (r : ℕ) → is_correct_replica c r ≡ true
       → m ≤ reached (later ++ start) r
   reach m some r correct =
-      begun_numbers_are_executed c setting later start is_run goes unforged v m f.from stays all r correct (λ j above most. either j (f.all r m j correct above most some))
+      assigned_numbers_are_executed c setting later start is_run goes unforged v m f.from stays all r correct (λ j above most. either j (f.all r m j correct above most some))
 
   pub all_reach : (i : ℕ) (b : List ℕ) → logged c (primary c v) (history_of (primary c v) (later ++ start)) v i ≡ Some b → (r : ℕ) → is_correct_replica c r ≡ true → i ≤ reached (later ++ start) r
   all_reach i b h r correct = reach i (inr (ap is_some h)) r correct
@@ -68,7 +68,7 @@ module _ (c : Configuration) (setting : IsConfiguration c) (later start : List E
     where
       go : BatchHasNumber c v i b later start → Committed c (primary c v) (history_of (primary c v) (later ++ start)) v i b
       go (inl x) = subst (λ (y : List ℕ). Committed c (primary c v) (history_of (primary c v) (later ++ start)) v i y) x.1
-          (begun_is_committed c setting later start is_run goes unforged v f.from stays all i x.0 (primary c v) f.from)
+          (assigned_is_committed c setting later start is_run goes unforged v f.from stays all i x.0 (primary c v) f.from)
       go (inr x) = subst (λ (y : List ℕ). Committed c (primary c v) (history_of (primary c v) (later ++ start)) v i y) x.1
           (committed c setting later start is_run goes unforged v f.from stays all i x.0 (primary c v) f.from)
 
@@ -150,7 +150,7 @@ module _ (c : Configuration) (setting : IsConfiguration c) (again later start : 
 
       go : IsOfView c (primary c v) (history_of (primary c v) middle) v n.0 → (answer : Outcome) × HasEntry (Accepted k call.timestamp answer) again
       go (inl h) = by h.0 h.1
-      go (inr h) = let x = f.begun n.0 h in by x.0 x.1
+      go (inr h) = let x = f.begins n.0 h in by x.0 x.1
 
   accepts : StandsAtPrimary c v k call.timestamp middle → (answer : Outcome) × HasEntry (Accepted k call.timestamp answer) again
   accepts (inl kept) = when_kept kept

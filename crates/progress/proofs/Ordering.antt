@@ -8,7 +8,7 @@ use Rattle.protocol.specs.System.Configuration.{Configuration, IsConfiguration, 
 use Rattle.protocol.specs.System.Trace.{Entry, party_of, history_of, Unforged}
 use Rattle.protocol.specs.System.Trace.Entry.{Invoke, Got, Sent}
 use Rattle.protocol.specs.System.Run.{IsRun, OnlyTheseStopped}
-use Rattle.protocol.specs.Replica.Certificates.{view, taken, is_active_in, low, is_in_marks, are_genuine, brought, batch_begun, begun_proposal, entry_proposal, proposal, logged, first_given, Committed}
+use Rattle.protocol.specs.Replica.Certificates.{view, taken, is_active_in, low, is_in_marks, are_genuine, brought, assigned_batch, assigned_proposal, entry_proposal, proposal, logged, first_given, Committed}
 use Rattle.protocol.specs.Replica.RightReplica.{Point, HistoryReaches, MaySend, MaySendMessage}
 use Rattle.protocol.specs.Replica.Owed.{HistoryIsPrompt}
 use Rattle.protocol.specs.Space.Linear.{reached}
@@ -151,23 +151,23 @@ module _ (c : Configuration) (setting : IsConfiguration c) (later start : List E
 
   -- it comes of a pre-prepare, since no new view is taken
   by_pre_prepare : entry_proposal c p0 (since.middle ++ first p0) since.entry v i ≡ Some batch
-  by_pre_prepare = go (or_else_cases (begun_proposal c p0 (since.middle ++ first p0) since.entry v i) (entry_proposal c p0 (since.middle ++ first p0) since.entry v i) batch since.gives)
+  by_pre_prepare = go (or_else_cases (assigned_proposal c p0 (since.middle ++ first p0) since.entry v i) (entry_proposal c p0 (since.middle ++ first p0) since.entry v i) batch since.gives)
     where
       active : is_active_in c (since.middle ++ first p0) v ≡ true
       active = active_at p0 from (since.newer ++ since.entry ∷ []) since.middle since_whole
 
-      begun : (b : Bool) → cond b (option_and_then (batch_begun v i) (taken c (since.middle ++ first p0) since.entry)) None ≡ Some batch → ⊥
-      begun true h =
-          let t = and_then_some (batch_begun v i) (taken c (since.middle ++ first p0) since.entry) batch h in
+      assigned : (b : Bool) → cond b (option_and_then (assigned_batch v i) (taken c (since.middle ++ first p0) since.entry)) None ≡ Some batch → ⊥
+      assigned true h =
+          let t = and_then_some (assigned_batch v i) (taken c (since.middle ++ first p0) since.entry) batch h in
           let above = (takes c p0 (since.middle ++ first p0) since.entry t.0 t.1).above in
           let of = (proposes c v i t.0 batch t.2).view_is in
           let at = (eqb-true (view c (since.middle ++ first p0)) v (and_parts (view c (since.middle ++ first p0) == v) _ active).0) in
           omega arith
-      begun false h = cc
+      assigned false h = cc
 
-      go : (begun_proposal c p0 (since.middle ++ first p0) since.entry v i ≡ Some batch) ⊎ (entry_proposal c p0 (since.middle ++ first p0) since.entry v i ≡ Some batch)
+      go : (assigned_proposal c p0 (since.middle ++ first p0) since.entry v i ≡ Some batch) ⊎ (entry_proposal c p0 (since.middle ++ first p0) since.entry v i ≡ Some batch)
           → entry_proposal c p0 (since.middle ++ first p0) since.entry v i ≡ Some batch
-      go (inl h) = absurd (begun (is_in_marks c (low c p0 (since.entry ∷ (since.middle ++ first p0))) i) h)
+      go (inl h) = absurd (assigned (is_in_marks c (low c p0 (since.entry ∷ (since.middle ++ first p0))) i) h)
       go (inr h) = h
 
   -- the body that the entry brings

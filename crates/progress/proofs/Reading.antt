@@ -1,5 +1,5 @@
 -- A read is accepted if 2f + 1 correct replicas stay at one number: each answers from the state of that number.
-use Rattle.std.proofs.Common.{◌≡◌, ℕ, suc, ◌+◌, ◌-◌, ◌*◌, ◌≤◌, ◌⊎◌, inl, inr, Bool, true, cond, List, [], ◌∷◌, ◌++◌, Some, refl, sym, ap, ◌∙◌, subst, arith, append_assoc, eq-eqb}
+use Rattle.std.proofs.Common.{◌≡◌, ℕ, ◌+◌, ◌-◌, ◌*◌, ◌≤◌, ◌⊎◌, inl, inr, Bool, true, cond, List, [], ◌∷◌, ◌++◌, Some, refl, sym, ap, ◌∙◌, subst, arith, append_assoc, eq-eqb}
 use Rattle.quorum.specs.Quorum.{count_below}
 use Rattle.tuple_codec.specs.Operations.{Operation, Outcome}
 use Rattle.space.specs.Applying.{is_read_only, outcome}
@@ -58,23 +58,23 @@ module _ (c : Configuration) (setting : IsConfiguration c) (k t n : ℕ) (op : O
   abbrev call : OpenCall
   call = record { timestamp = t; op = op }
 
-  abbrev begun : List Entry
-  begun = Invoke k t op ∷ start
+  abbrev invoked : List Entry
+  invoked = Invoke k t op ∷ start
 
   abbrev trace : List Entry
-  trace = later ++ begun
+  trace = later ++ invoked
 
   run : Run c trace
   run = run_of c setting trace is_run unforged apart
 
-  begins : history_of me begun ≡ Invoke k t op ∷ history_of me start
+  begins : history_of me invoked ≡ Invoke k t op ∷ history_of me start
   begins = ap (λ (b : Bool). cond b (Invoke k t op ∷ history_of me start) (history_of me start)) (eq-eqb me me refl)
 
-  opened : open_call (history_of me begun) ≡ Some call
+  opened : open_call (history_of me invoked) ≡ Some call
   opened = ap open_call begins
 
   is_mine : history_of me trace ≡ history_of me later ++ Invoke k t op ∷ history_of me start
-  is_mine = history_append me later begun ∙ ap (λ (xs : List Entry). history_of me later ++ xs) begins
+  is_mine = history_append me later invoked ∙ ap (λ (xs : List Entry). history_of me later ++ xs) begins
 
   safe : SafeClient c me (history_of me later ++ Invoke k t op ∷ history_of me start)
   safe = subst (SafeClient c me) is_mine (run.runs.clients me client)
@@ -108,12 +108,12 @@ module _ (c : Configuration) (setting : IsConfiguration c) (k t n : ℕ) (op : O
       go outs is among = record {
         bytes = is.0;
         is_sent = there is.0 (among (Sent me is.0) (subst (λ (ys : List Entry). HasEntry (Sent me is.0) ys) (sym is.1) (inl refl)));
-        posted = is.2;
+        is_outgoing = is.2;
       }
 
   -- ---- a replica that stays at the number
 
-  module _ (r : ℕ) (correct : is_correct_replica c r ≡ true) (stays : StaysAt n later begun r) (number : ℕ) (answer : Outcome)
+  module _ (r : ℕ) (correct : is_correct_replica c r ≡ true) (stays : StaysAt n later invoked r) (number : ℕ) (answer : Outcome)
       (says : Once (Speaks (replying r me t modes.ReadOnly number answer)) (history_of r trace)) where
     it : Replied c trace r me t modes.ReadOnly number answer
     it = replied c trace r me t modes.ReadOnly number answer run correct says
@@ -122,10 +122,10 @@ module _ (c : Configuration) (setting : IsConfiguration c) (k t n : ℕ) (op : O
     may = it.may
 
     -- it received the request after the invocation
-    not_heard : Once (Receives c r (asking me t modes.ReadOnly may.op)) (history_of r begun) → ⊥
+    not_heard : Once (Receives c r (asking me t modes.ReadOnly may.op)) (history_of r invoked) → ⊥
     not_heard h =
-        let part = run_part c later begun run in
-        let said' = heard_was_said c begun r (asking me t modes.ReadOnly may.op) part.runs.unforged (correct_replica c r correct) (correct_client c me client) h in
+        let part = run_part c later invoked run in
+        let said' = heard_was_said c invoked r (asking me t modes.ReadOnly may.op) part.runs.unforged (correct_replica c r correct) (correct_client c me client) h in
         go (subst (λ (xs : List Entry). Once (Speaks (asking me t modes.ReadOnly may.op)) xs) begins said')
       where
         go : Once (Speaks (asking me t modes.ReadOnly may.op)) (Invoke k t op ∷ history_of me start) → ⊥
@@ -136,16 +136,16 @@ module _ (c : Configuration) (setting : IsConfiguration c) (k t n : ℕ) (op : O
             omega arith
 
     at_number : number ≡ n
-    at_number = go (ends_of it.later it.entry it.past (history_of r later) (history_of r begun) (sym it.is ∙ history_append r later begun))
+    at_number = go (ends_of it.later it.entry it.past (history_of r later) (history_of r invoked) (sym it.is ∙ history_append r later invoked))
       where
-        go : Ends it.entry it.past (history_of r begun) → number ≡ n
+        go : Ends it.entry it.past (history_of r invoked) → number ≡ n
         go (behind middle is) =
             let a = number_reached c r it.past it.point it.leaves in
             let b = may.number_is in
-            let low : reached (history_of r begun) r ≤ reached it.past r = subst (λ (xs : List Entry). reached (history_of r begun) r ≤ reached xs r) (sym is) (later_reached r middle (history_of r begun)) in
+            let low : reached (history_of r invoked) r ≤ reached it.past r = subst (λ (xs : List Entry). reached (history_of r invoked) r ≤ reached xs r) (sym is) (later_reached r middle (history_of r invoked)) in
             let high : reached (it.entry ∷ it.past) r ≤ reached (history_of r trace) r = subst (λ (xs : List Entry). reached (it.entry ∷ it.past) r ≤ reached xs r) (sym it.is) (later_reached r it.later (it.entry ∷ it.past)) in
             let step = reached_grows it.entry it.past r in
-            let first = reached_history r begun in
+            let first = reached_history r invoked in
             let last = reached_history r trace in
             let x = stays.0 in
             let y = stays.1 in
@@ -164,16 +164,16 @@ module _ (c : Configuration) (setting : IsConfiguration c) (k t n : ℕ) (op : O
         s.answer_is ∙ ap (λ (m : ℕ). outcome (tuples (state_by c trace opening 1 m)) (me - 256) s.op) at_number ∙ ap (outcome (tuples (state_by c trace opening 1 n)) (me - 256)) same
 
   contradiction : (Accepting k t (history_of me later) → ⊥) → (answers : ℕ → Bool) → 2 * c.faults + 1 ≤ count_below answers (replicas c)
-      → ((r : ℕ) → answers r ≡ true → (is_correct_replica c r ≡ true) × StaysAt n later begun r) → ⊥
+      → ((r : ℕ) → answers r ≡ true → (is_correct_replica c r ≡ true) × StaysAt n later invoked r) → ⊥
   contradiction none answers enough each =
-      not_all_alike c setting later begun is_run goes unforged apart k call client opened all none modes.ReadOnly n (outcome (tuples (state_by c trace opening 1 n)) (me - 256) op) answers enough by same
+      not_all_alike c setting later invoked is_run goes unforged apart k call client opened all none modes.ReadOnly n (outcome (tuples (state_by c trace opening 1 n)) (me - 256) op) answers enough by same
     where
-      by : (r : ℕ) → answers r ≡ true → Voted c trace (history_of me later ++ history_of me begun) me t modes.ReadOnly r
+      by : (r : ℕ) → answers r ≡ true → Voted c trace (history_of me later ++ history_of me invoked) me t modes.ReadOnly r
       by r h =
           let correct = (each r h).0 in
-          let e = event c setting later begun is_run goes unforged apart k call client opened all none modes.ReadOnly asked r correct in
-          voted c setting later begun is_run goes unforged apart k call client opened all none modes.ReadOnly asked r correct e.old.state.number (outcome (tuples e.old.state) (me - 256) op)
-          (e.owes.reads me t op (hears_request c setting later begun is_run goes unforged apart k call client opened all none modes.ReadOnly asked r correct).receives is_read)
+          let e = event c setting later invoked is_run goes unforged apart k call client opened all none modes.ReadOnly asked r correct in
+          voted c setting later invoked is_run goes unforged apart k call client opened all none modes.ReadOnly asked r correct e.old.state.number (outcome (tuples e.old.state) (me - 256) op)
+          (e.owes.reads me t op (hears_request c setting later invoked is_run goes unforged apart k call client opened all none modes.ReadOnly asked r correct).receives is_read)
 
       same : (r : ℕ) (h : answers r ≡ true) → ((by r h).vote.number ≡ n) × ((by r h).vote.answer ≡ outcome (tuples (state_by c trace opening 1 n)) (me - 256) op)
       same r h =

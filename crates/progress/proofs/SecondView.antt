@@ -17,7 +17,7 @@ use Rattle.protocol.specs.System.Trace.Entry.{Invoke, Got, Tick, Executed, Insta
 use Rattle.protocol.specs.System.Texts.{NoCollision}
 use Rattle.protocol.specs.System.Run.{IsRun, OnlyTheseStopped}
 use Rattle.protocol.specs.Replica.Selection.{changes_of, passes_by, change_by, count_in, is_quorum, is_weak_quorum}
-use Rattle.protocol.specs.Replica.Certificates.{view, target, taken, is_active_in, low, is_in_marks, batch_begun, begun_proposal, entry_proposal, proposal, brought, first_given, logged, Committed}
+use Rattle.protocol.specs.Replica.Certificates.{view, target, taken, is_active_in, low, is_in_marks, assigned_batch, assigned_proposal, entry_proposal, proposal, brought, first_given, logged, Committed}
 use Rattle.protocol.specs.Replica.State.{State, Call, opening, last_time}
 use Rattle.protocol.specs.Replica.RightReplica.{Point, HistoryReaches, IsStep, IsFree, May, MovesPoint, MaySendMessage, MayPrePrepare, SendsBytes, SentBefore, checkpoint_of, kept_states}
 use Rattle.protocol.specs.Replica.Owed.{BeginsViewWith, IsOfView, IsNumbered, AreKeysSpent}
@@ -241,23 +241,23 @@ module _ (c : Configuration) (setting : IsConfiguration c) (later start : List E
       → proposal c (primary c 1) past e 1 i ≡ Some batch → Gave i batch e past leaves.0
   gave i batch newer e past splits point leaves h = go e leaves.2 brings
     where
-      none_begins : (b : Bool) → cond b (option_and_then (batch_begun 1 i) (taken c past e)) None ≡ Some batch → ⊥
+      none_begins : (b : Bool) → cond b (option_and_then (assigned_batch 1 i) (taken c past e)) None ≡ Some batch → ⊥
       none_begins true h =
-          let t = and_then_some (batch_begun 1 i) (taken c past e) batch h in
+          let t = and_then_some (assigned_batch 1 i) (taken c past e) batch h in
           let within = (proposes c 1 i t.0 batch t.2).within in
           let bare = f.bare t.0 (subst (λ (ys : List Entry). Once (TakesOrSendsNewView c t.0) ys) (sym splits) (once_append (TakesOrSendsNewView c t.0) newer (e ∷ past) (inl t.1))) in
           let none : length t.0.batches ≡ 0 = ap length bare in
           omega arith
       none_begins false h = cc
 
-      by_entry : (begun_proposal c (primary c 1) past e 1 i ≡ Some batch) ⊎ (entry_proposal c (primary c 1) past e 1 i ≡ Some batch) → entry_proposal c (primary c 1) past e 1 i ≡ Some batch
+      by_entry : (assigned_proposal c (primary c 1) past e 1 i ≡ Some batch) ⊎ (entry_proposal c (primary c 1) past e 1 i ≡ Some batch) → entry_proposal c (primary c 1) past e 1 i ≡ Some batch
       by_entry (inl k) = absurd (none_begins (is_in_marks c (low c (primary c 1) (e ∷ past)) i) k)
       by_entry (inr k) = k
 
       brings : brought c e ≡ Some (giving c i batch)
       brings =
           let b = (entry_batch c (primary c 1) 1 i batch past e
-          (by_entry (or_else_cases (begun_proposal c (primary c 1) past e 1 i) (entry_proposal c (primary c 1) past e 1 i) batch h))).1 in
+          (by_entry (or_else_cases (assigned_proposal c (primary c 1) past e 1 i) (entry_proposal c (primary c 1) past e 1 i) batch h))).1 in
           b.1 ∙ ap Some (pre_prepare_is c (primary c 1) 1 i batch b.0.sender b.0.message b.2).0
 
       go : (e : Entry) → IsStep c (primary c 1) past leaves.0 e point → brought c e ≡ Some (giving c i batch) → Gave i batch e past leaves.0
@@ -340,8 +340,8 @@ module _ (c : Configuration) (setting : IsConfiguration c) (later start : List E
 
   module _ (stays : (q : ℕ) → is_correct_replica c q ≡ true → StaysActive c 1 later start q) (all : AllRedelivered c later start) where
     module _ (i : ℕ) (batch : List ℕ) (says : Once (SendsBody (record { sender = primary c 1; message = PrePrepare 1 i batch })) (later ++ start)) (positive : 1 ≤ i) (number : is_number i ≡ true) where
-      begun : logged c (primary c 1) (history_of (primary c 1) (later ++ start)) 1 i ≡ Some batch
-      begun = begins c setting later start is_run goes unforged 1 f.next.from stays all i batch says
+      assigned : logged c (primary c 1) (history_of (primary c 1) (later ++ start)) 1 i ≡ Some batch
+      assigned = begins c setting later start is_run goes unforged 1 f.next.from stays all i batch says
 
       -- a number that left the marks is committed
       left : (q : ℕ) (correct : is_correct_replica c q ≡ true) → i ≤ low c q (history_of q (later ++ start)) → Committed c q (history_of q (later ++ start)) 1 i batch
@@ -351,7 +351,7 @@ module _ (c : Configuration) (setting : IsConfiguration c) (later start : List E
           let most : i ≤ (point q correct).state.number = omega arith in
           let k = committed_here q correct [] (history_of q (later ++ start)) refl (point q correct) (leaves q correct) i positive most in
           let one = logged_was_offered c trace q 1 i k.0 safe unforged correct f.next.from k.1.prepared.logged in
-          let two = logged_was_offered c trace (primary c 1) 1 i batch safe unforged f.next.from f.next.from begun in
+          let two = logged_was_offered c trace (primary c 1) 1 i batch safe unforged f.next.from f.next.from assigned in
           subst (λ (b : List ℕ). Committed c q (history_of q (later ++ start)) 1 i b) (some_injective k.0 batch (sym one ∙ two)) k.1
 
       settled : (q : ℕ) → is_correct_replica c q ≡ true → Committed c q (history_of q (later ++ start)) 1 i batch ⊎ Reaches c 1 i (later ++ start) q
@@ -503,10 +503,10 @@ module _ (c : Configuration) (setting : IsConfiguration c) (again later start : 
           answered c setting again middle goes is_whole whole_goes unforged apart 1 h.0 (primary c 1) n.0 f.next.from
           (its_committed c setting later start is_run goes run.runs.unforged run.apart f stays all h.0 n.0 h.1 (primary c 1) f.next.from)
           (λ r correct. all_reach c setting later start is_run goes run.runs.unforged run.apart f stays all h.0 n.0 h.1 r correct) positive k call client still n.2 tick all_again
-      go (inr h) = absurd (begun_bare (once_at (BeginsViewWith c 1 n.0) (history_of (primary c 1) middle) h))
+      go (inr h) = absurd (assigned_bare (once_at (BeginsViewWith c 1 n.0) (history_of (primary c 1) middle) h))
         where
-          begun_bare : At (BeginsViewWith c 1 n.0) (history_of (primary c 1) middle) → ⊥
-          begun_bare a =
+          assigned_bare : At (BeginsViewWith c 1 n.0) (history_of (primary c 1) middle) → ⊥
+          assigned_bare a =
               let bare = f.bare a.holds.0 (subst (λ (ys : List Entry). Once (TakesOrSendsNewView c a.holds.0) ys) (sym a.splits) (once_append (TakesOrSendsNewView c a.holds.0) a.newer (a.entry ∷ a.past) (inl a.holds.1))) in
               subst (λ (xs : List (List ℕ)). Has (λ x. x ≡ n.0) xs) bare a.holds.3
 
@@ -640,8 +640,8 @@ calls_outlive_silence c setting again later ticks asks start one two three four 
     second : Run c (ticks ++ (asks ++ start))
     second = run_part c later (ticks ++ (asks ++ start)) third
 
-    begun : Run c (asks ++ start)
-    begun = run_part c ticks (asks ++ start) second
+    asked_run : Run c (asks ++ start)
+    asked_run = run_part c ticks (asks ++ start) second
 
     next : SecondIsNext c (later ++ (ticks ++ (asks ++ start)))
     next = record { silent = faulty_primaries_are_silent c (later ++ (ticks ++ (asks ++ start))) three.0 f.silent f.first; from = f.from; none_beyond = f.none_beyond; keys = f.keys }
@@ -665,12 +665,12 @@ calls_outlive_silence c setting again later ticks asks start one two three four 
         (subst (SafeClient c (256 + k)) (history_append (256 + k) ticks (asks ++ start)) (second.runs.clients (256 + k) client)))
       where
         is_open : open_call (history_of (256 + k) (asks ++ start)) ≡ Some call
-        is_open = ap open_call (history_append (256 + k) asks start) ∙ still_open c setting asks start one.0 one.1 begun.runs.unforged begun.apart k call client opened all_asked none
+        is_open = ap open_call (history_append (256 + k) asks start) ∙ still_open c setting asks start one.0 one.1 asked_run.runs.unforged asked_run.apart k call client opened all_asked none
 
         active : (q : ℕ) → is_correct_replica c q ≡ true → is_active_in c (history_of q (ticks ++ (asks ++ start))) 1 ≡ true
         active q correct =
             second_is_entered c setting ticks (asks ++ start) two.0 two.1 second.runs.unforged second.apart (next_before c later (ticks ++ (asks ++ start)) next) all_ticks
-            (λ r h. (waits_or_ran c setting asks start one.0 one.1 begun.runs.unforged begun.apart k call client opened asked_it all_asked none r h, ticks_it r h)) q correct
+            (λ r h. (waits_or_ran c setting asks start one.0 one.1 asked_run.runs.unforged asked_run.apart k call client opened asked_it all_asked none r h, ticks_it r h)) q correct
 
         stays : (q : ℕ) → is_correct_replica c q ≡ true → StaysActive c 1 later (ticks ++ (asks ++ start)) q
         stays q correct = record { first = active q correct; last = last }

@@ -38,7 +38,7 @@ use Rattle.progress.specs.SilentView.{SecondIsNext, SomeWaits, TicksOrLeft, Sile
 use Rattle.progress.proofs.Answering.{in_history, in_trace}
 use Rattle.progress.proofs.Committing.{stands}
 use Rattle.progress.proofs.Entering.{signed_is_meant, enters}
-use Rattle.progress.proofs.Leaving.{CanChange, EventAt, event_at, change_bytes, signed_by, unprepared_views_are_begun}
+use Rattle.progress.proofs.Leaving.{CanChange, EventAt, event_at, change_bytes, signed_by, unprepared_views_begin}
 use Rattle.progress.proofs.Silence
 use Rattle.progress.proofs.Happened.{At, once_at}
 use Rattle.progress.proofs.Silence.{said_target, TargetSaid, target_said, SignedHere, latest_most, latest_least, first_came, first_within, view_most, first_view, unlogged, number_zero, low_zero, opened, waits_on, its_change}
@@ -252,7 +252,7 @@ module _ (c : Configuration) (setting : IsConfiguration c) (trace : List Entry) 
 
     -- so it can begin the second view
     begins : AllDelivered c trace → ((q : ℕ) → is_correct_replica c q ≡ true → target (history_of q trace) ≡ 1) → ⊥
-    begins all left = go (unprepared_views_are_begun c trace is_run goes (primary c 1) 1 0 (root_of opening) n.from refl (left (primary c 1) n.from) (is_correct_replica c) (many_correct c setting) says)
+    begins all left = go (unprepared_views_begin c trace is_run goes (primary c 1) 1 0 (root_of opening) n.from refl (left (primary c 1) n.from) (is_correct_replica c) (many_correct c setting) says)
       where
         says : (s : ℕ) → s < replicas c → is_correct_replica c s ≡ true → SaysNothingAbove c (primary c 1) (history_of (primary c 1) trace) 1 0 (root_of opening) s
         says s small correct = (

@@ -88,8 +88,8 @@ SaysNothingAbove c p past v start root s =
 
 -- So the primary begins the view, with no batch, if it has the latest view changes of 2f + 1 replicas for it, and none
 -- of these has anything prepared above a checkpoint that all of them list.
-abbrev pub UnpreparedViewsAreBegun : Type 0
-UnpreparedViewsAreBegun =
+abbrev pub UnpreparedViewsBegin : Type 0
+UnpreparedViewsBegin =
     (c : Configuration) (trace : List Entry) → IsRun c trace → OnlyTheseStopped c [] trace
     → (p v start : ℕ) (root : List ℕ) → is_correct_replica c p ≡ true → primary c v ≡ p
     → target (history_of p trace) ≡ v
@@ -109,8 +109,8 @@ SaysFrom c p past v start root s =
 -- Nobody has stopped. The primary left for its view and no later one. It has the latest view changes of 2f + 1 correct
 -- replicas for that view, with one low mark and one checkpoint there. It also has each batch above the mark that one of
 -- these replicas holds prepared in an earlier view. Then it began the view, or its keys are spent.
-abbrev pub PreparedViewsAreBegun : Type 0
-PreparedViewsAreBegun =
+abbrev pub PreparedViewsBegin : Type 0
+PreparedViewsBegin =
     (c : Configuration) → IsConfiguration c → (trace : List Entry) → IsRun c trace → OnlyTheseStopped c [] trace
     → Unforged c trace
     → (p v start : ℕ) (root : List ℕ) → is_correct_replica c p ≡ true → primary c v ≡ p

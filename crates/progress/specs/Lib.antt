@@ -9,7 +9,7 @@ pub mod FirstView
 pub mod EveryCall
 pub mod Leaving
 pub mod Changing
-pub mod Begun
+pub mod Assigned
 pub mod NextView
 pub mod SilentView
 pub mod SecondView

@@ -13,13 +13,13 @@ use Rattle.protocol.specs.Client.RightClient.{OpenCall, open_call}
 use Rattle.protocol.specs.Space.Linear.{reached}
 use Rattle.progress.specs.Delivery.{HasEntry, AllDelivered}
 use Rattle.progress.specs.Redelivered.{AllRedelivered, IsGiven}
-use Rattle.progress.specs.Begun.{ViewIsBegun}
+use Rattle.progress.specs.Assigned.{NumberIsAssigned}
 use Rattle.progress.specs.Changing.{NextViewIsReady}
 
 -- the new view or the primary assigned this batch to the number
 abbrev pub BatchHasNumber : Configuration → ℕ → ℕ → List ℕ → List Entry → List Entry → Type 0
 BatchHasNumber c v i batch later start =
-    ((begun : ViewIsBegun c v i later start) × (begun.batch ≡ batch))
+    ((assigned : NumberIsAssigned c v i later start) × (assigned.batch ≡ batch))
     ⊎ ((given : IsGiven c v i later start) × (given.batch ≡ batch))
 
 -- The primary is correct, and each correct replica is active in the view at the end. The new view or the primary
@@ -32,7 +32,7 @@ pub record ViewGoesOn (c : Configuration) (v : ℕ) (later start : List Entry) :
   pub numbers : (i : ℕ) (batch : List ℕ)
       → logged c (primary c v) (history_of (primary c v) (later ++ start)) v i ≡ Some batch
       → (1 ≤ i) × BatchHasNumber c v i batch later start
-  pub begun : (batch : List ℕ) → Once (BeginsViewWith c v batch) (history_of (primary c v) (later ++ start))
+  pub begins : (batch : List ℕ) → Once (BeginsViewWith c v batch) (history_of (primary c v) (later ++ start))
       → (i : ℕ) × (logged c (primary c v) (history_of (primary c v) (later ++ start)) v i ≡ Some batch)
   pub all : (r i j : ℕ) → is_correct_replica c r ≡ true → reached start r < j → j ≤ i
       → (i ≤ reached (later ++ start) (primary c v))

@@ -33,14 +33,14 @@
 //!   or which is inactive, leaves its view as time goes by, if a frame has room for the view change
 //!   ([`waiting_replicas_leave`]). A primary that left for its view begins it, if a new view meets the rules over what
 //!   it has ([`primaries_begin_views`]). One does if the latest view changes of `2f + 1` replicas have nothing prepared
-//!   above one checkpoint that they all list ([`unprepared_views_are_begun`]). One does too if those of `2f + 1`
+//!   above one checkpoint that they all list ([`unprepared_views_begin`]). One does too if those of `2f + 1`
 //!   correct replicas have one low mark and one checkpoint there, and the primary has all batches that they prepared
-//!   above it ([`prepared_views_are_begun`]). Each correct replica that left for no later view enters a view that its
+//!   above it ([`prepared_views_begin`]). Each correct replica that left for no later view enters a view that its
 //!   primary begins ([`new_views_are_entered`]).
 //! - A view change as a whole. Let each correct replica have left for a view, with one low mark, and let its primary be
 //!   correct and have what they prepared. Then each is active in that view once all is delivered
 //!   ([`next_views_are_entered`]). As all is delivered again, each executes what the new view has and what the primary
-//!   assigns from then on ([`begun_numbers_are_executed`]). So every open call is accepted, if the view goes on
+//!   assigns from then on ([`assigned_numbers_are_executed`]). So every open call is accepted, if the view goes on
 //!   ([`calls_outlive_changes`]).
 //! - The first view change with fewer premises: nothing is ever pre-prepared in the first view. So it is if the faulty
 //!   replicas are silent and its primary is one of them ([`faulty_primaries_are_silent`]). If a request waits at each
@@ -66,9 +66,9 @@ ghost use Rattle.progress.specs.Normal.{CorrectRequestsAreGenuine, NextBatchesAr
 ghost use Rattle.progress.specs.Waiting.{OpenCallsAreNumbered};
 ghost use Rattle.progress.specs.FirstView.{FirstNumbersAreExecuted, FirstCallsAreAccepted};
 ghost use Rattle.progress.specs.EveryCall.{EveryCallIsAccepted};
-ghost use Rattle.progress.specs.Leaving.{ViewChangesExist, ViewChangesAreWithin, WaitingReplicasLeave, PrimariesBeginViews, UnpreparedViewsAreBegun, PreparedViewsAreBegun, NewViewsAreEntered};
+ghost use Rattle.progress.specs.Leaving.{ViewChangesExist, ViewChangesAreWithin, WaitingReplicasLeave, PrimariesBeginViews, UnpreparedViewsBegin, PreparedViewsBegin, NewViewsAreEntered};
 ghost use Rattle.progress.specs.Changing.{NextViewsAreEntered};
-ghost use Rattle.progress.specs.Begun.{BegunNumbersAreExecuted};
+ghost use Rattle.progress.specs.Assigned.{AssignedNumbersAreExecuted};
 ghost use Rattle.progress.specs.NextView.{CallsOutliveChanges};
 ghost use Rattle.progress.specs.SilentView.{SilentViewsAreLeft, FaultyPrimariesAreSilent};
 ghost use Rattle.progress.specs.SecondView.{SecondCallsAreAccepted, CallsOutliveSilence};
@@ -179,17 +179,17 @@ pub fn waiting_replicas_leave()
 
 /// A primary that has what a new view needs begins its view.
 pub fn primaries_begin_views()
-    ensures begun { PrimariesBeginViews }
+    ensures begin { PrimariesBeginViews }
 {}
 
 /// It has that if 2f + 1 replicas have nothing prepared above one checkpoint.
-pub fn unprepared_views_are_begun()
-    ensures begun { UnpreparedViewsAreBegun }
+pub fn unprepared_views_begin()
+    ensures begin { UnpreparedViewsBegin }
 {}
 
 /// It also has that if it has the view changes of 2f + 1 correct replicas with one low mark, and what they prepared.
-pub fn prepared_views_are_begun()
-    ensures begun { PreparedViewsAreBegun }
+pub fn prepared_views_begin()
+    ensures begin { PreparedViewsBegin }
 {}
 
 /// Each correct replica that left for no later view enters a view that its primary begins.
@@ -203,8 +203,8 @@ pub fn next_views_are_entered()
 {}
 
 /// Each correct replica executes the batches of a new view, and what its primary assigns from then on.
-pub fn begun_numbers_are_executed()
-    ensures executed { BegunNumbersAreExecuted }
+pub fn assigned_numbers_are_executed()
+    ensures executed { AssignedNumbersAreExecuted }
 {}
 
 /// So a call outlives a view change, if the view goes on for which each correct replica has left.

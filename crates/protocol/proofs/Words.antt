@@ -17,6 +17,6 @@ pub mod Reacting
 pub mod Plain
 pub mod Starts
 pub mod Bounds
-pub mod Posting
+pub mod Outgoing
 pub mod Moving
 pub mod Scheduling

@@ -1,5 +1,5 @@
 -- Values that are given or not, as votes are.
-use Rattle.std.specs.Prelude.{ℕ, Bool, true, false, List, Option, Some, None, bytes_eq}
+use Rattle.std.specs.Prelude.{ℕ, Bool, false, List, Option, Some, None, bytes_eq}
 
 -- the first of the two that is given
 abbrev pub or_else : {A : Type 0} → Option A → Option A → Option A

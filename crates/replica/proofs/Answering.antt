@@ -90,8 +90,8 @@ module _ (r : BothPartsData) (one : AreOne r.orderer r.desk) (sender : ReplicaId
   body = record { sender = sender.0; message = FetchMessage k fetch.level fetch.index }
 
   module _ (c : Configuration) (past : List Entry) (runs : BothPartsMatchHistory c r past) (known : members c ≡ r.desk.membership) where
-    begun : FitsEvent c (me_of r) (event_of c r past runs bytes) r.orderer (desk_of c r.desk) r.desk.waiting [] []
-    begun = begins r one c past runs bytes body known receives (record { log = tt; call = refl; asks = λ st. refl; views = refl; changes = tt })
+    started : FitsEvent c (me_of r) (event_of c r past runs bytes) r.orderer (desk_of c r.desk) r.desk.waiting [] []
+    started = begins r one c past runs bytes body known receives (record { log = tt; call = refl; asks = λ st. refl; views = refl; changes = tt })
 
     abbrev Left : List Output → Type 0
     Left os = FitsEvent c (me_of r) (event_of c r past runs bytes) r.orderer (desk_of c r.desk) r.desk.waiting [] os
@@ -100,7 +100,7 @@ module _ (r : BothPartsData) (one : AreOne r.orderer r.desk) (sender : ReplicaId
 
     kept_none : KeepsNoState r.desk k → Left []
     kept_none none = (
-      begun,
+      started,
       other_numbers_owe_none c (me_of r) (desk_of c r.desk) r.orderer.log past (Got (me_of r) bytes) [] sender.0 k fetch.index r.desk.executed.state.number fetch.level runs.holds (heard_so r one c past runs bytes body known receives)
           (none_of k r.desk.snapshots none),
       inl refl,
@@ -114,14 +114,14 @@ module _ (r : BothPartsData) (one : AreOne r.orderer r.desk) (sender : ReplicaId
     gives pages output kept seals = (
       fits_on c (me_of r) (event_of c r past runs bytes) r.orderer r.orderer (desk_of c r.desk) r.desk.waiting [] [] [] (output ∷ []) (Sent (me_of r) seals.bytes)
           one_given
-          (sent_beside c (me_of r) (part_of pages) (sender.0 ∷ []) seals.bytes (Got (me_of r) bytes ∷ past) (no_number pages k fetch.index fetch.level) posted)
-          (sent_keep c (me_of r) (Got (me_of r) bytes ∷ past) (part_of pages) seals.bytes posted.says (no_news c (me_of r) (Got (me_of r) bytes ∷ past) pages k fetch.index fetch.level) (never_signed pages k fetch.index fetch.level))
-          (same_log r.orderer.log) refl refl refl refl begun
+          (sent_beside c (me_of r) (part_of pages) (sender.0 ∷ []) seals.bytes (Got (me_of r) bytes ∷ past) (no_number pages k fetch.index fetch.level) is_outgoing)
+          (sent_keep c (me_of r) (Got (me_of r) bytes ∷ past) (part_of pages) seals.bytes is_outgoing.says (no_news c (me_of r) (Got (me_of r) bytes ∷ past) pages k fetch.index fetch.level) (never_signed pages k fetch.index fetch.level))
+          (same_log r.orderer.log) refl refl refl refl started
           (parts_fit c (me_of r) (event_of c r past runs bytes) (desk_of c r.desk) r.orderer.log [] [] (record { number = k; pages = pages }) sender.0 fetch.index fetch.level seals.bytes has
-          (inl (heard_so r one c past runs bytes body known receives)) (λ given. given) posted begun.fits),
+          (inl (heard_so r one c past runs bytes body known receives)) (λ given. given) is_outgoing started.fits),
       subst (λ (es : List Entry). AnswersInput c (me_of r) past (Got (me_of r) bytes) es runs.holds.of_desk.point r.desk.executed.state.number) (sym one_given.is)
           (parts_suffice c (me_of r) (desk_of c r.desk) r.orderer.log past (Got (me_of r) bytes) (Sent (me_of r) seals.bytes ∷ []) (record { number = k; pages = pages }) sender.0 fetch.index r.desk.executed.state.number fetch.level
-          runs.holds has (heard_so r one c past runs bytes body known receives) (inl (outgoing_to_one c (me_of r) sender.0 (part_of pages) seals.bytes posted))),
+          runs.holds has (heard_so r one c past runs bytes body known receives) (inl (outgoing_to_one c (me_of r) sender.0 (part_of pages) seals.bytes is_outgoing))),
       inr (
         body,
         heard_so r one c past runs bytes body known receives,
@@ -135,8 +135,8 @@ module _ (r : BothPartsData) (one : AreOne r.orderer r.desk) (sender : ReplicaId
         one_given : EmitsOne c (me_of r) [] (output ∷ []) (Sent (me_of r) seals.bytes)
         one_given = emits_one c (me_of r) [] (output ∷ []) output (Sent (me_of r) seals.bytes) refl sends (subst (λ (m : ℕ). IsSentAsMeant c m output) one.0 (seals.meant c known))
 
-        posted : IsOutgoing c (me_of r) (part_of pages) (sender.0 ∷ []) seals.bytes
-        posted = subst (λ (m : ℕ). IsOutgoing c m (part_of pages) (sender.0 ∷ []) seals.bytes) one.0 (seals.posted c known)
+        is_outgoing : IsOutgoing c (me_of r) (part_of pages) (sender.0 ∷ []) seals.bytes
+        is_outgoing = subst (λ (m : ℕ). IsOutgoing c m (part_of pages) (sender.0 ∷ []) seals.bytes) one.0 (seals.is_outgoing c known)
 
         has : Has (λ x. x ≡ record { number = k; pages = pages }) r.desk.snapshots
         has = kept
@@ -155,6 +155,6 @@ module _ (r : BothPartsData) (one : AreOne r.orderer r.desk) (sender : ReplicaId
         fits = subst (λ (m : ℕ). FitsEvent c m (event_of c r past runs bytes) r.orderer (desk_of c r.desk) r.desk.waiting [] outs) (sym one.0) l.0;
       },
       (rests c r past runs, runs.all, l.1, l.2),
-      runs.begun,
+      runs.nothing_begins,
     );
   }

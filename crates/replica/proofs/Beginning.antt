@@ -43,12 +43,12 @@ use Rattle.protocol.specs.System.Trace.{Entry}
 use Rattle.protocol.specs.System.Trace.Entry.{Got}
 use Rattle.protocol.specs.Replica.Certificates.{taken, are_genuine, brought, new_view_from, is_later, view, target}
 use Rattle.protocol.specs.Replica.State.{State, call_in}
-use Rattle.claims.specs.ClaimsView.{ClaimsData}
+use Rattle.pq_sets.specs.PqSetsView.{PqSetsData}
 use Rattle.replica_histories.specs.Questions.{has_question}
 use Rattle.replica_histories.specs.Events as histories
 use Rattle.replica_histories.specs.Events.{IsTaken}
-use Rattle.replica_histories.specs.Changes.{CutsClaims, FitsChanges, LogPassesEntry, KeepsChanges, IsNoBatch, IsNoChange}
-use Rattle.replica_histories.proofs.ChangesPassing.{inputs_enter, changes_stay, claims_are_above, batches_are_claimed}
+use Rattle.replica_histories.specs.Changes.{CutsPqSets, FitsChanges, LogPassesEntry, KeepsChanges, IsNoBatch, IsNoChange}
+use Rattle.replica_histories.proofs.ChangesPassing.{inputs_enter, changes_stay, pq_sets_are_above, batches_enter_q}
 use Rattle.replica_histories.proofs.ChangesKept.{got_keep, received_keep, others_bring_none}
 use Rattle.replica_histories.proofs.Questions.{others_owe_none}
 use Rattle.replica_histories.specs.Inputs.{replies_again, IsBesideLog}
@@ -97,17 +97,17 @@ pub record IsNoCall (c : Configuration) (said : Option Body) : Type 0 where
 pub none_taken : (c : Configuration) (past : List Entry) (e : Entry) → option_and_then (new_view_from c) (brought c e) ≡ None → taken c past e ≡ None
 none_taken c past e h = ap (option_and_then (λ (new : NewViewData). then_some (is_later (view c past) (target past) new) new)) h
 
--- With this log and these claims, the view-change data fit after the bytes.
-abbrev pub ChangesFit : (r : BothPartsData) (c : Configuration) (past : List Entry) → List ℕ → LogData → ClaimsData → Type 0
-ChangesFit r c past bytes after claims = LogPassesEntry c (me_of r) past (Got (me_of r) bytes) r.orderer.log after
-    → FitsChanges c (me_of r) after (record (changes_held r.orderer) { claims = claims }) (Got (me_of r) bytes ∷ past)
+-- With this log and these sets P and Q, the view-change data fit after the bytes.
+abbrev pub ChangesFit : (r : BothPartsData) (c : Configuration) (past : List Entry) → List ℕ → LogData → PqSetsData → Type 0
+ChangesFit r c past bytes after pq_sets = LogPassesEntry c (me_of r) past (Got (me_of r) bytes) r.orderer.log after
+    → FitsChanges c (me_of r) after (record (changes_held r.orderer) { pq_sets = pq_sets }) (Got (me_of r) bytes ∷ past)
 
 -- The log takes the bytes, which count.
-pub record TakesOne (r : BothPartsData) (c : Configuration) (past : List Entry) (runs : BothPartsMatchHistory c r past) (bytes : List ℕ) (after : LogData) (claims : ClaimsData) : Type 0 where
+pub record TakesOne (r : BothPartsData) (c : Configuration) (past : List Entry) (runs : BothPartsMatchHistory c r past) (bytes : List ℕ) (after : LogData) (pq_sets : PqSetsData) : Type 0 where
   pub takes : LogTakesBody c (me_of r) (authentic (members c) (me_of r) bytes) r.orderer.log after
   pub none : IsNoCall c (authentic (members c) (me_of r) bytes)
   pub counts : IsTaken c (me_of r) (event_of c r past runs bytes)
-  pub changes : ChangesFit r c past bytes after claims
+  pub changes : ChangesFit r c past bytes after pq_sets
 
 module _ (r : BothPartsData) (one : AreOne r.orderer r.desk) where
   -- the desk receives what the orderer does
@@ -117,20 +117,20 @@ module _ (r : BothPartsData) (one : AreOne r.orderer r.desk) where
 
   -- So they do if the bytes change no view-change data, and the low mark stays.
   pub changes_kept : (c : Configuration) (past : List Entry) (runs : BothPartsMatchHistory c r past) (bytes : List ℕ) (after : LogData) → IsSameLog r.orderer.log after → after.low ≡ r.orderer.log.low
-      → (LogPassesEntry c (me_of r) past (Got (me_of r) bytes) r.orderer.log after → KeepsChanges c (me_of r) past (Got (me_of r) bytes)) → ChangesFit r c past bytes after r.orderer.claims
+      → (LogPassesEntry c (me_of r) past (Got (me_of r) bytes) r.orderer.log after → KeepsChanges c (me_of r) past (Got (me_of r) bytes)) → ChangesFit r c past bytes after r.orderer.pq_sets
   changes_kept c past runs bytes after same low keeps passes =
-      changes_stay c (me_of r) past (Got (me_of r) bytes) r.orderer.log after (changes_held r.orderer) r.orderer.claims passes (record { view = same.view; active = same.active }) (keeps passes)
-      (subst (λ (n : ℕ). CutsClaims n r.orderer.claims r.orderer.claims) (sym low)
-      (claims_are_above c (me_of r) r.orderer.log past r.orderer.claims runs.holds.of_log.fits runs.changes.claims)) runs.changes
+      changes_stay c (me_of r) past (Got (me_of r) bytes) r.orderer.log after (changes_held r.orderer) r.orderer.pq_sets passes (record { view = same.view; active = same.active }) (keeps passes)
+      (subst (λ (n : ℕ). CutsPqSets n r.orderer.pq_sets r.orderer.pq_sets) (sym low)
+      (pq_sets_are_above c (me_of r) r.orderer.log past r.orderer.pq_sets runs.holds.of_log.fits runs.changes.pq_sets)) runs.changes
 
   -- bytes that are no ordered request, of which the log may take something
-  pub begins_with : (c : Configuration) (past : List Entry) (runs : BothPartsMatchHistory c r past) (bytes : List ℕ) (after : LogData) (claims : ClaimsData)
+  pub begins_with : (c : Configuration) (past : List Entry) (runs : BothPartsMatchHistory c r past) (bytes : List ℕ) (after : LogData) (pq_sets : PqSetsData)
       → IsSameLog r.orderer.log after → LogTakesBody c (me_of r) (authentic (members c) (me_of r) bytes) r.orderer.log after → IsNoCall c (authentic (members c) (me_of r) bytes)
-      → ChangesFit r c past bytes after claims
-      → PartsFitEvent c (event_of c r past runs bytes) (record r.orderer { log = after; claims = claims }) r.desk [] []
-  begins_with c past runs bytes after claims same takes none changes = record {
+      → ChangesFit r c past bytes after pq_sets
+      → PartsFitEvent c (event_of c r past runs bytes) (record r.orderer { log = after; pq_sets = pq_sets }) r.desk [] []
+  begins_with c past runs bytes after pq_sets same takes none changes = record {
     is = runs.is_desk;
-    fits = subst (λ (m : ℕ). FitsEvent c m (event_of c r past runs bytes) (record r.orderer { log = after; claims = claims }) (desk_of c r.desk) r.desk.waiting [] []) (sym one.0) event;
+    fits = subst (λ (m : ℕ). FitsEvent c m (event_of c r past runs bytes) (record r.orderer { log = after; pq_sets = pq_sets }) (desk_of c r.desk) r.desk.waiting [] []) (sym one.0) event;
   }
     where
       free : taken c past (Got (me_of r) bytes) ≡ None
@@ -147,10 +147,10 @@ module _ (r : BothPartsData) (one : AreOne r.orderer r.desk) where
         due_is = sym (none.asks r.desk.executed.state);
       })
 
-      event : FitsEvent c (me_of r) (event_of c r past runs bytes) (record r.orderer { log = after; claims = claims }) (desk_of c r.desk) r.desk.waiting [] []
+      event : FitsEvent c (me_of r) (event_of c r past runs bytes) (record r.orderer { log = after; pq_sets = pq_sets }) (desk_of c r.desk) r.desk.waiting [] []
       event = record {
         fits = enters;
-        numbers = numbers_alike c (me_of r) r.desk.waiting r.orderer (record r.orderer { log = after; claims = claims }) (desk_of c r.desk) (Got (me_of r) bytes ∷ past) same refl
+        numbers = numbers_alike c (me_of r) r.desk.waiting r.orderer (record r.orderer { log = after; pq_sets = pq_sets }) (desk_of c r.desk) (Got (me_of r) bytes ∷ past) same refl
             (numbers_beside c (me_of r) r.desk.waiting r.orderer (desk_of c r.desk) past (Got (me_of r) bytes) runs.holds.of_log.fits.faults runs.holds.of_log.fits.own
             (record { here = refl; none = free; sends = refl }) runs.numbers);
         said = said_on (me_of r) r.orderer.last_checkpoint past (Got (me_of r) bytes) runs.said;
@@ -166,33 +166,33 @@ module _ (r : BothPartsData) (one : AreOne r.orderer r.desk) where
   drops bytes none = record {
     party = one_self r;
     begins = λ c past runs known. let n = none c past runs known in (
-      begins_with c past runs bytes r.orderer.log r.orderer.claims (same_log r.orderer.log) n.0 n.1 (kept c past runs n.1),
+      begins_with c past runs bytes r.orderer.log r.orderer.pq_sets (same_log r.orderer.log) n.0 n.1 (kept c past runs n.1),
       (
         rests c r past runs,
         runs.all,
         others_owe_none c (me_of r) past (Got (me_of r) bytes) [] runs.holds.of_desk.point r.desk.executed.state.number n.1.parts,
         inl refl,
       ),
-      runs.begun,
+      runs.nothing_begins,
     );
   }
     where
-      kept : (c : Configuration) (past : List Entry) (runs : BothPartsMatchHistory c r past) → IsNoCall c (authentic (members c) (me_of r) bytes) → ChangesFit r c past bytes r.orderer.log r.orderer.claims
+      kept : (c : Configuration) (past : List Entry) (runs : BothPartsMatchHistory c r past) → IsNoCall c (authentic (members c) (me_of r) bytes) → ChangesFit r c past bytes r.orderer.log r.orderer.pq_sets
       kept c past runs silent = changes_kept c past runs bytes r.orderer.log (same_log r.orderer.log) refl
           (λ passes. got_keep c (me_of r) past bytes r.orderer.log r.orderer.log passes (record { view = refl; active = refl }) (none_taken c past (Got (me_of r) bytes) silent.views)
           (λ i within. refl) (λ s other. others_bring_none c (me_of r) s past bytes silent.changes other))
 
   -- A message that the log takes touches one number.
-  pub takes_row : (bytes : List ℕ) (number : Number) (after : LogData) (claims : ClaimsData)
+  pub takes_row : (bytes : List ℕ) (number : Number) (after : LogData) (pq_sets : PqSetsData)
       → IsSameLog r.orderer.log after → r.orderer.log.active ≡ true → ((i : ℕ) → i ≢ number.0 → (due_prepare after i ≡ due_prepare r.orderer.log i) × (due_commit after i ≡ due_commit r.orderer.log i))
-      → ((c : Configuration) (past : List Entry) (runs : BothPartsMatchHistory c r past) → members c ≡ r.desk.membership → TakesOne r c past runs bytes after claims)
-      → TakesBytes bytes r (due_work.Row number) (record r { orderer = record r.orderer { log = after; claims = claims } }) []
-  takes_row bytes number after claims same active others takes = record {
+      → ((c : Configuration) (past : List Entry) (runs : BothPartsMatchHistory c r past) → members c ≡ r.desk.membership → TakesOne r c past runs bytes after pq_sets)
+      → TakesBytes bytes r (due_work.Row number) (record r { orderer = record r.orderer { log = after; pq_sets = pq_sets } }) []
+  takes_row bytes number after pq_sets same active others takes = record {
     party = record { endpoint = refl; me = refl; membership = refl };
     begins = λ c past runs known. let t = takes c past runs known in (
-      begins_with c past runs bytes after claims same t.takes t.none t.changes,
+      begins_with c past runs bytes after pq_sets same t.takes t.none t.changes,
       (voted c past runs, (t.counts, t.none.parts)),
-      active_begins_none c (record r.orderer { log = after; claims = claims }) (same.active ∙ active),
+      active_begins_none c (record r.orderer { log = after; pq_sets = pq_sets }) (same.active ∙ active),
     );
   }
     where
@@ -251,7 +251,7 @@ pub prepare_taken : (r : BothPartsData) (sender : ReplicaId) (p : WirePrepare) (
     → TakesMessage sender (Prepare p.view.0 p.number.0 p.digest) r (due_work.Row p.number) (record r { orderer = new }) []
 prepare_taken r sender p new one t bytes h =
     subst (λ (o : OrdererData). TakesBytes bytes r (due_work.Row p.number) (record r { orderer = o }) []) (sym t.1)
-    (takes_row r one bytes p.number (with_prepare r.orderer.log p.number.0 vote) r.orderer.claims (same_rows r.orderer.log (with_prepare r.orderer.log p.number.0 vote).rows) active
+    (takes_row r one bytes p.number (with_prepare r.orderer.log p.number.0 vote) r.orderer.pq_sets (same_rows r.orderer.log (with_prepare r.orderer.log p.number.0 vote).rows) active
     (λ i ne. due_elsewhere r.orderer.log i p.number.0 _ inside ne) takes)
   where
     vote : Vote
@@ -264,7 +264,7 @@ prepare_taken r sender p new one t bytes h =
     active = (fitting r.orderer.log _ p.view.0 p.number.0 (no_fault _ (fault_beside (logs.prepare_of r.orderer.log p.number.0 sender.0) p.digest) t.0)).active
 
     takes : (c : Configuration) (past : List Entry) (runs : BothPartsMatchHistory c r past) → members c ≡ r.desk.membership
-        → TakesOne r c past runs bytes (with_prepare r.orderer.log p.number.0 vote) r.orderer.claims
+        → TakesOne r c past runs bytes (with_prepare r.orderer.log p.number.0 vote) r.orderer.pq_sets
     takes c past runs known =
         let receives = heard_by r one c bytes _ known h in
         let counts = prepares_count c (me_of r) r.orderer.log past runs.holds.of_desk.point sender.0 p.view.0 p.number.0 p.digest bytes vote runs.holds.of_log.fits receives t.0 refl refl in record {
@@ -279,7 +279,7 @@ pub commit_taken : (r : BothPartsData) (sender : ReplicaId) (p : WireCommit) (ne
     → TakesMessage sender (Commit p.view.0 p.number.0 p.digest) r (due_work.Row p.number) (record r { orderer = new }) []
 commit_taken r sender p new one t bytes h =
     subst (λ (o : OrdererData). TakesBytes bytes r (due_work.Row p.number) (record r { orderer = o }) []) (sym t.1)
-    (takes_row r one bytes p.number (with_commit r.orderer.log p.number.0 vote) r.orderer.claims (same_rows r.orderer.log (with_commit r.orderer.log p.number.0 vote).rows) active
+    (takes_row r one bytes p.number (with_commit r.orderer.log p.number.0 vote) r.orderer.pq_sets (same_rows r.orderer.log (with_commit r.orderer.log p.number.0 vote).rows) active
     (λ i ne. due_elsewhere r.orderer.log i p.number.0 _ inside ne) takes)
   where
     vote : Vote
@@ -292,7 +292,7 @@ commit_taken r sender p new one t bytes h =
     active = (fitting r.orderer.log _ p.view.0 p.number.0 (no_fault _ (fault_beside (logs.commit_of r.orderer.log p.number.0 sender.0) p.digest) t.0)).active
 
     takes : (c : Configuration) (past : List Entry) (runs : BothPartsMatchHistory c r past) → members c ≡ r.desk.membership
-        → TakesOne r c past runs bytes (with_commit r.orderer.log p.number.0 vote) r.orderer.claims
+        → TakesOne r c past runs bytes (with_commit r.orderer.log p.number.0 vote) r.orderer.pq_sets
     takes c past runs known =
         let receives = heard_by r one c bytes _ known h in
         let counts = commits_count c (me_of r) r.orderer.log past runs.holds.of_desk.point sender.0 p.view.0 p.number.0 p.digest bytes vote runs.holds.of_log.fits receives t.0 refl refl in record {
@@ -372,9 +372,9 @@ no_batch log i within h = ap (λ (b : Bool). cond b (logs.row_of log i).batch No
 
 pub batch_taken : (r : BothPartsData) (sender : ReplicaId) (p : WirePrePrepare) (new : OrdererData) → AreOne r.orderer r.desk → TakesBatch r.orderer sender p new true
     → TakesMessage sender (PrePrepare p.view.0 p.number.0 p.batch.text.items) r (due_work.Row p.number) (record r { orderer = new }) []
-batch_taken r sender p new one (free, were_heard, (claims, adds, is)) bytes h =
+batch_taken r sender p new one (free, were_heard, (pq_sets, adds, is)) bytes h =
     subst (λ (o : OrdererData). TakesBytes bytes r (due_work.Row p.number) (record r { orderer = o }) []) (sym is)
-    (takes_row r one bytes p.number (with_batch r.orderer.log p.number.0 p.batch.text.items) claims (same_rows r.orderer.log (with_batch r.orderer.log p.number.0 p.batch.text.items).rows) fits.active
+    (takes_row r one bytes p.number (with_batch r.orderer.log p.number.0 p.batch.text.items) pq_sets (same_rows r.orderer.log (with_batch r.orderer.log p.number.0 p.batch.text.items).rows) fits.active
     (λ i ne. due_elsewhere r.orderer.log i p.number.0 _ fits.within ne) takes)
   where
     beside : Option Dropped
@@ -384,7 +384,7 @@ batch_taken r sender p new one (free, were_heard, (claims, adds, is)) bytes h =
     fits = fitting r.orderer.log _ p.view.0 p.number.0 (no_fault _ beside free)
 
     takes : (c : Configuration) (past : List Entry) (runs : BothPartsMatchHistory c r past) → members c ≡ r.desk.membership
-        → TakesOne r c past runs bytes (with_batch r.orderer.log p.number.0 p.batch.text.items) claims
+        → TakesOne r c past runs bytes (with_batch r.orderer.log p.number.0 p.batch.text.items) pq_sets
     takes c past runs known =
         let receives = heard_by r one c bytes _ known h in
         let genuine = ap (λ (m : Membership). are_authentic m (me_of r) (requests_of p.batch.text.items)) (known ∙ one.1) ∙ were_heard in
@@ -393,7 +393,7 @@ batch_taken r sender p new one (free, were_heard, (claims, adds, is)) bytes h =
           takes = counts.1;
           none = batch_none r bytes c sender.0 p.view.0 p.number.0 p.batch.text.items receives;
           counts = (record { sender = sender.0; message = PrePrepare p.view.0 p.number.0 p.batch.text.items }, receives, counts.0);
-          changes = λ passes. batches_are_claimed c (me_of r) past (Got (me_of r) bytes) r.orderer.log (changes_held r.orderer) claims sender.0 p.number.0 p.batch.text.items passes fits.within
+          changes = λ passes. batches_enter_q c (me_of r) past (Got (me_of r) bytes) r.orderer.log (changes_held r.orderer) pq_sets sender.0 p.number.0 p.batch.text.items passes fits.within
               (no_batch r.orderer.log p.number.0 fits.within (no_digest (logs.logged_digest r.orderer.log p.number.0) (sha256 p.batch.text.items) (no_fault_later _ beside free)))
               (receives ∙ ap (λ (v : ℕ). Some (record { sender = sender.0; message = PrePrepare v p.number.0 p.batch.text.items })) fits.view) adds runs.changes;
         }

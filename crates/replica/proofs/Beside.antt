@@ -96,6 +96,6 @@ module _ (r : BothPartsData) (one : AreOne r.orderer r.desk) (bytes : List ℕ) 
         answers c past runs known,
         inl refl,
       ),
-      runs.begun,
+      runs.nothing_begins,
     );
   }

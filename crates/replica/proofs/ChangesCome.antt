@@ -37,7 +37,7 @@ use Rattle.replica_histories.specs.Received.{held_view}
 use Rattle.replica_histories.specs.Views.{entries_of}
 use Rattle.replica_histories.proofs.ChangesKept.{received_are_signed, received_keep}
 use Rattle.replica_histories.proofs.ChangesMade.{changes_are_taken}
-use Rattle.replica_histories.proofs.ChangesPassing.{changes_stay, claims_are_above, inputs_enter}
+use Rattle.replica_histories.proofs.ChangesPassing.{changes_stay, pq_sets_are_above, inputs_enter}
 use Rattle.replica_histories.proofs.Changing.{view_changes_count}
 use Rattle.replica_histories.proofs.Counting.{others_drop}
 use Rattle.replica_histories.proofs.Entering.{inputs_fit}
@@ -223,17 +223,17 @@ module _ (r : BothPartsData) (one : AreOne r.orderer r.desk) (rules : JudgesAlik
             (none.0, none.1, none.2, none.3, none.4, refused_move judge faulty c past runs known []),
             inl refl,
           ),
-          runs.begun,
+          runs.nothing_begins,
         );
   }
     where
       stays : (c : Configuration) (past : List Entry) (runs : BothPartsMatchHistory c r past) → members c ≡ r.desk.membership
           → FitsChanges c (me_of r) r.orderer.log (changes_held r.orderer) (Got (me_of r) bytes ∷ past)
       stays c past runs known =
-          changes_stay c (me_of r) past (Got (me_of r) bytes) r.orderer.log r.orderer.log (changes_held r.orderer) r.orderer.claims (passes r one bytes c past runs x is) (record { view = refl; active = refl })
+          changes_stay c (me_of r) past (Got (me_of r) bytes) r.orderer.log r.orderer.log (changes_held r.orderer) r.orderer.pq_sets (passes r one bytes c past runs x is) (record { view = refl; active = refl })
           (received_keep c (me_of r) past bytes (free r one bytes c past runs x is) (beside r one bytes c past runs x is).batch
           (λ s other. refused_bring_none c (me_of r) s bytes past r.orderer.received.held x fault.0 is at other runs.changes.received))
-          (claims_are_above c (me_of r) r.orderer.log past r.orderer.claims runs.holds.of_log.fits runs.changes.claims) runs.changes
+          (pq_sets_are_above c (me_of r) r.orderer.log past r.orderer.pq_sets runs.holds.of_log.fits runs.changes.pq_sets) runs.changes
         where
           is : signed_change c bytes ≡ Some x
           is = signed_in c past runs known
@@ -297,19 +297,19 @@ module _ (input : Entry) (old : BothPartsData) (alone : AreOne old.orderer old.d
 
   -- and may begin it
   begins_now : (a b : BothPartsData) (x y : List Output) → BeginsView a x b y → Comes input old a x → MovesAt input old a.orderer.target → TakesInput input old due_work.View b y
-  begins_now a b x y begun came moved = record {
-    party = ones_twice old a b came.party begun.party;
+  begins_now a b x y assigned came moved = record {
+    party = ones_twice old a b came.party assigned.party;
     begins = λ c past runs known. let g = came.begins c past runs known in (
-      begun.stands c (event_with c old past runs input) (known ∙ sym came.party.membership) g.1 g.0,
+      assigned.stands c (event_with c old past runs input) (known ∙ sym came.party.membership) g.1 g.0,
       (
-        begun.voted g.1,
+        assigned.voted g.1,
         (
-          subst (λ (e : EndpointState). IsTaken c e.me (event_with c old past runs input)) (sym begun.party.endpoint) g.3.0,
-          λ outputs executed at. subst (λ (e : EndpointState). AnswersInput c e.me past input outputs runs.holds.of_desk.point executed) (sym (ones_twice old a b came.party begun.party).endpoint)
-              (answered a x came moved c past runs known outputs executed (at ∙ begun.target)),
+          subst (λ (e : EndpointState). IsTaken c e.me (event_with c old past runs input)) (sym assigned.party.endpoint) g.3.0,
+          λ outputs executed at. subst (λ (e : EndpointState). AnswersInput c e.me past input outputs runs.holds.of_desk.point executed) (sym (ones_twice old a b came.party assigned.party).endpoint)
+              (answered a x came moved c past runs known outputs executed (at ∙ assigned.target)),
         ),
       ),
-      active_begins_none c b.orderer begun.active,
+      active_begins_none c b.orderer assigned.active,
     );
   }
 
@@ -331,10 +331,10 @@ module _ (input : Entry) (old : BothPartsData) (alone : AreOne old.orderer old.d
   }
 
   may_begin : (a b : BothPartsData) (x y : List Output) (what : DueWork) → MayBegin a x what b y → Comes input old a x → MovesAt input old a.orderer.target → TakesInput input old what b y
-  may_begin a b x y due_work.View begun came moved = begins_now a b x y begun came moved
+  may_begin a b x y due_work.View assigned came moved = begins_now a b x y assigned came moved
   may_begin a b x y due_work.Nothing (same, still, none) came moved =
       subst (λ (r : BothPartsData). TakesInput input old due_work.Nothing r y) (sym same) (subst (λ (os : List Output). TakesInput input old due_work.Nothing a os) (sym still) (rests_now a x none came moved))
-  may_begin a b x y _ begun came moved = absurd begun
+  may_begin a b x y _ assigned came moved = absurd assigned
 
 -- others may move it to their view
 pub record Joins (a : BothPartsData) (x : List Output) (b : BothPartsData) (y : List Output) : Type 0 where

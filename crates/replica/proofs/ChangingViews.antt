@@ -21,7 +21,7 @@ use Rattle.replica_histories.specs.Views.{IsChange, entries_of}
 use Rattle.replica_histories.proofs.ChangesMade.{changes_are_sent}
 use Rattle.replica_histories.proofs.ChangesPassing.{outputs_pass}
 use Rattle.replica_histories.proofs.Changing.{view_changes_fit}
-use Rattle.replica_histories.proofs.Claims.{claims_are_lists}
+use Rattle.replica_histories.proofs.PqSets.{pq_sets_are_lists}
 use Rattle.replica_histories.proofs.Ending.{steps_leave}
 use Rattle.replica_histories.proofs.Leaves.{next_leaf_is_own, next_is_spent}
 use Rattle.replica_histories.proofs.Reasons.{ticks_are_reasons, held_are_joined}
@@ -31,7 +31,7 @@ use Rattle.desk.specs.declared.waiting.WaitingRequest.{WaitingRequest}
 use Rattle.desk.specs.DeskOf.{waiting_calls, desk_of}
 use Rattle.orderer.specs.Fitting.{given, changes_held, FitsEvent}
 use Rattle.orderer.specs.Going.{IsVotedAll}
-use Rattle.orderer.specs.Claiming.{MulticastsFrame}
+use Rattle.orderer.specs.PqSets.{MulticastsFrame}
 use Rattle.orderer.specs.ViewChangeOut.{IsNextView, SignsChange, target_view, IsUnsendable, MaySignChange, change_for}
 use Rattle.replica.specs.Changing.{HasReason, LeavesView, ChangesView}
 use Rattle.orderer.proofs.Staying.{emits_one, fits_behind, numbers_beside, sent_beside}
@@ -61,8 +61,8 @@ module _ (view : ℕ) (old : BothPartsData) (signed : OrdererData) (frame : List
     abbrev past : List Entry
     past = after_outputs s (given me before)
 
-    posted : IsOutgoing c me (ViewChange k.own.change) [] frame
-    posted = k.signed c (known ∙ one.1)
+    is_outgoing : IsOutgoing c me (ViewChange k.own.change) [] frame
+    is_outgoing = k.signed c (known ∙ one.1)
 
     is_view : k.own.change.view ≡ view
     is_view = ap (λ x. x.view) k.change
@@ -109,13 +109,13 @@ module _ (view : ℕ) (old : BothPartsData) (signed : OrdererData) (frame : List
       reason = reasons;
     })
       where
-        lists : IsPreparedList c me past o.claims.prepared × IsPrePreparedList c me past o.claims.logged
+        lists : IsPreparedList c me past o.pq_sets.prepared × IsPrePreparedList c me past o.pq_sets.logged
         lists =
-            claims_are_lists c me o.log past (point_of desk f.fits.of_desk.states f.fits.of_desk.ran) o.claims f.fits.of_log
-            (steps_leave c me s (given me before) (point_of desk f.fits.of_desk.states f.fits.of_desk.ran) f.fits.of_desk.leaves f.fits.of_desk.steps) (λ i. (voted i).1) f.changes.claims
+            pq_sets_are_lists c me o.log past (point_of desk f.fits.of_desk.states f.fits.of_desk.ran) o.pq_sets f.fits.of_log
+            (steps_leave c me s (given me before) (point_of desk f.fits.of_desk.states f.fits.of_desk.ran) f.fits.of_desk.leaves f.fits.of_desk.steps) (λ i. (voted i).1) f.changes.pq_sets
 
     on : events.BothFitWithinEvent c me s desk (left o.log) [] (Sent me frame ∷ given me before)
-    on = view_changes_fit c me s desk o.log [] (given me before) k.own.change frame (λ i. (voted i).1) change posted
+    on = view_changes_fit c me s desk o.log [] (given me before) k.own.change frame (λ i. (voted i).1) change is_outgoing
         (next_leaf_is_own frame o.spent past k.by_leaf f.changes.leaves) f.fits
 
     place : me < replicas c
@@ -127,15 +127,15 @@ module _ (view : ℕ) (old : BothPartsData) (signed : OrdererData) (frame : List
         (subst (λ (b : List ℕ). FitsChanges c me (left o.log) (record (changes_held new) { target = k.own.change.view }) (Sent me b ∷ past)) k.frame_is
         (changes_are_sent c me (o.spent + 1) past o.log (changes_held o) k.own
         (subst (λ (b : List ℕ). LogPassesEntry c me past (Sent me b) o.log (left o.log)) (sym k.frame_is) (outputs_pass c me s desk desk o.log (left o.log) [] [] (given me before) (Sent me frame) f.fits on))
-        place (k.sender ∙ f.fits.of_log.own) (subst (λ (b : List ℕ). IsOutgoing c me (ViewChange k.own.change) [] b) (sym k.frame_is) posted)
+        place (k.sender ∙ f.fits.of_log.own) (subst (λ (b : List ℕ). IsOutgoing c me (ViewChange k.own.change) [] b) (sym k.frame_is) is_outgoing)
         (subst (λ (v : ℕ). target past < v) (sym is_view) newer)
         (next_is_spent me o.spent past k.own.frame (ap leaf_of k.frame_is ∙ k.by_leaf)) f.changes))
 
     goes : MulticastsFrame new frame before after → FitsEvent c me s new desk old.desk.waiting [] after
     goes says =
         fits_behind c me s o new desk desk old.desk.waiting old.desk.waiting [] [] before after (Sent me frame)
-        (emits_one c me before after says.output (Sent me frame) says.given_is says.sends.sends (says.sends.meant c (ViewChange k.own.change) (known ∙ one.1) posted)) refl f on
-        (numbers_beside c me old.desk.waiting o desk past (Sent me frame) f.fits.of_log.faults f.fits.of_log.own (sent_beside c me (ViewChange k.own.change) [] frame past tt posted) f.numbers) held
+        (emits_one c me before after says.output (Sent me frame) says.given_is says.sends.sends (says.sends.meant c (ViewChange k.own.change) (known ∙ one.1) is_outgoing)) refl f on
+        (numbers_beside c me old.desk.waiting o desk past (Sent me frame) f.fits.of_log.faults f.fits.of_log.own (sent_beside c me (ViewChange k.own.change) [] frame past tt is_outgoing) f.numbers) held
 
   pub leaves_view : (before after : List Output) → MulticastsFrame (gone signed) frame before after → LeavesView view old before (record old { orderer = gone signed }) after
   leaves_view before after says =

@@ -21,18 +21,18 @@ use Rattle.protocol.specs.System.Trace.Entry.{Got}
 use Rattle.protocol.specs.Replica.Certificates.{taken}
 use Rattle.replica_histories.specs.Desk.{Snapshot, Desk, desk_from, kept_from}
 use Rattle.replica_histories.specs.Events as histories
-use Rattle.replica_histories.specs.Changes.{CutsClaims, FitsChanges, IsNoBatch, KeepsChanges}
+use Rattle.replica_histories.specs.Changes.{CutsPqSets, FitsChanges, IsNoBatch, KeepsChanges}
 use Rattle.replica_histories.specs.Inputs.{fetch_due}
 use Rattle.replica_histories.specs.Marks.{checked_log}
 use Rattle.replica_histories.specs.Transfers.{open_number}
 use Rattle.replica_histories.proofs.ChangesKept.{received_keep, others_bring_none}
-use Rattle.replica_histories.proofs.ChangesPassing.{changes_stay, claims_are_above, inputs_enter}
+use Rattle.replica_histories.proofs.ChangesPassing.{changes_stay, pq_sets_are_above, inputs_enter}
 use Rattle.replica_histories.proofs.Counting.{checkpoints_count, checkpoints_drop, early_checkpoints_drop}
 use Rattle.replica_histories.proofs.Entering.{checkpoints_enter}
 use Rattle.replica_histories.proofs.Giving.{kept_are_above}
 use Rattle.replica_histories.proofs.Questions.{others_owe_none}
 use Rattle.replica.specs.declared.taking.DueWork.TheVariants as due_work
-use Rattle.claims.specs.ClaimsView.{ClaimsData}
+use Rattle.pq_sets.specs.PqSetsView.{PqSetsData}
 use Rattle.orderer.specs.State.{OrdererData}
 use Rattle.replica.specs.State.{BothPartsData, AreOne}
 use Rattle.desk.specs.State.{DeskData}
@@ -49,10 +49,10 @@ use Rattle.replica.specs.Going.{AllIsExecuted, IsOneParty, NothingIsLeft}
 use Rattle.orderer.specs.Multicasting.{Multicasts}
 use Rattle.orderer.specs.Going.{CommitsNoMore, IsSameLog, IsVotedAll}
 use Rattle.replica.proofs.Beginning.{IsNoCall, drops, heard_by, none_taken, rests, some_fault}
-use Rattle.replica.proofs.DueCheckpoints.{cut_commits, cut_voted, either, same_cut, settled_claims, settled_desk, settled_orderer, settled_snapshots}
+use Rattle.replica.proofs.DueCheckpoints.{cut_commits, cut_voted, either, same_cut, settled_pq_sets, settled_desk, settled_orderer, settled_snapshots}
 use Rattle.replica_histories.proofs.Counting.{checkpoint_free}
 use Rattle.replica.proofs.Following.{aimed_same, aims, aims_desk}
-use Rattle.replica.proofs.Choosing.{begun_stays, settled_choice}
+use Rattle.replica.proofs.Choosing.{begins_nothing_stays, settled_choice}
 use Rattle.orderer.proofs.Staying.{numbers_alike, numbers_beside, said_on, same_but_checkpoints}
 
 -- ---- the fetch that is due
@@ -146,8 +146,8 @@ module _ (r : BothPartsData) (one : AreOne r.orderer r.desk) (s : ℕ) (entry : 
     abbrev after : LogData
     after = checked_log r.orderer.log s entry
 
-    abbrev checked : ClaimsData → OrdererData
-    checked claims = record r.orderer { log = after; claims = claims }
+    abbrev checked : PqSetsData → OrdererData
+    checked pq_sets = record r.orderer { log = after; pq_sets = pq_sets }
 
     -- a rule takes it
     counts : (c : Configuration) (past : List Entry) (runs : BothPartsMatchHistory c r past) → members c ≡ r.desk.membership → IsTakenBeside c (me_of r) (event_of c r past runs bytes)
@@ -156,8 +156,8 @@ module _ (r : BothPartsData) (one : AreOne r.orderer r.desk) (s : ℕ) (entry : 
       (no_call c known).parts,
     )
 
-    module _ (c : Configuration) (past : List Entry) (runs : BothPartsMatchHistory c r past) (known : members c ≡ r.desk.membership) (claims : ClaimsData)
-        (cuts : CutsClaims r.orderer.log.low r.orderer.claims r.orderer.claims → CutsClaims after.low r.orderer.claims claims) where
+    module _ (c : Configuration) (past : List Entry) (runs : BothPartsMatchHistory c r past) (known : members c ≡ r.desk.membership) (pq_sets : PqSetsData)
+        (cuts : CutsPqSets r.orderer.log.low r.orderer.pq_sets r.orderer.pq_sets → CutsPqSets after.low r.orderer.pq_sets pq_sets) where
       abbrev e : Entry
       e = Got (me_of r) bytes
 
@@ -170,16 +170,16 @@ module _ (r : BothPartsData) (one : AreOne r.orderer r.desk) (s : ℕ) (entry : 
       keeps : KeepsChanges c (me_of r) past e
       keeps = received_keep c (me_of r) past bytes free (subst IsNoBatch (sym (receives c known)) tt) (λ other ne. others_bring_none c (me_of r) other past bytes (no_call c known).changes ne)
 
-      changing : FitsChanges c (me_of r) after (changes_held (checked claims)) (e ∷ past)
-      changing = changes_stay c (me_of r) past e r.orderer.log after (changes_held r.orderer) claims
+      changing : FitsChanges c (me_of r) after (changes_held (checked pq_sets)) (e ∷ past)
+      changing = changes_stay c (me_of r) past e r.orderer.log after (changes_held r.orderer) pq_sets
           (inputs_enter c (me_of r) (desk_of c r.desk) (desk_from after.low (desk_of c r.desk)) r.orderer.log after (fetch_due (desk_of c r.desk) counted entry) past e runs.holds fitting)
           (let same = same_counted r.orderer.log s entry in record { view = same.view; active = same.active }) keeps
-          (cuts (claims_are_above c (me_of r) r.orderer.log past r.orderer.claims runs.holds.of_log.fits runs.changes.claims)) runs.changes
+          (cuts (pq_sets_are_above c (me_of r) r.orderer.log past r.orderer.pq_sets runs.holds.of_log.fits runs.changes.pq_sets)) runs.changes
 
-      enters : FitsEvent c (me_of r) (event_of c r past runs bytes) (checked claims) (desk_from after.low (desk_of c r.desk)) r.desk.waiting (fetch_due (desk_of c r.desk) counted entry) []
+      enters : FitsEvent c (me_of r) (event_of c r past runs bytes) (checked pq_sets) (desk_from after.low (desk_of c r.desk)) r.desk.waiting (fetch_due (desk_of c r.desk) counted entry) []
       enters = record {
         fits = fitting;
-        numbers = numbers_alike c (me_of r) r.desk.waiting r.orderer (checked claims) (desk_of c r.desk) (e ∷ past) (same_counted r.orderer.log s entry) refl
+        numbers = numbers_alike c (me_of r) r.desk.waiting r.orderer (checked pq_sets) (desk_of c r.desk) (e ∷ past) (same_counted r.orderer.log s entry) refl
             (numbers_beside c (me_of r) r.desk.waiting r.orderer (desk_of c r.desk) past e runs.holds.of_log.fits.faults runs.holds.of_log.fits.own
             (record { here = refl; none = free; sends = refl }) runs.numbers);
         said = said_on (me_of r) r.orderer.last_checkpoint past e runs.said;
@@ -194,7 +194,7 @@ module _ (r : BothPartsData) (one : AreOne r.orderer r.desk) (s : ℕ) (entry : 
         ap (λ (d : Desk). d.snapshots) above
 
     module _ (n : BothPartsData) (b : Bool) (settles : StabilizesMarks entry with_it n b) where
-      orderer_is : n.orderer ≡ checked n.orderer.claims
+      orderer_is : n.orderer ≡ checked n.orderer.pq_sets
       orderer_is = settled_orderer entry with_it n b settles
 
       desk_is : n.desk ≡ record r.desk { snapshots = n.desk.snapshots }
@@ -204,7 +204,7 @@ module _ (r : BothPartsData) (one : AreOne r.orderer r.desk) (s : ℕ) (entry : 
           → PartsFitEvent c (event_of c r past runs bytes) n.orderer n.desk (fetch_due (desk_of c r.desk) counted entry) []
       stands c past runs known =
           subst (λ (k : OrdererData). PartsFitEvent c (event_of c r past runs bytes) k n.desk (fetch_due (desk_of c r.desk) counted entry) []) (sym orderer_is)
-          (subst (λ (k : DeskData). PartsFitEvent c (event_of c r past runs bytes) (checked n.orderer.claims) k (fetch_due (desk_of c r.desk) counted entry) []) (sym desk_is) (record {
+          (subst (λ (k : DeskData). PartsFitEvent c (event_of c r past runs bytes) (checked n.orderer.pq_sets) k (fetch_due (desk_of c r.desk) counted entry) []) (sym desk_is) (record {
             is = record {
               members_are = runs.is_desk.members_are;
               period_is = runs.is_desk.period_is;
@@ -212,10 +212,10 @@ module _ (r : BothPartsData) (one : AreOne r.orderer r.desk) (s : ℕ) (entry : 
               calls = runs.is_desk.calls;
               differ = runs.is_desk.differ;
             };
-            fits = subst (λ (xs : List Snapshot). FitsEvent c r.desk.me (event_of c r past runs bytes) (checked n.orderer.claims) (record (desk_of c r.desk) { snapshots = xs }) r.desk.waiting (fetch_due (desk_of c r.desk) counted entry) [])
+            fits = subst (λ (xs : List Snapshot). FitsEvent c r.desk.me (event_of c r past runs bytes) (checked n.orderer.pq_sets) (record (desk_of c r.desk) { snapshots = xs }) r.desk.waiting (fetch_due (desk_of c r.desk) counted entry) [])
                 (settled_snapshots entry with_it n b settles (kept c past runs))
-                (subst (λ (m : ℕ). FitsEvent c m (event_of c r past runs bytes) (checked n.orderer.claims) (desk_from after.low (desk_of c r.desk)) r.desk.waiting (fetch_due (desk_of c r.desk) counted entry) []) (sym one.0)
-                (enters c past runs known n.orderer.claims (settled_claims entry with_it n b settles)));
+                (subst (λ (m : ℕ). FitsEvent c m (event_of c r past runs bytes) (checked n.orderer.pq_sets) (desk_from after.low (desk_of c r.desk)) r.desk.waiting (fetch_due (desk_of c r.desk) counted entry) []) (sym one.0)
+                (enters c past runs known n.orderer.pq_sets (settled_pq_sets entry with_it n b settles)));
           }))
 
       party : IsOneParty r n
@@ -243,9 +243,9 @@ module _ (r : BothPartsData) (one : AreOne r.orderer r.desk) (s : ℕ) (entry : 
       begins = λ c past runs known. (
         subst (λ (due : List Message). PartsFitEvent c (event_of c r past runs bytes) n.orderer n.desk due []) (none_for_stable (desk_of c r.desk) counted entry settles.0) (stands n true settles c past runs known),
         (rests_on n true settles c past runs, subst (λ (k : OrdererData). IsTakenAlone c k.endpoint.me (event_of c r past runs bytes)) (sym (orderer_is n true settles)) (alone c past runs known)),
-        begun_stays c r.orderer n.orderer (subst (λ (k : OrdererData). IsSameLog r.orderer.log k.log) (sym (orderer_is n true settles)) (same_counted r.orderer.log s entry))
+        begins_nothing_stays c r.orderer n.orderer (subst (λ (k : OrdererData). IsSameLog r.orderer.log k.log) (sym (orderer_is n true settles)) (same_counted r.orderer.log s entry))
             (ap (λ (k : OrdererData). k.target) (orderer_is n true settles))
-            (λ off. let k = settled_choice entry with_it n true settles in record { received = k.received; spent = k.spent; logged = k.logged }) runs.begun,
+            (λ off. let k = settled_choice entry with_it n true settles in record { received = k.received; spent = k.spent; logged = k.logged }) runs.nothing_begins,
       );
     }
       where
@@ -255,8 +255,8 @@ module _ (r : BothPartsData) (one : AreOne r.orderer r.desk) (s : ℕ) (entry : 
             (t.0, λ outputs executed. others_owe_none c (me_of r) past (Got (me_of r) bytes) outputs runs.holds.of_desk.point executed t.1)
 
     -- a checkpoint that is counted begins no view
-    still_begun : (c : Configuration) → CannotBegin c r.orderer → CannotBegin c with_it.orderer
-    still_begun c = begun_stays c r.orderer with_it.orderer (same_but_checkpoints r.orderer.log counted.checkpoints) refl (λ off. record { received = refl; spent = refl; logged = λ claim has. has })
+    begins_nothing_still : (c : Configuration) → CannotBegin c r.orderer → CannotBegin c with_it.orderer
+    begins_nothing_still c = begins_nothing_stays c r.orderer with_it.orderer (same_but_checkpoints r.orderer.log counted.checkpoints) refl (λ off. record { received = refl; spent = refl; logged = λ pq_entry has. has })
 
     -- Or they don't, and the replica may fetch a state.
     module _ (unstable : logs.is_stable counted entry ≡ false) where
@@ -266,7 +266,7 @@ module _ (r : BothPartsData) (one : AreOne r.orderer r.desk) (s : ℕ) (entry : 
         begins = λ c past runs known. (
           subst (λ (due : List Message). PartsFitEvent c (event_of c r past runs bytes) with_it.orderer r.desk due []) (none_now c past runs why) (stands with_it false (unstable, refl) c past runs known),
           (rests c r past runs, runs.all, others_owe_none c (me_of r) past (Got (me_of r) bytes) [] runs.holds.of_desk.point r.desk.executed.state.number (no_call c known).parts, inl refl),
-          still_begun c runs.begun,
+          begins_nothing_still c runs.nothing_begins,
         );
       }
         where
@@ -282,7 +282,7 @@ module _ (r : BothPartsData) (one : AreOne r.orderer r.desk) (s : ℕ) (entry : 
         begins = λ c past runs known. (
           asked c past runs known,
           (rests c r past runs, runs.all, others_owe_none c (me_of r) past (Got (me_of r) bytes) (given (me_of r) outs) runs.holds.of_desk.point r.desk.executed.state.number (no_call c known).parts, inr (counts c past runs known).0),
-          still_begun c runs.begun,
+          begins_nothing_still c runs.nothing_begins,
         );
       }
         where

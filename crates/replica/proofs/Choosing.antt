@@ -2,7 +2,7 @@
 use Rattle.std.proofs.Common.{◌≡◌, ℕ, ◌+◌, ◌*◌, ◌%◌, ◌⊎◌, inl, inr, Bool, true, false, List, [], Vec, Option, None, IfNone, refl, sym, ap, ap₂, ◌∙◌, subst}
 use Rattle.std.specs.Prelude.{nat_lt}
 use Rattle.std.specs.declared.alloc.Global.{Global}
-use Rattle.wire_format.specs.Messages.{ViewChangeData, NewViewData, BatchEntryData as Claim, CheckpointEntryData as CheckpointEntry}
+use Rattle.wire_format.specs.Messages.{ViewChangeData, NewViewData, BatchEntryData as PqEntry, CheckpointEntryData as CheckpointEntry}
 use Rattle.authenticator.specs.Membership.{Membership}
 use Rattle.ordering.specs.Log as logs
 use Rattle.ordering.specs.Log.{LogData}
@@ -12,11 +12,11 @@ use Rattle.protocol.specs.System.Trace.{Has}
 use Rattle.protocol.proofs.Words.Elements.{has_filter}
 use Rattle.view_change.specs.declared.changes.Selection.{Selection}
 use Rattle.view_change.specs.declared.changes.Sizes.{Sizes}
-use Rattle.claims.specs.ClaimsView.{ClaimsData}
+use Rattle.pq_sets.specs.PqSetsView.{PqSetsData}
 use Rattle.view_change.specs.ReceivedView.{ReceivedState}
 use Rattle.view_change.specs.Selecting.{meets}
 use Rattle.view_change.specs.Sets.{sized}
-use Rattle.replica_histories.specs.Changes.{CutsClaims}
+use Rattle.replica_histories.specs.Changes.{CutsPqSets}
 use Rattle.replica_histories.specs.Primaries.{SelectsNothing}
 use Rattle.replica_histories.proofs.Primaries.{fewer_select_nothing}
 use Rattle.orderer.specs.State.{OrdererData, IsOrderer}
@@ -30,18 +30,18 @@ use Rattle.replica.specs.Marking.{MovesMarks}
 use Rattle.orderer.proofs.ChangingViews.{of_none}
 use Rattle.orderer.proofs.Parties.{same_choice}
 
--- claims above a mark were claims before
-pub cut_choice : (o : OrdererData) (log : LogData) (low : ℕ) (claims : ClaimsData) → CutsClaims low o.claims claims → KeepsChoice o (record o { log = log; claims = claims })
-cut_choice o log low claims cuts = record {
+-- entries above a mark were entries before
+pub cut_choice : (o : OrdererData) (log : LogData) (low : ℕ) (pq_sets : PqSetsData) → CutsPqSets low o.pq_sets pq_sets → KeepsChoice o (record o { log = log; pq_sets = pq_sets })
+cut_choice o log low pq_sets cuts = record {
   received = refl;
   spent = refl;
-  logged = λ claim has. has_filter (λ x. x ≡ claim) (λ x. nat_lt low x.number) o.claims.logged (subst (λ (xs : List Claim). Has (λ x. x ≡ claim) xs) cuts.logged has);
+  logged = λ pq_entry has. has_filter (λ x. x ≡ pq_entry) (λ x. nat_lt low x.number) o.pq_sets.logged (subst (λ (xs : List PqEntry). Has (λ x. x ≡ pq_entry) xs) cuts.logged has);
 }
 
 moved_choice : (low : ℕ) (old new : BothPartsData) → MovesMarks low old new → KeepsChoice old.orderer new.orderer
-moved_choice low old new (o, (claims, cuts, o_is), new_is) =
+moved_choice low old new (o, (pq_sets, cuts, o_is), new_is) =
     subst (λ (r : BothPartsData). KeepsChoice old.orderer r.orderer) (sym new_is)
-    (subst (λ (x : OrdererData). KeepsChoice old.orderer x) (sym o_is) (cut_choice old.orderer (logs.cut_to old.orderer.log low) (logs.cut_to old.orderer.log low).low claims cuts))
+    (subst (λ (x : OrdererData). KeepsChoice old.orderer x) (sym o_is) (cut_choice old.orderer (logs.cut_to old.orderer.log low) (logs.cut_to old.orderer.log low).low pq_sets cuts))
 
 pub settled_choice : (entry : CheckpointEntry) (old new : BothPartsData) (b : Bool) → StabilizesMarks entry old new b → KeepsChoice old.orderer new.orderer
 settled_choice entry old new true (stable, moves) = moved_choice entry.number old new moves
@@ -49,8 +49,8 @@ settled_choice entry old new false (unstable, same) = subst (λ (r : BothPartsDa
 
 -- ---- so no view can begin that couldn't before
 
-pub begun_stays : (c : Configuration) (old new : OrdererData) → IsSameLog old.log new.log → new.target ≡ old.target → (old.log.active ≡ false → KeepsChoice old new) → CannotBegin c old → CannotBegin c new
-begun_stays c old new log target choice cannot off own = go (choice was_off) (cannot was_off was_own)
+pub begins_nothing_stays : (c : Configuration) (old new : OrdererData) → IsSameLog old.log new.log → new.target ≡ old.target → (old.log.active ≡ false → KeepsChoice old new) → CannotBegin c old → CannotBegin c new
+begins_nothing_stays c old new log target choice cannot off own = go (choice was_off) (cannot was_off was_own)
   where
     was_off : old.log.active ≡ false
     was_off = sym log.active ∙ off
@@ -58,14 +58,14 @@ begun_stays c old new log target choice cannot off own = go (choice was_off) (ca
     was_own : logs.primary old.log old.target ≡ old.log.me
     was_own = ap₂ (λ (t n : ℕ). t % (3 * n + 1)) (sym target) (sym log.faults) ∙ own ∙ log.me
 
-    go : KeepsChoice old new → SelectsNothing c old.target old.received.held old.claims ⊎ (old.spent ≡ 64) → SelectsNothing c new.target new.received.held new.claims ⊎ (new.spent ≡ 64)
+    go : KeepsChoice old new → SelectsNothing c old.target old.received.held old.pq_sets ⊎ (old.spent ≡ 64) → SelectsNothing c new.target new.received.held new.pq_sets ⊎ (new.spent ≡ 64)
     go k (inl nothing) =
-        inl (subst (λ (t : ℕ). SelectsNothing c t new.received.held new.claims) (sym target)
-        (subst (λ (r : ReceivedState). SelectsNothing c old.target r.held new.claims) (sym k.received) (fewer_select_nothing c old.target old.received.held old.claims new.claims k.logged nothing)))
+        inl (subst (λ (t : ℕ). SelectsNothing c t new.received.held new.pq_sets) (sym target)
+        (subst (λ (r : ReceivedState). SelectsNothing c old.target r.held new.pq_sets) (sym k.received) (fewer_select_nothing c old.target old.received.held old.pq_sets new.pq_sets k.logged nothing)))
     go k (inr spent) = inr (k.spent ∙ spent)
 
-pub begun_same : (c : Configuration) (old new : OrdererData) → IsSameOrderer old new → CannotBegin c old → CannotBegin c new
-begun_same c old new same = begun_stays c old new same.log same.target same.choice
+pub begins_nothing_same : (c : Configuration) (old new : OrdererData) → IsSameOrderer old new → CannotBegin c old → CannotBegin c new
+begins_nothing_same c old new same = begins_nothing_stays c old new same.log same.target same.choice
 
 -- an active replica begins no view
 pub active_begins_none : (c : Configuration) (o : OrdererData) → o.log.active ≡ true → CannotBegin c o

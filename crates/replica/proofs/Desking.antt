@@ -68,11 +68,11 @@ pub pays_one : (d : DeskData) (client : ClientId) (kept : Kept) (before after : 
     → Pays d (reply_of client.number kept ∷ rest) before rest after
 pays_one d client kept before after r rest c s o known st = record {
   is = st.is;
-  fits = fits_on c d.me s o o (desk_of c d) d.waiting (reply ∷ rest) rest before after (Sent d.me r.posts.bytes)
-      (emits_one c d.me before after r.output (Sent d.me r.posts.bytes) r.given_is r.posts.sends (r.posts.meant c known))
-      (sent_beside c d.me reply ((256 + client.number) ∷ []) r.posts.bytes (after_outputs s (given d.me before)) tt (r.posts.posted c known))
-      (sent_keep c d.me (after_outputs s (given d.me before)) reply r.posts.bytes (r.posts.posted c known).says tt (λ signed. absurd cc)) (same_log o.log) refl refl refl refl st.fits
-      (replies_fit c d.me s (desk_of c d) o.log rest (given d.me before) client.number kept r.posts.bytes (r.posts.posted c known) st.fits.fits);
+  fits = fits_on c d.me s o o (desk_of c d) d.waiting (reply ∷ rest) rest before after (Sent d.me r.sends_frame.bytes)
+      (emits_one c d.me before after r.output (Sent d.me r.sends_frame.bytes) r.given_is r.sends_frame.sends (r.sends_frame.meant c known))
+      (sent_beside c d.me reply ((256 + client.number) ∷ []) r.sends_frame.bytes (after_outputs s (given d.me before)) tt (r.sends_frame.is_outgoing c known))
+      (sent_keep c d.me (after_outputs s (given d.me before)) reply r.sends_frame.bytes (r.sends_frame.is_outgoing c known).says tt (λ signed. absurd cc)) (same_log o.log) refl refl refl refl st.fits
+      (replies_fit c d.me s (desk_of c d) o.log rest (given d.me before) client.number kept r.sends_frame.bytes (r.sends_frame.is_outgoing c known) st.fits.fits);
 }
   where
     reply : Message

@@ -18,7 +18,7 @@ use Rattle.protocol.proofs.Words.Options.{some_injective}
 use Rattle.replica_histories.specs.Desk.{Snapshot, Desk, point_of, desk_from, kept_from}
 use Rattle.replica_histories.specs.Events as events
 use Rattle.replica_histories.specs.Events.{Start, after_outputs}
-use Rattle.replica_histories.specs.Changes.{CutsClaims, FitsChanges}
+use Rattle.replica_histories.specs.Changes.{CutsPqSets, FitsChanges}
 use Rattle.replica_histories.specs.Marks.{cut_if_stable, checked_log}
 use Rattle.replica_histories.specs.Outputs.{checkpoint_due}
 use Rattle.replica_histories.proofs.Words.{passed}
@@ -27,9 +27,9 @@ use Rattle.replica_histories.proofs.Cutting.{cut_same}
 use Rattle.replica_histories.proofs.Ending.{steps_leave}
 use Rattle.replica_histories.proofs.OwnCheckpoints.{checkpoints_are_latest}
 use Rattle.replica_histories.proofs.ChangesKept.{checkpoints_are_noted}
-use Rattle.replica_histories.proofs.ChangesPassing.{claims_are_above, outputs_pass}
+use Rattle.replica_histories.proofs.ChangesPassing.{pq_sets_are_above, outputs_pass}
 use Rattle.replica_histories.proofs.Giving.{checkpoints_fit, kept_are_above}
-use Rattle.claims.specs.ClaimsView.{ClaimsData}
+use Rattle.pq_sets.specs.PqSetsView.{PqSetsData}
 use Rattle.orderer.specs.State.{OrdererData}
 use Rattle.replica.specs.State.{BothPartsData, AreOne}
 use Rattle.desk.specs.State.{DeskData}
@@ -105,17 +105,17 @@ either P log entry whole cut = go (logs.is_stable log entry)
 -- ---- the orderer sends it
 
 -- the checkpoint is counted, and the log cut if it is stable
-abbrev checking : OrdererData → CheckpointEntry → ClaimsData → OrdererData
-checking o entry claims = record o { log = checked_log o.log o.log.me entry; claims = claims; last_checkpoint = Some entry }
+abbrev checking : OrdererData → CheckpointEntry → PqSetsData → OrdererData
+checking o entry pq_sets = record o { log = checked_log o.log o.log.me entry; pq_sets = pq_sets; last_checkpoint = Some entry }
 
 same_checked : (log : LogData) (entry : CheckpointEntry) → IsSameLog log (checked_log log log.me entry)
 same_checked log entry =
     either (λ (m : LogData). IsSameLog log m) (logs.with_checkpoint_of log log.me entry) entry (record { me = refl; faults = refl; span = refl; view = refl; active = refl; low = omega arith })
     (let s = same_cut (logs.with_checkpoint_of log log.me entry) entry.number in record { me = s.me; faults = s.faults; span = s.span; view = s.view; active = s.active; low = s.low })
 
-module _ (c : Configuration) (s : Start) (o : OrdererData) (desk : Desk) (w : WaitingData) (entry : CheckpointEntry) (claims : ClaimsData) (before after : List Output) (known : members c ≡ o.endpoint.membership)
+module _ (c : Configuration) (s : Start) (o : OrdererData) (desk : Desk) (w : WaitingData) (entry : CheckpointEntry) (pq_sets : PqSetsData) (before after : List Output) (known : members c ≡ o.endpoint.membership)
     (says : Multicasts o (Checkpoint entry.number entry.digest) before after) (voted : IsVotedAll o.log) (f : FitsEvent c o.endpoint.me s o desk w (Checkpoint entry.number entry.digest ∷ []) before)
-    (cuts : CutsClaims o.log.low o.claims o.claims → CutsClaims (checked_log o.log o.log.me entry).low o.claims claims) (here : entry.number ≡ desk.state.number) where
+    (cuts : CutsPqSets o.log.low o.pq_sets o.pq_sets → CutsPqSets (checked_log o.log o.log.me entry).low o.pq_sets pq_sets) (here : entry.number ≡ desk.state.number) where
   abbrev me : ℕ
   me = o.endpoint.me
 
@@ -123,66 +123,66 @@ module _ (c : Configuration) (s : Start) (o : OrdererData) (desk : Desk) (w : Wa
   past = after_outputs s (given me before)
 
   abbrev later : Desk
-  later = desk_from (checking o entry claims).log.low desk
+  later = desk_from (checking o entry pq_sets).log.low desk
 
   said : SaidIn c o (Checkpoint entry.number entry.digest) before after
   said = said_in c o (Checkpoint entry.number entry.digest) before after known says
 
-  fitting : events.BothFitWithinEvent c me s later (checking o entry claims).log [] (Sent me said.bytes ∷ given me before)
+  fitting : events.BothFitWithinEvent c me s later (checking o entry pq_sets).log [] (Sent me said.bytes ∷ given me before)
   fitting = subst (λ (m : ℕ). events.BothFitWithinEvent c me s (desk_from (checked_log o.log m entry).low desk) (checked_log o.log m entry) [] (Sent me said.bytes ∷ given me before)) (sym f.fits.of_log.own)
-      (checkpoints_fit c me s desk o.log [] (given me before) entry said.bytes (λ i. (voted i).0) (λ i. (voted i).1) said.posted f.fits)
+      (checkpoints_fit c me s desk o.log [] (given me before) entry said.bytes (λ i. (voted i).0) (λ i. (voted i).1) said.is_outgoing f.fits)
 
-  numbering : FitsWaiting c me (checking o entry claims) w later (Sent me said.bytes ∷ past)
-  numbering = numbers_alike c me w o (checking o entry claims) desk (Sent me said.bytes ∷ past) (same_checked o.log entry) refl
+  numbering : FitsWaiting c me (checking o entry pq_sets) w later (Sent me said.bytes ∷ past)
+  numbering = numbers_alike c me w o (checking o entry pq_sets) desk (Sent me said.bytes ∷ past) (same_checked o.log entry) refl
       (numbers_beside c me w o desk past (Sent me said.bytes) f.fits.of_log.faults f.fits.of_log.own
-      (sent_beside c me (Checkpoint entry.number entry.digest) (others c me) said.bytes past tt said.posted) f.numbers)
+      (sent_beside c me (Checkpoint entry.number entry.digest) (others c me) said.bytes past tt said.is_outgoing) f.numbers)
 
   -- it is the latest of the replica's own
   latest : latest_checkpoint c me (Sent me said.bytes ∷ past) ≡ Some entry
   latest =
       let point : Point = point_of desk f.fits.of_desk.states f.fits.of_desk.ran in
       let may : MayCheckpoint c past point entry.number entry.digest × (is_number entry.number ≡ true) = f.fits.of_desk.rightly (Checkpoint entry.number entry.digest) (inl refl) in
-      checkpoints_are_latest c me past point entry said.bytes (steps_leave c me s (given me before) point f.fits.of_desk.leaves f.fits.of_desk.steps) may.0 here may.1 said.posted.says
+      checkpoints_are_latest c me past point entry said.bytes (steps_leave c me s (given me before) point f.fits.of_desk.leaves f.fits.of_desk.steps) may.0 here may.1 said.is_outgoing.says
 
-  changing : FitsChanges c me (checking o entry claims).log (changes_held (checking o entry claims)) (Sent me said.bytes ∷ past)
+  changing : FitsChanges c me (checking o entry pq_sets).log (changes_held (checking o entry pq_sets)) (Sent me said.bytes ∷ past)
   changing =
       let same = same_checked o.log entry in
-      checkpoints_are_noted c me past o.log (checking o entry claims).log (changes_held o) claims entry said.bytes
-      (outputs_pass c me s desk later o.log (checking o entry claims).log (Checkpoint entry.number entry.digest ∷ []) [] (given me before) (Sent me said.bytes) f.fits fitting)
-      (record { view = same.view; active = same.active }) said.posted.says latest
-      (cuts (claims_are_above c me o.log past o.claims f.fits.of_log f.changes.claims)) f.changes
+      checkpoints_are_noted c me past o.log (checking o entry pq_sets).log (changes_held o) pq_sets entry said.bytes
+      (outputs_pass c me s desk later o.log (checking o entry pq_sets).log (Checkpoint entry.number entry.digest ∷ []) [] (given me before) (Sent me said.bytes) f.fits fitting)
+      (record { view = same.view; active = same.active }) said.is_outgoing.says latest
+      (cuts (pq_sets_are_above c me o.log past o.pq_sets f.fits.of_log f.changes.pq_sets)) f.changes
 
-  says_due : FitsEvent c me s (checking o entry claims) later w [] after
+  says_due : FitsEvent c me s (checking o entry pq_sets) later w [] after
   says_due = record {
-    fits = subst (λ (es : List Entry). events.BothFitWithinEvent c me s later (checking o entry claims).log [] es) (sym said.is.is) fitting;
-    numbers = subst (λ (es : List Entry). FitsWaiting c me (checking o entry claims) w later (after_outputs s es)) (sym said.is.is) numbering;
+    fits = subst (λ (es : List Entry). events.BothFitWithinEvent c me s later (checking o entry pq_sets).log [] es) (sym said.is.is) fitting;
+    numbers = subst (λ (es : List Entry). FitsWaiting c me (checking o entry pq_sets) w later (after_outputs s es)) (sym said.is.is) numbering;
     said = λ other is. subst (λ (es : List Entry). Once (λ earlier e. IsSending me (Checkpoint other.number other.digest) e) (after_outputs s es)) (sym said.is.is)
-        (inl (subst (λ (z : CheckpointEntry). IsSending me (Checkpoint z.number z.digest) (Sent me said.bytes)) (some_injective entry other is) said.posted.says));
-    changes = subst (λ (es : List Entry). FitsChanges c me (checking o entry claims).log (changes_held (checking o entry claims)) (after_outputs s es)) (sym said.is.is) changing;
+        (inl (subst (λ (z : CheckpointEntry). IsSending me (Checkpoint z.number z.digest) (Sent me said.bytes)) (some_injective entry other is) said.is_outgoing.says));
+    changes = subst (λ (es : List Entry). FitsChanges c me (checking o entry pq_sets).log (changes_held (checking o entry pq_sets)) (after_outputs s es)) (sym said.is.is) changing;
     meant = said.is.meant f.meant;
   }
 
 -- ---- both parts
 
 pub settled_orderer : (entry : CheckpointEntry) (m n : BothPartsData) (b : Bool) → StabilizesMarks entry m n b
-    → n.orderer ≡ record m.orderer { log = cut_if_stable m.orderer.log entry; claims = n.orderer.claims }
-settled_orderer entry m n true (stable, (o, (claims, cuts, o_is), moves)) =
-    subst (λ (r : BothPartsData). r.orderer ≡ record m.orderer { log = cut_if_stable m.orderer.log entry; claims = r.orderer.claims }) (sym moves)
-    (subst (λ (k : OrdererData). k ≡ record m.orderer { log = cut_if_stable m.orderer.log entry; claims = k.claims }) (sym o_is)
-    (ap (λ (b : Bool). let k : OrdererData = record m.orderer { log = cond b (logs.cut_to m.orderer.log entry.number) m.orderer.log; claims = claims } in k) (sym stable)))
+    → n.orderer ≡ record m.orderer { log = cut_if_stable m.orderer.log entry; pq_sets = n.orderer.pq_sets }
+settled_orderer entry m n true (stable, (o, (pq_sets, cuts, o_is), moves)) =
+    subst (λ (r : BothPartsData). r.orderer ≡ record m.orderer { log = cut_if_stable m.orderer.log entry; pq_sets = r.orderer.pq_sets }) (sym moves)
+    (subst (λ (k : OrdererData). k ≡ record m.orderer { log = cut_if_stable m.orderer.log entry; pq_sets = k.pq_sets }) (sym o_is)
+    (ap (λ (b : Bool). let k : OrdererData = record m.orderer { log = cond b (logs.cut_to m.orderer.log entry.number) m.orderer.log; pq_sets = pq_sets } in k) (sym stable)))
 settled_orderer entry m n false (stable, same) =
-    subst (λ (r : BothPartsData). r.orderer ≡ record m.orderer { log = cut_if_stable m.orderer.log entry; claims = r.orderer.claims }) (sym same)
+    subst (λ (r : BothPartsData). r.orderer ≡ record m.orderer { log = cut_if_stable m.orderer.log entry; pq_sets = r.orderer.pq_sets }) (sym same)
     (ap (λ (b : Bool). let k : OrdererData = record m.orderer { log = cond b (logs.cut_to m.orderer.log entry.number) m.orderer.log } in k) (sym stable))
 
--- the claims up to the low mark are dropped
-pub settled_claims : (entry : CheckpointEntry) (m n : BothPartsData) (b : Bool) → StabilizesMarks entry m n b → CutsClaims m.orderer.log.low m.orderer.claims m.orderer.claims
-    → CutsClaims (cut_if_stable m.orderer.log entry).low m.orderer.claims n.orderer.claims
-settled_claims entry m n true (stable, (o, (claims, cuts, o_is), moves)) above =
-    subst (λ (b : Bool). CutsClaims (cond b (logs.cut_to m.orderer.log entry.number) m.orderer.log).low m.orderer.claims n.orderer.claims) (sym stable)
-    (subst (λ (x : ClaimsData). CutsClaims (logs.cut_to m.orderer.log entry.number).low m.orderer.claims x) (sym (ap (λ (r : BothPartsData). r.orderer.claims) moves ∙ ap (λ (k : OrdererData). k.claims) o_is)) cuts)
-settled_claims entry m n false (stable, same) above =
-    subst (λ (b : Bool). CutsClaims (cond b (logs.cut_to m.orderer.log entry.number) m.orderer.log).low m.orderer.claims n.orderer.claims) (sym stable)
-    (subst (λ (r : BothPartsData). CutsClaims m.orderer.log.low m.orderer.claims r.orderer.claims) (sym same) above)
+-- the entries of P and Q up to the low mark are dropped
+pub settled_pq_sets : (entry : CheckpointEntry) (m n : BothPartsData) (b : Bool) → StabilizesMarks entry m n b → CutsPqSets m.orderer.log.low m.orderer.pq_sets m.orderer.pq_sets
+    → CutsPqSets (cut_if_stable m.orderer.log entry).low m.orderer.pq_sets n.orderer.pq_sets
+settled_pq_sets entry m n true (stable, (o, (pq_sets, cuts, o_is), moves)) above =
+    subst (λ (b : Bool). CutsPqSets (cond b (logs.cut_to m.orderer.log entry.number) m.orderer.log).low m.orderer.pq_sets n.orderer.pq_sets) (sym stable)
+    (subst (λ (x : PqSetsData). CutsPqSets (logs.cut_to m.orderer.log entry.number).low m.orderer.pq_sets x) (sym (ap (λ (r : BothPartsData). r.orderer.pq_sets) moves ∙ ap (λ (k : OrdererData). k.pq_sets) o_is)) cuts)
+settled_pq_sets entry m n false (stable, same) above =
+    subst (λ (b : Bool). CutsPqSets (cond b (logs.cut_to m.orderer.log entry.number) m.orderer.log).low m.orderer.pq_sets n.orderer.pq_sets) (sym stable)
+    (subst (λ (r : BothPartsData). CutsPqSets m.orderer.log.low m.orderer.pq_sets r.orderer.pq_sets) (sym same) above)
 
 pub settled_desk : (entry : CheckpointEntry) (m n : BothPartsData) (b : Bool) → StabilizesMarks entry m n b → n.desk ≡ record m.desk { snapshots = n.desk.snapshots }
 settled_desk entry m n true (stable, (o, cuts, moves)) = subst (λ (r : BothPartsData). r.desk ≡ record m.desk { snapshots = r.desk.snapshots }) (sym moves) refl
@@ -203,43 +203,43 @@ module _ (a : BothPartsData) (o : OrdererData) (n : BothPartsData) (entry : Chec
   abbrev counted : LogData
   counted = logs.with_checkpoint_of a.orderer.log a.orderer.log.me entry
 
-  orderer_is : n.orderer ≡ checking a.orderer entry n.orderer.claims
+  orderer_is : n.orderer ≡ checking a.orderer entry n.orderer.pq_sets
   orderer_is = settled_orderer entry (record a { orderer = o }) n b settles
-      ∙ ap (λ (k : OrdererData). let x : OrdererData = record k { log = cut_if_stable k.log entry; claims = n.orderer.claims } in x) says.new_is
+      ∙ ap (λ (k : OrdererData). let x : OrdererData = record k { log = cut_if_stable k.log entry; pq_sets = n.orderer.pq_sets } in x) says.new_is
 
   desk_is : n.desk ≡ record a.desk { snapshots = n.desk.snapshots }
   desk_is = settled_desk entry (record a { orderer = o }) n b settles
 
-  snapshots_are : kept_from a.orderer.log.low a.desk.snapshots ≡ a.desk.snapshots → kept_from (checking a.orderer entry n.orderer.claims).log.low a.desk.snapshots ≡ n.desk.snapshots
+  snapshots_are : kept_from a.orderer.log.low a.desk.snapshots ≡ a.desk.snapshots → kept_from (checking a.orderer entry n.orderer.pq_sets).log.low a.desk.snapshots ≡ n.desk.snapshots
   snapshots_are kept =
       ap (λ (k : OrdererData). kept_from (cut_if_stable k.log entry).low a.desk.snapshots) (sym says.new_is)
       ∙ settled_snapshots entry (record a { orderer = o }) n b settles (ap (λ (k : OrdererData). kept_from k.log.low a.desk.snapshots) says.new_is ∙ kept)
 
-  claims_are : CutsClaims a.orderer.log.low a.orderer.claims a.orderer.claims → CutsClaims (checked_log a.orderer.log a.orderer.log.me entry).low a.orderer.claims n.orderer.claims
-  claims_are above =
-      subst (λ (k : OrdererData). CutsClaims (cut_if_stable k.log entry).low k.claims n.orderer.claims) says.new_is
-      (settled_claims entry (record a { orderer = o }) n b settles (subst (λ (k : OrdererData). CutsClaims k.log.low k.claims k.claims) (sym says.new_is) above))
+  pq_sets_are : CutsPqSets a.orderer.log.low a.orderer.pq_sets a.orderer.pq_sets → CutsPqSets (checked_log a.orderer.log a.orderer.log.me entry).low a.orderer.pq_sets n.orderer.pq_sets
+  pq_sets_are above =
+      subst (λ (k : OrdererData). CutsPqSets (cut_if_stable k.log entry).low k.pq_sets n.orderer.pq_sets) says.new_is
+      (settled_pq_sets entry (record a { orderer = o }) n b settles (subst (λ (k : OrdererData). CutsPqSets k.log.low k.pq_sets k.pq_sets) (sym says.new_is) above))
 
   counted_is_log : IsLog counted
   counted_is_log = subst (λ (k : OrdererData). IsLog k.log) says.new_is is_log
 
-  chosen : KeepsChoice a.orderer (checking a.orderer entry n.orderer.claims)
+  chosen : KeepsChoice a.orderer (checking a.orderer entry n.orderer.pq_sets)
   chosen =
       let k = settled_choice entry (record a { orderer = o }) n b settles in
       record {
         received = refl;
         spent = refl;
-        logged = λ claim has. subst (λ (x : OrdererData). Has (λ y. y ≡ claim) x.claims.logged) says.new_is (k.logged claim has);
+        logged = λ pq_entry has. subst (λ (x : OrdererData). Has (λ y. y ≡ pq_entry) x.pq_sets.logged) says.new_is (k.logged pq_entry has);
       }
 
   abbrev noted : OrdererData
-  noted = checking a.orderer entry n.orderer.claims
+  noted = checking a.orderer entry n.orderer.pq_sets
 
   due_stands : (c : Configuration) (s : Start) → members c ≡ a.desk.membership → IsVotedAll a.orderer.log
       → PartsFitEvent c s a.orderer a.desk (checkpoint_due c a.desk.executed.state) x → PartsFitEvent c s n.orderer n.desk [] y
   due_stands c s known voted st =
       subst (λ (k : OrdererData). PartsFitEvent c s k n.desk [] y) (sym orderer_is)
-      (subst (λ (k : DeskData). PartsFitEvent c s (checking a.orderer entry n.orderer.claims) k [] y) (sym desk_is) (record {
+      (subst (λ (k : DeskData). PartsFitEvent c s (checking a.orderer entry n.orderer.pq_sets) k [] y) (sym desk_is) (record {
         is = record {
           members_are = st.is.members_are;
           period_is = st.is.period_is;
@@ -250,8 +250,8 @@ module _ (a : BothPartsData) (o : OrdererData) (n : BothPartsData) (entry : Chec
         fits = subst (λ (xs : List Snapshot). FitsEvent c a.desk.me s noted (record (desk_of c a.desk) { snapshots = xs }) a.desk.waiting [] y)
             (snapshots_are (ap (λ (d : Desk). d.snapshots) above))
             (subst (λ (m : ℕ). FitsEvent c m s noted (desk_from noted.log.low (desk_of c a.desk)) a.desk.waiting [] y) (sym one.0)
-            (says_due c s a.orderer (desk_of c a.desk) a.desk.waiting entry n.orderer.claims x y (known ∙ one.1) says.says voted
-            (subst (λ (m : ℕ). FitsEvent c m s a.orderer (desk_of c a.desk) a.desk.waiting (Checkpoint entry.number entry.digest ∷ []) x) one.0 fits) claims_are
+            (says_due c s a.orderer (desk_of c a.desk) a.desk.waiting entry n.orderer.pq_sets x y (known ∙ one.1) says.says voted
+            (subst (λ (m : ℕ). FitsEvent c m s a.orderer (desk_of c a.desk) a.desk.waiting (Checkpoint entry.number entry.digest ∷ []) x) one.0 fits) pq_sets_are
             (ap (λ (e : CheckpointEntry). e.number) due.is)));
       }))
     where

@@ -1,5 +1,5 @@
 -- How a new view begins: the batches that are logged, and the votes that are sent.
-use Rattle.std.proofs.Common.{◌≡◌, ◌≢◌, ℕ, suc, ◌+◌, inl, inr, true, false, List, [], ◌∷◌, length, map, Option, Some, refl, sym, ap, ◌∙◌, subst}
+use Rattle.std.proofs.Common.{◌≡◌, ◌≢◌, ℕ, suc, ◌+◌, inl, inr, true, false, List, length, map, Option, Some, refl, sym, ap, ◌∙◌, subst}
 use Rattle.wire_format.specs.Messages.{CheckpointEntryData as CheckpointEntry}
 use Rattle.std.proofs.lemmas.Simd.{map-map}
 use Rattle.events.specs.declared.output.Output.{Output}
@@ -7,7 +7,7 @@ use Rattle.protocol.specs.System.Configuration.{Configuration}
 use Rattle.protocol.specs.Replica.State.{Call, call_of}
 use Rattle.protocol.proofs.Words.Elements.{each_mapped}
 use Rattle.protocol.proofs.Words.Pairs.{pairs_of, all_pairs}
-use Rattle.desk.specs.declared.waiting.BegunCall.{BegunCall}
+use Rattle.desk.specs.declared.waiting.AssignedCall.{AssignedCall}
 use Rattle.replica_histories.specs.Desk.{desk_from}
 use Rattle.replica_histories.proofs.NumbersLists.{pairs_mapped}
 use Rattle.desk.specs.declared.waiting.WaitingRequest.{WaitingRequest}
@@ -21,7 +21,7 @@ use Rattle.desk.specs.Fetching.{SetsTarget}
 use Rattle.replica.specs.Marking.{MovesMarks}
 use Rattle.orderer.specs.EnterView.{entering, LogsBatches, MulticastsVotesOf}
 use Rattle.replica.specs.EnteringViews.{EntersView, FetchesStart}
-use Rattle.desk.specs.Begun.{NotesBegun}
+use Rattle.desk.specs.Assigned.{NotesAssigned}
 use Rattle.desk.specs.DeskOf.{waiting_call, desk_of, IsDeskOf}
 
 -- ---- waiting requests
@@ -30,11 +30,11 @@ abbrev Differ : WaitingRequest → WaitingRequest → Type 0
 Differ r t = r.client.number ≢ t.client.number
 
 -- the desk, if the view begins with these calls and the low mark has moved
-abbrev pub begun_data : ℕ → List BegunCall → DeskData → DeskData
-begun_data low calls d = desk_above low (record d { waiting = with_view calls d.waiting })
+abbrev pub entered_data : ℕ → List AssignedCall → DeskData → DeskData
+entered_data low calls d = desk_above low (record d { waiting = with_view calls d.waiting })
 
-pub begun_is : (c : Configuration) (low : ℕ) (calls : List BegunCall) (d : DeskData) → IsDeskOf c d → IsDeskOf c (begun_data low calls d)
-begun_is c low calls d is = record {
+pub assigned_is : (c : Configuration) (low : ℕ) (calls : List AssignedCall) (d : DeskData) → IsDeskOf c d → IsDeskOf c (entered_data low calls d)
+assigned_is c low calls d is = record {
   members_are = is.members_are;
   period_is = is.period_is;
   rests = is.rests;
@@ -42,9 +42,9 @@ begun_is c low calls d is = record {
   differ = all_pairs Differ (map (renumbered calls) d.waiting.requests) (pairs_mapped Differ (renumbered calls) d.waiting.requests (pairs_of Differ d.waiting.requests is.differ));
 }
 
-pub begun_desk : (c : Configuration) (low : ℕ) (calls : List BegunCall) (d : DeskData) → desk_of c (begun_data low calls d) ≡ desk_from low (desk_of c d)
-begun_desk c low calls d =
-    ap (λ (xs : List Call). record (desk_of c (begun_data low calls d)) { waiting = xs }) (map-map (waiting_call c) (renumbered calls) d.waiting.requests)
+pub entered_desk : (c : Configuration) (low : ℕ) (calls : List AssignedCall) (d : DeskData) → desk_of c (entered_data low calls d) ≡ desk_from low (desk_of c d)
+entered_desk c low calls d =
+    ap (λ (xs : List Call). record (desk_of c (entered_data low calls d)) { waiting = xs }) (map-map (waiting_call c) (renumbered calls) d.waiting.requests)
     ∙ ap (λ (xs : List (List ℕ)). record (desk_from low (desk_of c d)) { frames = xs }) (map-map (λ (r : WaitingRequest). r.frame.items) (renumbered calls) d.waiting.requests)
 
 -- ---- the fetch of the start
@@ -59,7 +59,7 @@ fetch_started entry r new d before after aims same says = inl (d, aims, same, su
 
 pub enters_all : (view : ℕ) (start : CheckpointEntry) (texts : List (List ℕ)) (own : Option (List ℕ)) (r : BothPartsData) (d : DeskData) (o : OrdererData) (cut : BothPartsData) (logged : OrdererData) (fetched : BothPartsData) (last : OrdererData)
     (before said after : List Output)
-    → NotesBegun texts r.desk d → o ≡ entering view (start.number + length texts) own r.orderer → MovesMarks start.number (record r { orderer = o; desk = d }) cut
+    → NotesAssigned texts r.desk d → o ≡ entering view (start.number + length texts) own r.orderer → MovesMarks start.number (record r { orderer = o; desk = d }) cut
     → LogsBatches (suc start.number) texts cut.orderer logged → FetchesStart start (record cut { orderer = logged }) before fetched said
     → MulticastsVotesOf start.number (start.number + length texts) fetched.orderer said last after
     → EntersView view start texts own r before (record fetched { orderer = last }) after

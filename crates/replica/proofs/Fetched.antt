@@ -9,7 +9,7 @@ use Rattle.protocol.specs.Replica.State.{State, pages_of}
 use Rattle.protocol.specs.Replica.Transfers.{NoneAsked}
 use Rattle.protocol.proofs.Words.Options.{some_injective}
 use Rattle.replica_histories.specs.Events.{Start, after_outputs}
-use Rattle.replica_histories.specs.Transfers.{FitsOpenTransfer, TransferMayAsk, AsksNext, IsTold, RestsOnState}
+use Rattle.replica_histories.specs.Transfers.{FitsStateTransfer, TransferMayAsk, AsksNext, IsTold, RestsOnState}
 use Rattle.replica_histories.proofs.Fetching.{transfers_change}
 use Rattle.replica_histories.proofs.Transfers.{may_ask_any, pages_rested}
 use Rattle.replica_histories.proofs.TransfersInstalling.{rested_rests}
@@ -67,8 +67,8 @@ module _ (c : Configuration) (s : Start) (o : OrdererData) (d : DeskData) (w : W
   rested_told rested (inl (same, at)) = subst (λ (x : OpenData). IsTold x.transfer) (sym at) told
   rested_told rested (inr (rests, at)) = (told.0, ap (λ (x : TransferData). x.part_digests) rests.same ∙ told.1)
 
-  rested_open : (rested : OpenData) → IsRestedAt d.executed.state n rested → FitsOpenTransfer c o.endpoint.me (Some n.transfer) d.executed.state.number past → FitsOpenTransfer c o.endpoint.me (Some rested.transfer) d.executed.state.number past
-  rested_open rested (inl (same, at)) fits = subst (λ (x : OpenData). FitsOpenTransfer c o.endpoint.me (Some x.transfer) d.executed.state.number past) (sym at) fits
+  rested_open : (rested : OpenData) → IsRestedAt d.executed.state n rested → FitsStateTransfer c o.endpoint.me (Some n.transfer) d.executed.state.number past → FitsStateTransfer c o.endpoint.me (Some rested.transfer) d.executed.state.number past
+  rested_open rested (inl (same, at)) fits = subst (λ (x : OpenData). FitsStateTransfer c o.endpoint.me (Some x.transfer) d.executed.state.number past) (sym at) fits
   rested_open rested (inr (rests, at)) fits = (pages_rested c o.endpoint.me (pages_of d.executed.state) n.transfer rested.transfer d.executed.state.number past rests).0 fits
 
   rested_on : (rested : OpenData) → IsRestedAt d.executed.state n rested → RestsOnState rested.transfer d.executed.state
@@ -110,7 +110,7 @@ module _ (c : Configuration) (s : Start) (o : OrdererData) (d : DeskData) (w : W
   -- nothing differs any more: it rests on the state, and may ask; and if it fitted, it fits
   pub rests_now : (m : OpenData) → AsksPlace d.executed.state n m None
       → IsDeskOf c (with_transfer m d) × TransferMayAsk c o.endpoint.me m.transfer d.executed.state.number past × RestsOnState m.transfer d.executed.state
-      × (FitsOpenTransfer c o.endpoint.me (Some n.transfer) d.executed.state.number past → FitsEvent c o.endpoint.me s o (desk_of c (with_transfer m d)) w [] outs)
+      × (FitsStateTransfer c o.endpoint.me (Some n.transfer) d.executed.state.number past → FitsEvent c o.endpoint.me s o (desk_of c (with_transfer m d)) w [] outs)
   rests_now m (rested, rests, next, m_is, all) =
       let at = ap (λ (x : OpenData). x.rests_at) m_is ∙ rested_at rested rests in
       let on = subst (λ (x : OpenData). RestsOnState x.transfer d.executed.state) (sym m_is) (rested_on rested rests) in (
@@ -118,6 +118,6 @@ module _ (c : Configuration) (s : Start) (o : OrdererData) (d : DeskData) (w : W
         subst (λ (x : OpenData). TransferMayAsk c o.endpoint.me x.transfer d.executed.state.number past) (sym m_is) (rested_ask rested rests),
         on,
         λ fits.
-            let opened = subst (λ (x : OpenData). FitsOpenTransfer c o.endpoint.me (Some x.transfer) d.executed.state.number past) (sym m_is) (rested_open rested rests fits) in
+            let opened = subst (λ (x : OpenData). FitsStateTransfer c o.endpoint.me (Some x.transfer) d.executed.state.number past) (sym m_is) (rested_open rested rests fits) in
             record { fits = transfers_change c o.endpoint.me s (record (desk_of c d) { transfer = open_one }) o.log [] (given o.endpoint.me outs) (Some m.transfer) opened f.fits; numbers = f.numbers; said = f.said; changes = f.changes; meant = f.meant },
       )

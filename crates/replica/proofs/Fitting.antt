@@ -40,6 +40,6 @@ module _ (c : Configuration) (me : ℕ) (valid : IsConfiguration c) (mine : me <
       said = rw orders.0 (λ entry is. absurd (none-some entry is));
       changes = rw orders.0 (changes_begin c me);
       all = rw (orders.0, desks) (λ next. refl);
-      begun = rw orders.0 (λ off own. absurd (let bad : true ≡ false = off in cc));
+      nothing_begins = rw orders.0 (λ off own. absurd (let bad : true ≡ false = off in cc));
     };
   }

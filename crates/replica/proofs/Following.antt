@@ -1,5 +1,5 @@
 -- The replica starts a transfer to a quorum's checkpoint.
-use Rattle.std.proofs.Common.{◌≡◌, ◌≤◌, ◌<◌, ◌+◌, ◌*◌, ℕ, List, ◌∷◌, Option, Some, None, refl, sym, ◌∙◌, subst, option_map, arith}
+use Rattle.std.proofs.Common.{◌≡◌, ◌≤◌, ◌<◌, ◌+◌, ◌*◌, ℕ, List, ◌∷◌, Option, Some, None, refl, sym, subst, option_map, arith}
 use Rattle.std.specs.Option.{ForSome}
 use Rattle.terms.specs.declared.state.Level.TheVariants as levels
 use Rattle.wire_format.specs.Messages.{MessageData as Message, CheckpointEntryData as CheckpointEntry, fetch as Fetch}
@@ -17,7 +17,7 @@ use Rattle.orderer.specs.State.{OrdererData}
 use Rattle.desk.specs.State.{OpenData, DeskData}
 use Rattle.desk.specs.Waiting.{WaitingData}
 use Rattle.orderer.specs.Fitting.{given, FitsEvent}
-use Rattle.desk.specs.Fetching.{target_number, with_target, fetch_of, opened_transfer}
+use Rattle.desk.specs.Fetching.{target_number, with_target, fetch_of, targeted_transfer}
 use Rattle.desk.specs.DeskOf.{desk_of, RestsAt, IsDeskOf}
 use Rattle.orderer.specs.Multicasting.{Multicasts}
 use Rattle.orderer.proofs.Voting.{asks_due}
@@ -26,20 +26,20 @@ use Rattle.orderer.proofs.Voting.{asks_due}
 
 -- the transfer that the desk has then
 abbrev pub aim_of : CheckpointEntry → DeskData → OpenData
-aim_of entry d = opened_transfer d.executed.state d.transfer entry
+aim_of entry d = targeted_transfer d.executed.state d.transfer entry
 
 -- The fetch is of the root.
-pub asks_root : (st : State) (open_one : Option OpenData) (entry : CheckpointEntry) → fetch_of (opened_transfer st open_one entry).transfer ≡ Fetch entry.number levels.Root 0
+pub asks_root : (st : State) (open_one : Option OpenData) (entry : CheckpointEntry) → fetch_of (targeted_transfer st open_one entry).transfer ≡ Fetch entry.number levels.Root 0
 asks_root st None entry = refl
 asks_root st (Some o) entry = refl
 
 pub opened_same : (st : State) (open_one : Option OpenData) (entry : CheckpointEntry)
-    → transfer_to (option_map (λ o. o.transfer) open_one) entry.number entry.digest (pages_of st) ≡ (opened_transfer st open_one entry).transfer
+    → transfer_to (option_map (λ o. o.transfer) open_one) entry.number entry.digest (pages_of st) ≡ (targeted_transfer st open_one entry).transfer
 opened_same st None entry = refl
 opened_same st (Some o) entry = refl
 
 -- The pages that were not fetched are still the state's.
-opened_rests : (st : State) (open_one : Option OpenData) (entry : CheckpointEntry) → ForSome open_one (RestsAt st) → RestsAt st (opened_transfer st open_one entry)
+opened_rests : (st : State) (open_one : Option OpenData) (entry : CheckpointEntry) → ForSome open_one (RestsAt st) → RestsAt st (targeted_transfer st open_one entry)
 opened_rests st None entry rests = ((omega arith), λ same. started_rests entry.number entry.digest st)
 opened_rests st (Some o) entry rests = rests o refl
 

@@ -19,14 +19,14 @@ use Rattle.protocol.specs.Replica.State.{State, Call}
 use Rattle.replica_histories.specs.Desk.{Desk, Snapshot, snapshot_of, kept_from}
 use Rattle.replica_histories.specs.Events as events
 use Rattle.replica_histories.specs.Events.{Start, after_outputs}
-use Rattle.replica_histories.specs.Changes.{CutsClaims}
+use Rattle.replica_histories.specs.Changes.{CutsPqSets}
 use Rattle.replica_histories.specs.Outputs.{installed_desk}
 use Rattle.replica_histories.specs.Transfers.{TransferMayAsk, RestsOnState}
 use Rattle.replica_histories.proofs.Cutting.{cut_low}
 use Rattle.replica_histories.proofs.Installing.{installations_fit}
 use Rattle.replica_histories.proofs.ChangesKept.{silent_keep}
 use Rattle.desk.specs.declared.waiting.WaitingRequest.{WaitingRequest}
-use Rattle.claims.specs.ClaimsView.{ClaimsData}
+use Rattle.pq_sets.specs.PqSetsView.{PqSetsData}
 use Rattle.orderer.specs.State.{OrdererData}
 use Rattle.replica.specs.State.{BothPartsData, AreOne}
 use Rattle.desk.specs.State.{OpenData, DeskData}
@@ -75,9 +75,9 @@ none_some x P e = absurd cc
 
 -- ---- after an installation
 
--- the orderer with its log cut, and these claims
-abbrev cut_orderer : ℕ → ClaimsData → OrdererData → OrdererData
-cut_orderer number claims o = record o { log = logs.cut_to o.log number; claims = claims }
+-- the orderer with its log cut, and these sets P and Q
+abbrev cut_orderer : ℕ → PqSetsData → OrdererData → OrdererData
+cut_orderer number pq_sets o = record o { log = logs.cut_to o.log number; pq_sets = pq_sets }
 
 record IsInstalled (a : BothPartsData) (m : OpenData) (number : Number) (root : List ℕ) (st : State) (b : BothPartsData) : Type 0 where
   has : HasPagesAt m.transfer.number m.transfer.held st
@@ -85,17 +85,17 @@ record IsInstalled (a : BothPartsData) (m : OpenData) (number : Number) (root : 
   below : Each (λ x. x.number ≤ a.desk.executed.state.number) a.desk.snapshots
   number_is : number.0 ≡ m.transfer.number
   root_is : root ≡ m.transfer.root
-  claims : ClaimsData
-  cuts : CutsClaims (logs.cut_to a.orderer.log m.transfer.number).low a.orderer.claims claims
+  pq_sets : PqSetsData
+  cuts : CutsPqSets (logs.cut_to a.orderer.log m.transfer.number).low a.orderer.pq_sets pq_sets
   new_is : b ≡ record a {
-    orderer = cut_orderer m.transfer.number claims a.orderer;
+    orderer = cut_orderer m.transfer.number pq_sets a.orderer;
     desk = with_state st (logs.cut_to a.orderer.log m.transfer.number).low a.desk;
   }
 
 module _ (c : Configuration) (s : Start) (a : BothPartsData) (m : OpenData) (before after : List Output) (st : State)
     (g : IsFetched c s a m before) (has : HasPagesAt m.transfer.number m.transfer.held st) (falls : NoneFalls a.desk.executed.state st)
     (below : Each (λ x. x.number ≤ a.desk.executed.state.number) a.desk.snapshots) (voted : IsVotedAll a.orderer.log)
-    (claims : ClaimsData) (cuts : CutsClaims (logs.cut_to a.orderer.log m.transfer.number).low a.orderer.claims claims)
+    (pq_sets : PqSetsData) (cuts : CutsPqSets (logs.cut_to a.orderer.log m.transfer.number).low a.orderer.pq_sets pq_sets)
     (gives : EmitsOne c (me_of a) before after (Installed (me_of a) m.transfer.number m.transfer.root)) where
   abbrev me : ℕ
   me = a.orderer.endpoint.me
@@ -151,7 +151,7 @@ module _ (c : Configuration) (s : Start) (a : BothPartsData) (m : OpenData) (bef
       (λ i. (voted i).0) (λ i. (voted i).1) (frames_behind st a.desk) g.fits.fits)
 
   abbrev new : OrdererData
-  new = cut_orderer m.transfer.number claims a.orderer
+  new = cut_orderer m.transfer.number pq_sets a.orderer
 
   numbering : FitsWaiting c me new installed.waiting later (e ∷ past)
   numbering = numbers_alike c me installed.waiting a.orderer new later (e ∷ past) (same_cut a.orderer.log m.transfer.number) refl
@@ -174,18 +174,18 @@ same_open x y e = some_injective x y e
 
 installs_so : (a b : BothPartsData) (d : DeskData) (m : OpenData) (number : Number) (root : List ℕ) → a.desk.transfer ≡ Some m → InstallsHeldPages a.desk d (Some (entry_for number root)) → MovesMarks number.0 (record a { desk = d }) b
     → IsInstalled a m number root d.executed.state b
-installs_so a b d m number root there (o, is_open, entry_is, has, falls, d_is, below) (x, (claims, cuts, x_is), moves) = record {
+installs_so a b d m number root there (o, is_open, entry_is, has, falls, d_is, below) (x, (pq_sets, cuts, x_is), moves) = record {
   has = subst (λ (y : OpenData). HasPagesAt y.transfer.number y.transfer.held d.executed.state) same has;
   falls = falls;
   below = below;
   number_is = at;
   root_is = ap (λ (y : CheckpointEntry). y.digest) entry_is ∙ ap (λ (y : OpenData). y.transfer.root) same;
-  claims = claims;
-  cuts = subst (λ (n : ℕ). CutsClaims (logs.cut_to a.orderer.log n).low a.orderer.claims claims) at cuts;
+  pq_sets = pq_sets;
+  cuts = subst (λ (n : ℕ). CutsPqSets (logs.cut_to a.orderer.log n).low a.orderer.pq_sets pq_sets) at cuts;
   new_is = moves
       ∙ ap (λ (k : OrdererData). let new : BothPartsData = record a { orderer = k; desk = desk_above (logs.cut_to a.orderer.log number.0).low d } in new) x_is
-      ∙ ap (λ (n : ℕ). let new : BothPartsData = record a { orderer = cut_orderer n claims a.orderer; desk = desk_above (logs.cut_to a.orderer.log n).low d } in new) at
-      ∙ ap (λ (y : DeskData). let new : BothPartsData = record a { orderer = cut_orderer m.transfer.number claims a.orderer; desk = desk_above (logs.cut_to a.orderer.log m.transfer.number).low y } in new) d_is;
+      ∙ ap (λ (n : ℕ). let new : BothPartsData = record a { orderer = cut_orderer n pq_sets a.orderer; desk = desk_above (logs.cut_to a.orderer.log n).low d } in new) at
+      ∙ ap (λ (y : DeskData). let new : BothPartsData = record a { orderer = cut_orderer m.transfer.number pq_sets a.orderer; desk = desk_above (logs.cut_to a.orderer.log m.transfer.number).low y } in new) d_is;
 }
   where
     same : o ≡ m
@@ -194,9 +194,9 @@ installs_so a b d m number root there (o, is_open, entry_is, has, falls, d_is, b
     at : number.0 ≡ m.transfer.number
     at = ap (λ (x : CheckpointEntry). x.number) entry_is ∙ ap (λ (x : OpenData). x.transfer.number) same
 
-installed_party : (a : BothPartsData) (n : ℕ) (claims : ClaimsData) (st : State) (low : ℕ) → CutsClaims (logs.cut_to a.orderer.log n).low a.orderer.claims claims → IsSameParty a (record a { orderer = cut_orderer n claims a.orderer; desk = with_state st low a.desk })
-installed_party a n claims st low cuts = record {
-  orderer = record { endpoint = refl; log = same_cut a.orderer.log n; target = refl; choice = λ off. cut_choice a.orderer (logs.cut_to a.orderer.log n) (logs.cut_to a.orderer.log n).low claims cuts };
+installed_party : (a : BothPartsData) (n : ℕ) (pq_sets : PqSetsData) (st : State) (low : ℕ) → CutsPqSets (logs.cut_to a.orderer.log n).low a.orderer.pq_sets pq_sets → IsSameParty a (record a { orderer = cut_orderer n pq_sets a.orderer; desk = with_state st low a.desk })
+installed_party a n pq_sets st low cuts = record {
+  orderer = record { endpoint = refl; log = same_cut a.orderer.log n; target = refl; choice = λ off. cut_choice a.orderer (logs.cut_to a.orderer.log n) (logs.cut_to a.orderer.log n).low pq_sets cuts };
   me = refl;
   membership = refl;
 }
@@ -211,7 +211,7 @@ number_reached a b m before after there (d, number, root, installs, gives, moves
 pub moved_party : (a b : BothPartsData) (m : OpenData) (before after : List Output) → a.desk.transfer ≡ Some m → InstallsFetchedState a before b after true → IsSameParty a b
 moved_party a b m before after there (d, number, root, installs, gives, moves) =
     let i = installs_so a b d m number root there installs moves in
-    subst (λ (r : BothPartsData). IsSameParty a r) (sym i.new_is) (installed_party a m.transfer.number i.claims d.executed.state (logs.cut_to a.orderer.log m.transfer.number).low i.cuts)
+    subst (λ (r : BothPartsData). IsSameParty a r) (sym i.new_is) (installed_party a m.transfer.number i.pq_sets d.executed.state (logs.cut_to a.orderer.log m.transfer.number).low i.cuts)
 
 -- The replica installs the fetched state.
 pub installs_fetched : (c : Configuration) (s : Start) (a b : BothPartsData) (m : OpenData) (before after : List Output) → AreOne a.orderer a.desk → IsFetched c s a m before → IsVotedAll a.orderer.log
@@ -225,9 +225,9 @@ installs_fetched c s a b m before after one g voted (d, number, root, installs, 
     (ap (λ (n : ℕ). Installed (me_of a) n root) i.number_is ∙ ap (λ (r : List ℕ). Installed (me_of a) m.transfer.number r) i.root_is) tt in
     subst (λ (r : BothPartsData). PartsFitEvent c s r.orderer r.desk [] after × IsVotedAll r.orderer.log) (sym i.new_is) (
       record {
-        is = installed_is c s a m before after st g i.has i.falls i.below voted i.claims i.cuts is;
-        fits = subst (λ (k : ℕ). FitsEvent c k s (cut_orderer m.transfer.number i.claims a.orderer) (desk_of c later) later.waiting [] after)
-            (sym one.0) (installed_fits c s a m before after st g i.has i.falls i.below voted i.claims i.cuts is);
+        is = installed_is c s a m before after st g i.has i.falls i.below voted i.pq_sets i.cuts is;
+        fits = subst (λ (k : ℕ). FitsEvent c k s (cut_orderer m.transfer.number i.pq_sets a.orderer) (desk_of c later) later.waiting [] after)
+            (sym one.0) (installed_fits c s a m before after st g i.has i.falls i.below voted i.pq_sets i.cuts is);
       },
       cut_voted a.orderer.log m.transfer.number g.fits.fits.of_log.is_log voted,
     )

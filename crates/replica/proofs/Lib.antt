@@ -31,7 +31,7 @@ pub mod EnteringViews
 pub mod StartsFetched
 pub mod ViewsEntered
 pub mod NewViewsCome
-pub mod BegunViews
+pub mod EnteredViews
 pub mod OwnViews
 pub mod ReadMarks
 pub mod IdleEntries

@@ -3,7 +3,7 @@ use Rattle.std.proofs.Common.{◌≡◌, ℕ, ap, ◌∙◌}
 use Rattle.orderer.specs.State.{OrdererData}
 use Rattle.replica.specs.State.{BothPartsData}
 use Rattle.desk.specs.State.{DeskData}
-use Rattle.orderer.specs.Claiming.{CutsLog}
+use Rattle.orderer.specs.PqSets.{CutsLog}
 use Rattle.desk.specs.Desking.{desk_above}
 use Rattle.replica.specs.Marking.{MovesMarks}
 

@@ -27,7 +27,7 @@ use Rattle.replica_histories.specs.Desk.{desk_from}
 use Rattle.replica_histories.specs.Events as histories
 use Rattle.replica_histories.specs.Events.{IsTaken}
 use Rattle.replica_histories.specs.Inputs.{IsBesideLog, replies_again}
-use Rattle.replica_histories.specs.Views.{begun_log, start_due}
+use Rattle.replica_histories.specs.Views.{entered_log, start_due}
 use Rattle.replica_histories.proofs.Beginning.{start_small, new_small, still_brings}
 use Rattle.replica_histories.proofs.ChangesKept.{got_keep, others_bring_none}
 use Rattle.replica_histories.proofs.ChangesPassing.{inputs_enter}
@@ -156,7 +156,7 @@ module _ (judge : NewViewsAreJudged) (decide : SizesDecide) (r : BothPartsData) 
     begins = λ c past runs known. (
       untaken_stands c past runs known (refused_untaken judge c me sender past new bytes (receives c known) (λ none. refused (sym (judged c past runs known) ∙ none))),
       (rests c r past runs, runs.all, others_owe_none c me past e [] runs.holds.of_desk.point r.desk.executed.state.number (asks_no_part c known), inl refl),
-      runs.begun,
+      runs.nothing_begins,
     );
   }
 
@@ -164,11 +164,11 @@ module _ (judge : NewViewsAreJudged) (decide : SizesDecide) (r : BothPartsData) 
 
   module _ (clients : r.desk.executed.clients ≡ r.desk.membership.clients) (n : BothPartsData) (outs : List Output) (x : Entered new None r [] n outs) (c : Configuration) (past : List Entry) (runs : BothPartsMatchHistory c r past)
       (known : members c ≡ r.desk.membership) (t : taken c past e ≡ Some new) where
-    begins_it : histories.BothFitWithinEvent c me (event_of c r past runs bytes) (desk_from (begun_log r.orderer.log new).low (desk_of c r.desk)) (begun_log r.orderer.log new) (start_due (desk_of c r.desk) new) []
+    begins_it : histories.BothFitWithinEvent c me (event_of c r past runs bytes) (desk_from (entered_log r.orderer.log new).low (desk_of c r.desk)) (entered_log r.orderer.log new) (start_due (desk_of c r.desk) new) []
     begins_it = new_views_enter c me (desk_of c r.desk) r.orderer.log past sender new bytes runs.holds (receives c known) t
 
-    passes : LogPassesEntry c me past e r.orderer.log (begun_log r.orderer.log new)
-    passes = inputs_enter c me (desk_of c r.desk) (desk_from (begun_log r.orderer.log new).low (desk_of c r.desk)) r.orderer.log (begun_log r.orderer.log new) (start_due (desk_of c r.desk) new) past e runs.holds begins_it
+    passes : LogPassesEntry c me past e r.orderer.log (entered_log r.orderer.log new)
+    passes = inputs_enter c me (desk_of c r.desk) (desk_from (entered_log r.orderer.log new).low (desk_of c r.desk)) r.orderer.log (entered_log r.orderer.log new) (start_due (desk_of c r.desk) new) past e runs.holds begins_it
 
     taken_stands : PartsFitEvent c (event_of c r past runs bytes) n.orderer n.desk [] outs
     taken_stands = entered_stands c (event_of c r past runs bytes) r new None [] past e sender one clients runs.is_desk refl tt begins_it passes t (receives c known) (not_mine c me past sender new bytes (receives c known) t) (omega arith, λ sent leaf is now. absurd now, λ leaf l. inl l) runs.said runs.changes n outs x

@@ -30,7 +30,7 @@ use Rattle.replica.specs.State.{BothPartsData, AreOne}
 use Rattle.desk.specs.State.{DeskData}
 use Rattle.desk.specs.Waiting.{WaitingData, texts, frames_waiting, all_unnumbered, unnumbered, count_unnumbered, all_numbered, with_numbered}
 use Rattle.orderer.specs.Flags.{FitsFlags, flagged}
-use Rattle.desk.specs.Begun.{begun_of}
+use Rattle.desk.specs.Assigned.{assigned_of}
 use Rattle.desk.specs.DeskOf.{waiting_call, waiting_calls, desk_of, SpellCalls, AreOfDifferentClients}
 use Rattle.replica.specs.Desks.{PartsFitEvent}
 use Rattle.replica.specs.Going.{GoesOnWith, IsSameParty, FitIsKept, NothingIsLeft}
@@ -198,7 +198,7 @@ module _ (number : ℕ) (a b : BothPartsData) (x y : List Output) (one : AreOne 
         let same : numbers.next_number c me past a.orderer.used ≡ number = ap (λ (l : ℕ). suc (max l a.orderer.used)) of_log.low ∙ sym is_next in
         let marks : is_in_marks c (low c me past) number ≡ true = marks_are c me a.orderer.log past number of_log ∙ inside in
         subst (λ (i : ℕ). IsFree c me past a.desk.executed.state.number a.orderer.log.view i) same
-        (next_is_free c me a.orderer.log.view a.orderer.used (begun_of w.begun) (flagged c w.requests) a.desk.executed.state (waiting_calls c w.requests) past (fits.numbers primary) (
+        (next_is_free c me a.orderer.log.view a.orderer.used (assigned_of w.assigned) (flagged c w.requests) a.desk.executed.state (waiting_calls c w.requests) past (fits.numbers primary) (
           subst (λ (i : ℕ). is_in_marks c (low c me past) i ≡ true) (sym same) marks,
           subst (λ (i : ℕ). i ≤ a.desk.executed.state.number + 2) (sym same) near,
         ))

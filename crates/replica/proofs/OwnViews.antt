@@ -11,7 +11,6 @@ use Rattle.wire_format.specs.Lists.{Each}
 use Rattle.wire_format.specs.Messages.{NewViewData, ViewChangeData, new_view as NewView}
 use Rattle.wire_format.specs.Words.{requests_of, requests_of_all, carried}
 use Rattle.wire_format.proofs.Telling.{reads_requests}
-use Rattle.ordering.specs.Log as logs
 use Rattle.ordering.specs.Keeping.{IsLog}
 use Rattle.events.specs.declared.output.Output.{Output}
 use Rattle.protocol.specs.System.Configuration.{Configuration, members, primary, span}
@@ -29,18 +28,18 @@ use Rattle.view_change.specs.ReceivedView.{judging_configuration}
 use Rattle.view_change.specs.Selecting.{AreFrom, how_many_from, meets}
 use Rattle.view_change.specs.Sets.{sized, texts_of}
 use Rattle.replica_histories.specs.Changes.{FitsChanges}
-use Rattle.replica_histories.specs.Claims.{WasLogged}
+use Rattle.replica_histories.specs.PqSets.{WasLogged}
 use Rattle.replica_histories.specs.Desk.{Desk, desk_from}
 use Rattle.replica_histories.specs.Events as events
 use Rattle.replica_histories.specs.Events.{Start, after_outputs}
-use Rattle.replica_histories.specs.Views.{begun_log, start_due}
-use Rattle.replica_histories.proofs.Batches.{begun_view}
+use Rattle.replica_histories.specs.Views.{entered_log, start_due}
+use Rattle.replica_histories.proofs.Batches.{entered_view}
 use Rattle.replica_histories.proofs.Beginning.{start_small}
-use Rattle.replica_histories.proofs.ChangesMade.{views_are_begun}
+use Rattle.replica_histories.proofs.ChangesMade.{changes_follow_new_views}
 use Rattle.replica_histories.proofs.ChangesPassing.{outputs_pass}
 use Rattle.replica_histories.proofs.Leaves.{next_leaf_is_own, next_is_spent}
 use Rattle.replica_histories.proofs.NewViews.{new_views_fit}
-use Rattle.replica_histories.proofs.NumbersBegun.{logs_are_of_no_later_view}
+use Rattle.replica_histories.proofs.NumbersAssigned.{logs_are_of_no_later_view}
 use Rattle.replica_histories.proofs.Seeing.{logged_are_seen}
 use Rattle.replica_histories.proofs.Words.{primary_same}
 use Rattle.orderer.specs.State.{OrdererData, IsOrderer}
@@ -48,15 +47,15 @@ use Rattle.replica.specs.State.{BothPartsData, AreOne}
 use Rattle.desk.specs.Waiting.{with_view}
 use Rattle.desk.specs.DeskOf.{desk_of, IsDeskOf}
 use Rattle.replica.specs.Beginning.{BeginsView}
-use Rattle.orderer.specs.Claiming.{MulticastsFrame}
+use Rattle.orderer.specs.PqSets.{MulticastsFrame}
 use Rattle.replica.specs.Desks.{PartsFitEvent}
 use Rattle.replica.specs.EnteringViews.{EntersView}
 use Rattle.orderer.specs.Flags.{FitsFlags}
 use Rattle.orderer.specs.Fitting.{given, changes_held, FitsEvent, FitsWaiting}
 use Rattle.orderer.specs.EnterView.{IsSelection, MaySignView, SignsView, new_view_of}
 use Rattle.replica.specs.Going.{NothingIsLeft}
-use Rattle.replica.proofs.BegunViews.{Begins, begins, begun_orderer, begun_stands, all_voted, one_active, one_party, one_target, start_of}
-use Rattle.orderer.proofs.Flags.{flags_begun}
+use Rattle.replica.proofs.EnteredViews.{Begins, begins, entered_orderer, entered_log_stands, all_voted, one_active, one_party, one_target, start_of}
+use Rattle.orderer.proofs.Flags.{flags_assigned}
 use Rattle.orderer.proofs.Staying.{fits_behind, EmitsOne, emits_one}
 
 -- ---- sizes
@@ -91,7 +90,7 @@ frames_are P v (Some x ∷ held) f = go (x.change.view == v) (frames_are P v hel
     go true e = (f zero x refl, e)
     go false e = e
 
--- the requests of claimed batches
+-- the requests of batches of Q
 requests_are : (P : List ℕ → Type 0) (texts batches : List (List ℕ)) → ((text : List ℕ) → Has (λ t. t ≡ text) texts → Each P (requests_of text)) → AreFrom texts batches → Each P (requests_of_all batches)
 requests_are P texts [] f from = tt
 requests_are P texts (batch ∷ batches) f from = each_append P (requests_of batch) (requests_of_all batches) (go from.0) (requests_are P texts batches f from.1)
@@ -114,8 +113,8 @@ module _ (decide : SizesDecide) (o : OrdererData) (start : ℕ) (root frame : Li
 
   module _ (c : Configuration) (past : List Entry) (known : members c ≡ o.endpoint.membership) (period : c.period ≡ o.received.sizes.period)
       (faults : o.log.faults ≡ c.faults) (is_me : o.log.me ≡ me) (is_view : view c past ≡ o.log.view) (is_active : nat_le (target past) o.log.view ≡ o.log.active) (is_target : target past ≡ o.target) where
-    pub posted : IsOutgoing c me (NewView new) [] frame
-    posted = signs.signed c known
+    pub is_outgoing : IsOutgoing c me (NewView new) [] frame
+    is_outgoing = signs.signed c known
 
     alike : AreAlikeConfigurations c (judging_configuration o.received)
     alike = record { seed = ap (λ m. m.seed) known ∙ sym own.2; faults = ap (λ m. m.faults) known ∙ sym own.3; period = period }
@@ -134,7 +133,7 @@ module _ (decide : SizesDecide) (o : OrdererData) (start : ℕ) (root frame : Li
 
     brings : new_view_in c (Sent me frame) ≡ Some new
     brings =
-        ap (option_and_then (new_view_from c)) posted.says
+        ap (option_and_then (new_view_from c)) is_outgoing.says
         ∙ ap (λ (b : Bool). then_some b new) (and_from (me == primary c new.view) (may_select c new) (eq-eqb me (primary c new.view) (sym is_primary)) right)
 
     pub is_taken : taken c past (Sent me frame) ≡ Some new
@@ -146,8 +145,8 @@ module _ (decide : SizesDecide) (o : OrdererData) (start : ℕ) (root frame : Li
     is_seen x =
         each_append (λ bytes. Once (HasSeen bytes) past) (frames_for o.target o.received.held) (requests_of_all texts)
         (frames_are (λ bytes. Once (HasSeen bytes) past) o.target o.received.held x.received.seen)
-        (requests_are (λ bytes. Once (HasSeen bytes) past) o.claims.texts texts
-        (λ text has. let was : WasLogged c me past text = each_has (WasLogged c me past) o.claims.texts text x.claims.texts has in logged_are_seen c me was.0 was.1 text past was.2) sel.from)
+        (requests_are (λ bytes. Once (HasSeen bytes) past) o.pq_sets.texts texts
+        (λ text has. let was : WasLogged c me past text = each_has (WasLogged c me past) o.pq_sets.texts text x.pq_sets.texts has in logged_are_seen c me was.0 was.1 text past was.2) sel.from)
 
 -- ---- all stands after it
 
@@ -174,11 +173,11 @@ module _ (decide : SizesDecide) (r : BothPartsData) (start : ℕ) (root frame : 
   k : Begins its (Some frame) (signing r) said n after
   k = begins its (Some frame) (signing r) said n after is_log small enters
 
-  abbrev begun : OrdererData
-  begun = begun_orderer (signing r).orderer its (Some frame) k.claims
+  abbrev assigned : OrdererData
+  assigned = entered_orderer (signing r).orderer its (Some frame) k.pq_sets
 
   abbrev low : ℕ
-  low = (begun_log o.log its).low
+  low = (entered_log o.log its).low
 
   module _ (c : Configuration) (s : Start) (known : members c ≡ r.desk.membership) (rests : NothingIsLeft r) (is : IsDeskOf c r.desk) (f : FitsEvent c mine s o (desk_of c r.desk) r.desk.waiting [] before) where
     abbrev desk : Desk
@@ -197,7 +196,7 @@ module _ (decide : SizesDecide) (r : BothPartsData) (start : ℕ) (root frame : 
     period = is.period_is ∙ sym one.2
 
     signed : IsOutgoing c mine (NewView its) [] frame
-    signed = posted decide o start root frame texts own sel signs c past to period f.fits.of_log.faults own.0 f.fits.of_log.view f.fits.of_log.active f.changes.target
+    signed = is_outgoing decide o start root frame texts own sel signs c past to period f.fits.of_log.faults own.0 f.fits.of_log.view f.fits.of_log.active f.changes.target
 
     leads : primary c its.view ≡ mine
     leads = is_primary decide o start root frame texts own sel signs c past to period f.fits.of_log.faults own.0 f.fits.of_log.view f.fits.of_log.active f.changes.target
@@ -208,35 +207,35 @@ module _ (decide : SizesDecide) (r : BothPartsData) (start : ℕ) (root frame : 
     seen : Each (λ bytes. Once (HasSeen bytes) past) (carried (NewView its))
     seen = is_seen decide o start root frame texts own sel signs c past to period f.fits.of_log.faults own.0 f.fits.of_log.view f.fits.of_log.active f.changes.target f.changes
 
-    on : events.BothFitWithinEvent c mine s (desk_from low desk) (begun_log o.log its) (start_due desk its) (e ∷ given mine before)
+    on : events.BothFitWithinEvent c mine s (desk_from low desk) (entered_log o.log its) (start_due desk its) (e ∷ given mine before)
     on =
         new_views_fit c mine s desk o.log (given mine before) its frame (λ i. (rests.0 i).1) rests.1 leads takes seen signed
         (next_leaf_is_own frame o.spent past signs.by_leaf f.changes.leaves) f.fits
 
-    changes : FitsChanges c mine (begun_log o.log its) (changes_held begun) (e ∷ past)
+    changes : FitsChanges c mine (entered_log o.log its) (changes_held assigned) (e ∷ past)
     changes =
-        views_are_begun c mine past e o.log (changes_held o) its (Some frame) k.claims mine (o.spent + 1)
-        (outputs_pass c mine s desk (desk_from low desk) o.log (begun_log o.log its) [] (start_due desk its) (given mine before) e f.fits on)
+        changes_follow_new_views c mine past e o.log (changes_held o) its (Some frame) k.pq_sets mine (o.spent + 1)
+        (outputs_pass c mine s desk (desk_from low desk) o.log (entered_log o.log its) [] (start_due desk its) (given mine before) e f.fits on)
         takes signed.says k.kept (refl, leads, signed) (next_is_spent mine o.spent past frame signs.by_leaf) f.changes
 
-    numbers : FitsWaiting c mine begun (with_view k.calls r.desk.waiting) (desk_from low desk) (e ∷ past)
+    numbers : FitsWaiting c mine assigned (with_view k.calls r.desk.waiting) (desk_from low desk) (e ∷ past)
     numbers own =
-        subst (λ (v : ℕ). FitsFlags c mine v begun.used (with_view k.calls r.desk.waiting) desk.state desk.waiting (e ∷ past)) (sym (begun_view o.log its is_log small))
-        (flags_begun c mine r.desk.waiting k.calls desk.state past e its is.differ takes (logs_are_of_no_later_view c mine o.log past f.fits.of_log)
+        subst (λ (v : ℕ). FitsFlags c mine v assigned.used (with_view k.calls r.desk.waiting) desk.state desk.waiting (e ∷ past)) (sym (entered_view o.log its is_log small))
+        (flags_assigned c mine r.desk.waiting k.calls desk.state past e its is.differ takes (logs_are_of_no_later_view c mine o.log past f.fits.of_log)
         (k.are c (ap (λ m. m.clients) known ∙ sym clients)))
 
     gives : EmitsOne c mine before said e
     gives = emits_one c mine before said says.output e says.given_is says.sends.sends (says.sends.meant c (NewView its) to signed)
 
-    fits : FitsEvent c mine s begun (desk_from low desk) (with_view k.calls r.desk.waiting) (start_due desk its) said
+    fits : FitsEvent c mine s assigned (desk_from low desk) (with_view k.calls r.desk.waiting) (start_due desk its) said
     fits =
-        fits_behind c mine s o begun desk (desk_from low desk) r.desk.waiting (with_view k.calls r.desk.waiting) [] (start_due desk its) before said e gives refl f on numbers changes
+        fits_behind c mine s o assigned desk (desk_from low desk) r.desk.waiting (with_view k.calls r.desk.waiting) [] (start_due desk its) before said e gives refl f on numbers changes
 
     once : Once (λ earlier x. taken c earlier x ≡ Some its) (after_outputs s (given mine said))
     once = subst (λ (es : List Entry). Once (λ earlier x. taken c earlier x ≡ Some its) (after_outputs s es)) (sym gives.is) (inl takes)
 
     stands : PartsFitEvent c s n.orderer n.desk [] after
-    stands = begun_stands its (Some frame) (signing r) said n after k c s to one.0 is once fits
+    stands = entered_log_stands its (Some frame) (signing r) said n after k c s to one.0 is once fits
 
   pub own_view_begins : BeginsView r before n after
   own_view_begins = record {

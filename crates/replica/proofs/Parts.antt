@@ -25,12 +25,12 @@ use Rattle.replica_histories.specs.Events as histories
 use Rattle.replica_histories.specs.Events.{IsTaken}
 use Rattle.replica_histories.specs.Fetching.{IsOther}
 use Rattle.replica_histories.specs.Changes.{IsNoChange}
-use Rattle.replica_histories.specs.Transfers.{FitsOpenTransfer, TransferMayAsk, IsTold, RestsOnState}
+use Rattle.replica_histories.specs.Transfers.{FitsStateTransfer, TransferMayAsk, IsTold, RestsOnState}
 use Rattle.replica_histories.proofs.Fetching.{digests_enter, pages_enter, asked_digests_count, asked_pages_count}
 use Rattle.replica_histories.proofs.PartsOwed.{fetches_suffice, other_digests_owe_none, other_pages_owe_none}
 use Rattle.replica_histories.proofs.Transfers.{digests_keep, digests_open}
 use Rattle.replica_histories.proofs.TransfersInstalling.{digests_rest, pages_rest}
-use Rattle.desk.specs.declared.open_transfer.Taken.{Taken}
+use Rattle.desk.specs.declared.transfer.Taken.{Taken}
 use Rattle.replica.specs.declared.taking.DueWork.TheVariants as due_work
 use Rattle.replica.specs.State.{BothPartsData, AreOne}
 use Rattle.desk.specs.State.{DeskData, OpenData}
@@ -82,7 +82,7 @@ pub record Comes (c : Configuration) (r : BothPartsData) (past : List Entry) (ru
 
 -- after the bytes it is open
 abbrev pub IsOpen : (c : Configuration) (r : BothPartsData) (past : List Entry) → BothPartsMatchHistory c r past → List ℕ → OpenData → Type 0
-IsOpen c r past runs bytes n = FitsOpenTransfer c (me_of r) (Some n.transfer) r.desk.executed.state.number (Got (me_of r) bytes ∷ past)
+IsOpen c r past runs bytes n = FitsStateTransfer c (me_of r) (Some n.transfer) r.desk.executed.state.number (Got (me_of r) bytes ∷ past)
 
 module _ (r : BothPartsData) (one : AreOne r.orderer r.desk) (bytes : List ℕ) (sender : ℕ) (o n : OpenData) (there : r.desk.transfer ≡ Some o) (c : Configuration) (past : List Entry)
     (runs : BothPartsMatchHistory c r past) (known : members c ≡ r.desk.membership) where
@@ -159,7 +159,7 @@ module _ (r : BothPartsData) (one : AreOne r.orderer r.desk) (bytes : List ℕ) 
     pub digests_stay : IsOpen c r past runs bytes n
     digests_stay = subst (IsOpen c r past runs bytes) (sym n_is_told)
         (digests_open c me o.transfer r.desk.executed.state.number past bytes sender o.transfer.number place meta.digests.items heard_here wants
-        (subst (λ (t : Option TransferData). FitsOpenTransfer c me t r.desk.executed.state.number past) open_there runs.holds.of_desk.opened))
+        (subst (λ (t : Option TransferData). FitsStateTransfer c me t r.desk.executed.state.number past) open_there runs.holds.of_desk.opened))
 
   -- a page is taken
   pub page_comes : (page : Page) (replaced : Taken) → authentic r.desk.membership r.desk.me bytes ≡ Some (record { sender = sender; message = PageMessage page.number.0 page.index page.text.items })
@@ -183,7 +183,7 @@ module _ (r : BothPartsData) (one : AreOne r.orderer r.desk) (bytes : List ℕ) 
   fetch_given c known m outs says k number =
       let said = said_in c r.orderer (fetch_of m.transfer) [] outs known says in
       subst (Has (λ e. fetch_sent e ≡ k)) (sym said.is.is)
-      (inl (ap (λ (x : Option Body). option_map_or (λ (b : Body). elim b.message [ FetchMessage n level index ↦ n | _ ↦ 0 ]) x 0) said.posted.says ∙ number))
+      (inl (ap (λ (x : Option Body). option_map_or (λ (b : Body). elim b.message [ FetchMessage n level index ↦ n | _ ↦ 0 ]) x 0) said.is_outgoing.says ∙ number))
 
   asks_for : (m : OpenData) (place : Place) (outs : List Output) → AsksPlace r.desk.executed.state n m (Some place) → Multicasts r.orderer (fetch_of m.transfer) [] outs
       → TakesBytes bytes r due_work.Nothing (record r { desk = with_transfer m r.desk }) outs
@@ -204,7 +204,7 @@ module _ (r : BothPartsData) (one : AreOne r.orderer r.desk) (bytes : List ℕ) 
                 (fetch_given c (known ∙ one.1) m outs says came.was.number (asked_number r.desk.executed.state n m (Some place) asks ∙ came.number)),
             inr came.taken,
           ),
-          runs.begun,
+          runs.nothing_begins,
         );
   }
 

@@ -18,7 +18,7 @@ use Rattle.replica_histories.specs.Events.{IsTaken}
 use Rattle.replica_histories.specs.Fetching.{TransferReachesState}
 use Rattle.replica_histories.specs.Questions.{AnswersInput}
 use Rattle.replica_histories.proofs.PartsOwed.{fetched_suffice}
-use Rattle.desk.specs.declared.open_transfer.Taken.{Taken}
+use Rattle.desk.specs.declared.transfer.Taken.{Taken}
 use Rattle.replica.specs.declared.taking.DueWork.TheVariants as due_work
 use Rattle.replica.specs.State.{BothPartsData, AreOne}
 use Rattle.desk.specs.State.{DeskData, OpenData}
@@ -34,7 +34,7 @@ use Rattle.replica.proofs.Beginning.{rests}
 use Rattle.replica.proofs.Beside.{drops_beside}
 use Rattle.replica.proofs.Fetched.{asked_long, asked_number, rests_now}
 use Rattle.replica.proofs.Installed.{IsFetched, installs_fetched, moved_party, number_reached, same_open}
-use Rattle.replica.proofs.Choosing.{begun_same}
+use Rattle.replica.proofs.Choosing.{begins_nothing_same}
 use Rattle.orderer.proofs.Parties.{same_orderer}
 use Rattle.replica.proofs.Parties.{one_of_same, parties_twice}
 use Rattle.replica.proofs.Parts.{Comes, IsOpen, digests_come, digests_stay, page_comes}
@@ -104,7 +104,7 @@ module _ (r : BothPartsData) (one : AreOne r.orderer r.desk) (bytes : List ℕ) 
         let stands = installs_fetched c (event_of c r past runs bytes) (holding m r) b m [] outs one (fetched c past runs known) (rests c r past runs).0 here in (
           stands.0,
           (stands.1, on.0, on.1),
-          begun_same c r.orderer b.orderer (parties_twice r (holding m r) b (same_holding r m) (moved_party (holding m r) b m [] outs refl here)).orderer runs.begun,
+          begins_nothing_same c r.orderer b.orderer (parties_twice r (holding m r) b (same_holding r m) (moved_party (holding m r) b m [] outs refl here)).orderer runs.nothing_begins,
         );
   }
     where
@@ -145,7 +145,7 @@ module _ (r : BothPartsData) (one : AreOne r.orderer r.desk) (bytes : List ℕ) 
                 none_owed cannot c past runs known,
                 inl refl,
               ),
-              runs.begun,
+              runs.nothing_begins,
             );
       }))
 

@@ -18,12 +18,12 @@ use Rattle.protocol.specs.Replica.RightReplica.{SendsBytes, SentBefore, HasSeen,
 use Rattle.protocol.specs.Replica.Certificates.{target, view, taken, is_later, low, is_in_marks, logged, prepare_of, commit_of, Prepared, Committed}
 use Rattle.protocol.specs.Replica.State.{Call}
 use Rattle.protocol.specs.Replica.Owed.{IsSending, BeginsViewWith, BringsChange, HasLatestChange, HasBatch, CanBeginView, AreKeysSpent, StartsAhead}
-use Rattle.claims.specs.ClaimsView.{ClaimsData}
+use Rattle.pq_sets.specs.PqSetsView.{PqSetsData}
 use Rattle.view_change.specs.ReceivedData.{HeldData}
 use Rattle.replica_histories.specs.Logs.{FitsLog, IsVoted, checkpoints_above}
-use Rattle.replica_histories.specs.Claims.{FitsClaims, WasLogged}
+use Rattle.replica_histories.specs.PqSets.{FitsPqSets, WasLogged}
 use Rattle.replica_histories.specs.Received.{FitsReceived}
-use Rattle.replica_histories.specs.Changes.{Changes, FitsChanges, IsBegunUpTo}
+use Rattle.replica_histories.specs.Changes.{Changes, FitsChanges, IsAssignedUpTo}
 use Rattle.replica_histories.specs.Events as histories
 use Rattle.replica_histories.specs.Numbers as numbers
 use Rattle.replica.specs.Idle.{BringsNothing, OrdersNothing, LeavesOut, CertifySame}
@@ -31,7 +31,7 @@ use Rattle.replica.proofs.IdleEntries.{once_over, once_back, parted}
 use Rattle.wire_format.proofs.Saying.{reads_frames, reads_said}
 use Rattle.wire_format.specs.Spelling.{is_signed}
 use Rattle.protocol.specs.System.Frames.{leaf_in, leaf_of}
-use Rattle.protocol.proofs.Words.Posting.{unsigned_no_leaf}
+use Rattle.protocol.proofs.Words.Outgoing.{unsigned_no_leaf}
 use Rattle.protocol.specs.Replica.Selection.{changes_of as changes_in}
 use Rattle.protocol.proofs.Words.Elements.{each_weaker}
 use Rattle.replica_histories.proofs.Received.{brings_view, brings_newer}
@@ -111,7 +111,7 @@ module _ (c : Configuration) (me : ℕ) (g h : List Entry) (s : CertifySame c me
     commits = λ i x k. s.commits log.view i x ∙ f.commits i x k;
     within = λ v i batch k. f.within v i batch (sym (s.logged v i) ∙ k);
     above = λ i x l m. let a = f.above i x l m in (s.prepares log.view i x ∙ a.0, s.commits log.view i x ∙ a.1);
-    begun = λ v batch k. f.begun v batch (begins v batch k);
+    begins = λ v batch k. f.begins v batch (begins v batch k);
     settled = λ a i batch l k. voted log.view i batch (f.settled a i batch l (sym (s.logged log.view i) ∙ k));
     views = record {
       decided = λ i batch k d. let x = f.views.decided i batch k d in (x.0, x.1, committed_same c me h g x.0 i batch back x.2);
@@ -123,7 +123,7 @@ module _ (c : Configuration) (me : ℕ) (g h : List Entry) (s : CertifySame c me
     latest = f.latest;
   }
 
-  -- ---- claims
+  -- ---- P and Q
 
   logged_over : (texts : List (List ℕ)) → Each (WasLogged c me g) texts → Each (WasLogged c me h) texts
   logged_over [] k = tt
@@ -135,20 +135,20 @@ module _ (c : Configuration) (me : ℕ) (g h : List Entry) (s : CertifySame c me
   unmarked : (i : ℕ) → is_in_marks c (low c me h) i ≡ true → is_in_marks c (low c me g) i ≡ true
   unmarked i k = subst (λ (n : ℕ). is_in_marks c n i ≡ true) s.low k
 
-  pub claims_over : (claims : ClaimsData) → FitsClaims c me g claims → FitsClaims c me h claims
-  claims_over claims f = record {
+  pub pq_sets_over : (pq_sets : PqSetsData) → FitsPqSets c me g pq_sets → FitsPqSets c me h pq_sets
+  pq_sets_over pq_sets f = record {
     prepared = record {
-      listed = λ claim has. let x = f.prepared.listed claim has in
-          (s.commits claim.view claim.number me ∙ x.0, marked claim.number x.1, λ v d l k. x.2 v d l (sym (s.commits v claim.number me) ∙ k));
+      listed = λ pq_entry has. let x = f.prepared.listed pq_entry has in
+          (s.commits pq_entry.view pq_entry.number me ∙ x.0, marked pq_entry.number x.1, λ v d l k. x.2 v d l (sym (s.commits v pq_entry.number me) ∙ k));
       all = λ v i d m k. f.prepared.all v i d (unmarked i m) (sym (s.commits v i me) ∙ k);
       ascending = f.prepared.ascending;
     };
     logged = record {
-      listed = λ claim has. let x = f.logged.listed claim has in ((x.0.0, s.logged claim.view claim.number ∙ x.0.1, x.0.2), marked claim.number x.1);
+      listed = λ pq_entry has. let x = f.logged.listed pq_entry has in ((x.0.0, s.logged pq_entry.view pq_entry.number ∙ x.0.1, x.0.2), marked pq_entry.number x.1);
       all = λ v i d m k. f.logged.all v i d (unmarked i m) (k.0, sym (s.logged v i) ∙ k.1, k.2);
       ascending = f.logged.ascending;
     };
-    texts = logged_over claims.texts f.texts;
+    texts = logged_over pq_sets.texts f.texts;
   }
 
 -- ---- view-change data
@@ -168,7 +168,7 @@ idle_brings_none c me x past e idle b =
     let newer = brings_newer c x past e b in
     omega (arith, none, is, newer)
 
--- and with one more such entry no other new view can be begun
+-- and with one more such entry no other new view can begin
 has_latest_idle : (c : Configuration) (me : ℕ) (past : List Entry) (e : Entry) → BringsNothing c me e → CertifySame c me past (e ∷ past) → (x : ℕ × ViewChangeData) → HasLatestChange c me (e ∷ past) x → HasLatestChange c me past x
 has_latest_idle c me past e idle s x (inl (other, inl b, latest)) = absurd (idle_brings_none c me x past e idle b)
 has_latest_idle c me past e idle s x (inl (other, inr once, latest)) = inl (other, once, sym (s.latest x.0) ∙ latest)
@@ -296,13 +296,13 @@ module _ (c : Configuration) (me : ℕ) (g h : List Entry) (p : LeavesOut c me g
   pub changes_over : (log : LogData) (x : Changes) → FitsChanges c me log x g → FitsChanges c me log x h
   changes_over log x f = record {
     target = words.target ∙ f.target;
-    claims = claims_over c me g h words x.claims f.claims;
+    pq_sets = pq_sets_over c me g h words x.pq_sets f.pq_sets;
     received = received_over x.held f.received;
     places = f.places;
-    begun = λ new k same. f.begun new (taken_back new k) same;
-    begun_by = begun_over f.begun_by;
-    own_change = λ a. let o = f.own_change a in record { own = o.own; held = o.held; view = o.view; sent = sent_over o.own.frame o.sent; posted = o.posted };
-    own_view = λ frame is. let o = f.own_view frame is in record { new = o.new; view = o.view; primary = o.primary; sent = sent_over frame o.sent; posted = o.posted };
+    assigned = λ new k same. f.assigned new (taken_back new k) same;
+    assigned_by = assigned_over f.assigned_by;
+    own_change = λ a. let o = f.own_change a in record { own = o.own; held = o.held; view = o.view; sent = sent_over o.own.frame o.sent; is_outgoing = o.is_outgoing };
+    own_view = λ frame is. let o = f.own_view frame is in record { new = o.new; view = o.view; primary = o.primary; sent = sent_over frame o.sent; is_outgoing = o.is_outgoing };
     own_latest = f.own_latest;
     own_begins = f.own_begins;
     latest = ap (λ (ms : List CheckpointEntry). slice_get ms 0) (words.checkpoints me) ∙ f.latest;
@@ -310,20 +310,20 @@ module _ (c : Configuration) (me : ℕ) (g h : List Entry) (p : LeavesOut c me g
     signed = λ leaf l. let s = f.signed leaf l in (s.0, s.1, sent_over s.0 s.2);
   }
     where
-      begun_over : (x.begun ≡ 0) ⊎ IsBegunUpTo c log.view x.begun g → (x.begun ≡ 0) ⊎ IsBegunUpTo c log.view x.begun h
-      begun_over (inl none) = inl none
-      begun_over (inr (new, once, at, is)) = inr (new, taken_over new once, at, is)
+      assigned_over : (x.assigned ≡ 0) ⊎ IsAssignedUpTo c log.view x.assigned g → (x.assigned ≡ 0) ⊎ IsAssignedUpTo c log.view x.assigned h
+      assigned_over (inl none) = inl none
+      assigned_over (inr (new, once, at, is)) = inr (new, taken_over new once, at, is)
 
   pub changes_back : (log : LogData) (x : Changes) → AreChanges x.held → FitsChanges c me log x h → FitsChanges c me log x g
   changes_back log x are f = record {
     target = sym words.target ∙ f.target;
-    claims = claims_over c me h g (turned c me g h words) x.claims f.claims;
+    pq_sets = pq_sets_over c me h g (turned c me g h words) x.pq_sets f.pq_sets;
     received = received_back x.held are f.received;
     places = f.places;
-    begun = λ new k same. f.begun new (taken_over new k) same;
-    begun_by = begun_back f.begun_by;
-    own_change = λ a. let o = f.own_change a in record { own = o.own; held = o.held; view = o.view; sent = sent_back (ViewChange o.own.change) o.own.frame (λ q. q) o.posted.says o.sent; posted = o.posted };
-    own_view = λ frame is. let o = f.own_view frame is in record { new = o.new; view = o.view; primary = o.primary; sent = sent_back (NewView o.new) frame (λ q. q) o.posted.says o.sent; posted = o.posted };
+    assigned = λ new k same. f.assigned new (taken_over new k) same;
+    assigned_by = entered_back f.assigned_by;
+    own_change = λ a. let o = f.own_change a in record { own = o.own; held = o.held; view = o.view; sent = sent_back (ViewChange o.own.change) o.own.frame (λ q. q) o.is_outgoing.says o.sent; is_outgoing = o.is_outgoing };
+    own_view = λ frame is. let o = f.own_view frame is in record { new = o.new; view = o.view; primary = o.primary; sent = sent_back (NewView o.new) frame (λ q. q) o.is_outgoing.says o.sent; is_outgoing = o.is_outgoing };
     own_latest = f.own_latest;
     own_begins = f.own_begins;
     latest = sym (ap (λ (ms : List CheckpointEntry). slice_get ms 0) (words.checkpoints me)) ∙ f.latest;
@@ -331,9 +331,9 @@ module _ (c : Configuration) (me : ℕ) (g h : List Entry) (p : LeavesOut c me g
     signed = λ leaf l. let s = f.signed leaf l in (s.0, s.1, leaf_back s.0 leaf s.1 s.2);
   }
     where
-      begun_back : (x.begun ≡ 0) ⊎ IsBegunUpTo c log.view x.begun h → (x.begun ≡ 0) ⊎ IsBegunUpTo c log.view x.begun g
-      begun_back (inl none) = inl none
-      begun_back (inr (new, once, at, is)) = inr (new, taken_back new once, at, is)
+      entered_back : (x.assigned ≡ 0) ⊎ IsAssignedUpTo c log.view x.assigned h → (x.assigned ≡ 0) ⊎ IsAssignedUpTo c log.view x.assigned g
+      entered_back (inl none) = inl none
+      entered_back (inr (new, once, at, is)) = inr (new, taken_back new once, at, is)
 
   pub said_over : (last : Option CheckpointEntry) → WasSent me last g → WasSent me last h
   said_over last f entry is = once_over c me (λ past e. IsSending me (Checkpoint entry.number entry.digest) e) (λ e g h p x. x) g h p (f entry is)
@@ -415,7 +415,7 @@ parts_join c o d h one hd ho = record {
   said = said_over c o.endpoint.me (without_reads h) h (parted c o.endpoint.me h) o.last_checkpoint ho.said;
   changes = changes_over c o.endpoint.me (without_reads h) h (parted c o.endpoint.me h) o.log (changes_held o) ho.changes;
   all = all c o d h hd ho;
-  begun = ho.begun;
+  nothing_begins = ho.nothing_begins;
 }
 
 -- ---- and in parts
@@ -434,7 +434,7 @@ holds_part c r h one are runs = (
     said = said_back c me g h (parted c me h) r.orderer.last_checkpoint runs.said;
     changes = changes_back c me g h (parted c me h) r.orderer.log (changes_held r.orderer) are runs.changes;
     period = runs.is_desk.period_is ∙ sym one.2;
-    begun = runs.begun;
+    nothing_begins = runs.nothing_begins;
   },
 )
   where

@@ -40,7 +40,7 @@ use Rattle.replica.specs.declared.replica.Event.TheVariants as events
 use Rattle.replica.specs.Inputs.{input_of}
 use Rattle.replica.specs.BothParts.{BothPartsMatchHistory, BothPartsFitHistory, BothPartsStayRight, me_of}
 use Rattle.replica.specs.Entering.{event_with, InputIsAnswered, IsTakenBeside, TakesInput}
-use Rattle.replica.proofs.Choosing.{begun_same}
+use Rattle.replica.proofs.Choosing.{begins_nothing_same}
 use Rattle.orderer.proofs.Flags.{flags_given}
 use Rattle.replica.proofs.Parties.{same_party, one_of_same, ones_twice}
 
@@ -83,7 +83,7 @@ module _ (old new : BothPartsData) (one : AreOne old.orderer old.desk) (party : 
       → AnswersInput c (me_of old) past input (given (me_of old) outs) runs.holds.of_desk.point new.desk.executed.state.number → CannotBegin c new.orderer
       → (outs ≡ []) ⊎ IsTaken c (me_of old) (start_at c (me_of old) (desk_of c old.desk) old.orderer.log past runs.holds input)
       → BothPartsFitHistory c new (after_event (me_of old) input outs past) × AreSentAsMeant c (me_of old) outs
-  ends c past input outs f runs is st rest all answered begun why = (
+  ends c past input outs f runs is st rest all answered nothing_begins why = (
     subst (BothPartsFitHistory c new) (behind_is (map (entry_of (me_of old)) outs) (input ∷ past)) (record {
       members_are = f.members_are ∙ sym (ap (λ (e : EndpointState). e.membership) party.endpoint);
       right = subst (λ (e : EndpointState). IsReplica c e.me now) (sym party.endpoint) (held_are_replicas c (me_of old) (desk_of c new.desk) new.orderer.log now held);
@@ -94,7 +94,7 @@ module _ (old new : BothPartsData) (one : AreOne old.orderer old.desk) (party : 
         said = subst (λ (x : EndpointState). WasSent x.me new.orderer.last_checkpoint now) (sym party.endpoint) event.said;
         changes = subst (λ (x : EndpointState). FitsChanges c x.me new.orderer.log (changes_held new.orderer) now) (sym party.endpoint) event.changes;
         all = all;
-        begun = begun;
+        nothing_begins = nothing_begins;
       };
     }),
     event.meant,
@@ -120,7 +120,7 @@ module _ (old new : BothPartsData) (one : AreOne old.orderer old.desk) (party : 
       none_left : LeavesNoView c (me_of old) now
       none_left = no_views_are_left c (me_of old) new.orderer.log (changes_held new.orderer) now (point_of (desk_of c new.desk) event.fits.of_desk.states event.fits.of_desk.ran)
           (steps_leave c (me_of old) s (given (me_of old) outs) (point_of (desk_of c new.desk) event.fits.of_desk.states event.fits.of_desk.ran) event.fits.of_desk.leaves event.fits.of_desk.steps)
-          event.fits.of_log event.changes begun
+          event.fits.of_log event.changes nothing_begins
 
       held : histories.BothFitBetweenEvents c (me_of old) (desk_of c new.desk) new.orderer.log now
       held = events_end c (me_of old) (desk_of c old.desk) (desk_of c new.desk) old.orderer.log new.orderer.log past (given (me_of old) outs) input runs.holds event.fits
@@ -151,13 +151,13 @@ module _ (input : Entry) (old : BothPartsData) (one : AreOne old.orderer old.des
       → PartsFitEvent c (event_with c old past runs input) before.orderer before.desk [] x → CannotBegin c mid.orderer
       → IsTaken c (me_of mid) (event_with c old past runs input) × InputIsAnswered c (me_of mid) (event_with c old past runs input) mid.desk.executed.state.number
       → BothPartsFitHistory c new (after_event (me_of old) input outs past) × AreSentAsMeant c (me_of old) outs
-  ends_numbered c past mid before new x outs f runs first then n above rest st begun t =
+  ends_numbered c past mid before new x outs f runs first then n above rest st nothing_begins t =
       let party = ones_twice old mid before first (one_of_same mid before then) in
       let p = n.proceeds rest c (event_with c old past runs input) (known c past f ∙ sym party.membership) st in
       ends old new one (ones_twice old before new party (one_of_same before new n.party)) c past input outs f runs is_input p (n.rests rest) n.all
       (subst (λ (e : EndpointState). AnswersInput c e.me past input (given (me_of old) outs) runs.holds.of_desk.point new.desk.executed.state.number) first.endpoint
       (t.1 (given (me_of old) outs) new.desk.executed.state.number (let more = n.rises in omega (arith, above, more))))
-      (begun_same c before.orderer new.orderer n.party.orderer (begun_same c mid.orderer before.orderer then.orderer begun)) (inr (taken_then c (event_with c old past runs input) mid first t.0))
+      (begins_nothing_same c before.orderer new.orderer n.party.orderer (begins_nothing_same c mid.orderer before.orderer then.orderer nothing_begins)) (inr (taken_then c (event_with c old past runs input) mid first t.0))
 
   -- The event's own part, and then what follows by what it touched.
   leads_nothing : (new : BothPartsData) (outs : List Output) → TakesInput input old due_work.Nothing new outs → BothPartsStayRight old input outs new
@@ -203,7 +203,7 @@ module _ (input : Entry) (old : BothPartsData) (one : AreOne old.orderer old.des
       ends old new one whole c past input outs f runs is_input p (n.rests (g.rests b.1.0)) n.all
       (subst (λ (e : EndpointState). AnswersInput c e.me past input (given (me_of old) outs) runs.holds.of_desk.point new.desk.executed.state.number) t.party.endpoint
       (b.1.1.1 (given (me_of old) outs) new.desk.executed.state.number (there ∙ n.party.orderer.target ∙ g.party.orderer.target)))
-      (begun_same c run.orderer new.orderer n.party.orderer (begun_same c mid.orderer run.orderer g.party.orderer b.2))
+      (begins_nothing_same c run.orderer new.orderer n.party.orderer (begins_nothing_same c mid.orderer run.orderer g.party.orderer b.2))
       (inr (taken_then c s mid t.party b.1.1.0))
 
   -- whatever it touched

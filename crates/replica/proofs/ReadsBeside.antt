@@ -27,10 +27,10 @@ use Rattle.replica_histories.specs.TransfersQuorums.{QuorumsFetched}
 use Rattle.replica_histories.specs.Numbers.{KeepsNumbers}
 use Rattle.replica_histories.specs.Desk.{snapshot_of, point_of}
 use Rattle.replica_histories.specs.Events.{FitsFrames, FitsSnapshots, IsFetchedOrDue, LowMarkIsReached}
-use Rattle.replica_histories.specs.Transfers.{FitsOpenTransfer}
+use Rattle.replica_histories.specs.Transfers.{FitsStateTransfer}
 use Rattle.desk.specs.State.{DeskData}
 use Rattle.desk.specs.DeskOf.{waiting_calls, desk_of}
-use Rattle.protocol.proofs.Words.Posting.{unsigned_have_no_leaf}
+use Rattle.protocol.proofs.Words.Outgoing.{unsigned_have_no_leaf}
 use Rattle.orderer.specs.Flags.{FitsFlags}
 use Rattle.replica.specs.Parted.{DeskMatchesHistory}
 use Rattle.replica_histories.proofs.Resting.{Rests, rests}
@@ -168,7 +168,7 @@ module _ (c : Configuration) (me : ℕ) (h : List Entry) (p : Point) (bytes answ
 module _ (c : Configuration) (me : ℕ) (d : DeskData) (h : List Entry) (hd : DeskMatchesHistory c me d h) where
   -- idle entries: the point stays, except for what ran
   module _ (now : List Entry) (s : CertifySame c me h now) (later : Point) (proceeds : HistoryIsPrompt c me now [] later later)
-      (same_point : later ≡ record hd.holds.point { ran = [] }) (frames : FitsFrames c me (desk_of c d) now) (opened : FitsOpenTransfer c me (desk_of c d).transfer d.executed.state.number now)
+      (same_point : later ≡ record hd.holds.point { ran = [] }) (frames : FitsFrames c me (desk_of c d) now) (opened : FitsStateTransfer c me (desk_of c d).transfer d.executed.state.number now)
       (flags : (v used : ℕ) → FitsFlags c me v used d.waiting d.executed.state (waiting_calls c d.waiting.requests) h → FitsFlags c me v used d.waiting d.executed.state (waiting_calls c d.waiting.requests) now)
       (started : (k : ℕ) → Once (StartsAhead c k) now → Once (StartsAhead c k) h) where
     over : CertifySame c me now h

@@ -34,8 +34,8 @@ module _ (r : BothPartsData) (one : AreOne r.orderer r.desk) (client t : ℕ) (o
     abbrev me : ℕ
     me = me_of r
 
-    begun : FitsEvent c me (event_of c r past runs bytes) r.orderer (desk_of c r.desk) r.desk.waiting [] []
-    begun = begins r one c past runs bytes (read_from client t op) known receives (record { log = tt; call = refl; asks = λ st. refl; views = refl; changes = tt })
+    started : FitsEvent c me (event_of c r past runs bytes) r.orderer (desk_of c r.desk) r.desk.waiting [] []
+    started = begins r one c past runs bytes (read_from client t op) known receives (record { log = tt; call = refl; asks = λ st. refl; views = refl; changes = tt })
 
     is_authentic_to : authentic (members c) me bytes ≡ Some (read_from client t op)
     is_authentic_to = heard_so r one c past runs bytes (read_from client t op) known receives
@@ -47,21 +47,21 @@ module _ (r : BothPartsData) (one : AreOne r.orderer r.desk) (client t : ℕ) (o
 
     -- other requests get no answer
     drops : is_read_only op ≡ false → Left []
-    drops unread = (begun, other_operations_owe_none c me (desk_of c r.desk) r.orderer.log past (Got me bytes) [] client t r.desk.executed.state.number op runs.holds is_authentic_to unread, inl refl)
+    drops unread = (started, other_operations_owe_none c me (desk_of c r.desk) r.orderer.log past (Got me bytes) [] client t r.desk.executed.state.number op runs.holds is_authentic_to unread, inl refl)
 
     abbrev reply : Message
     reply = read_reply r.desk.executed.state client t op
 
     -- and a read its answer
     gives : is_read_only op ≡ true → (output : Output) (sent : List ℕ) → entry_of me output ≡ Sent me sent → IsSentAsMeant c me output → IsOutgoing c me reply (client ∷ []) sent → Left (output ∷ [])
-    gives is output sent sends meant posted = (
+    gives is output sent sends meant is_outgoing = (
       fits_on c me (event_of c r past runs bytes) r.orderer r.orderer (desk_of c r.desk) r.desk.waiting [] [] [] (output ∷ []) (Sent me sent) one_given
-          (sent_beside c me reply (client ∷ []) sent (Got me bytes ∷ past) tt posted)
-          (sent_keep c me (Got me bytes ∷ past) reply sent posted.says tt (λ signed. absurd cc))
-          (same_log r.orderer.log) refl refl refl refl begun
-          (reads_fit c me (event_of c r past runs bytes) (desk_of c r.desk) r.orderer.log [] [] client t op sent (inl is_authentic_to) is (λ given. given) posted begun.fits),
+          (sent_beside c me reply (client ∷ []) sent (Got me bytes ∷ past) tt is_outgoing)
+          (sent_keep c me (Got me bytes ∷ past) reply sent is_outgoing.says tt (λ signed. absurd cc))
+          (same_log r.orderer.log) refl refl refl refl started
+          (reads_fit c me (event_of c r past runs bytes) (desk_of c r.desk) r.orderer.log [] [] client t op sent (inl is_authentic_to) is (λ given. given) is_outgoing started.fits),
       subst (λ (es : List Entry). AnswersInput c me past (Got me bytes) es runs.holds.of_desk.point r.desk.executed.state.number) (sym one_given.is)
-          (reads_suffice c me (desk_of c r.desk) r.orderer.log past (Got me bytes) (Sent me sent ∷ []) client t r.desk.executed.state.number op runs.holds is_authentic_to (inl posted.says)),
+          (reads_suffice c me (desk_of c r.desk) r.orderer.log past (Got me bytes) (Sent me sent ∷ []) client t r.desk.executed.state.number op runs.holds is_authentic_to (inl is_outgoing.says)),
       inr (read_from client t op, is_authentic_to, is),
     )
       where
@@ -79,7 +79,7 @@ module _ (r : BothPartsData) (one : AreOne r.orderer r.desk) (client t : ℕ) (o
         fits = subst (λ (m : ℕ). FitsEvent c m (event_of c r past runs bytes) r.orderer (desk_of c r.desk) r.desk.waiting [] outs) (sym one.0) l.0;
       },
       (rests c r past runs, runs.all, l.1, l.2),
-      runs.begun,
+      runs.nothing_begins,
     );
   }
 
@@ -95,18 +95,18 @@ module _ (r : BothPartsData) (one : AreOne r.orderer r.desk) (bytes : List ℕ) 
   takes_read : TakesBytes bytes r due_work.Nothing r outs
   takes_read = subst (λ (os : List Output). TakesBytes bytes r due_work.Nothing r os) (sym a.says.given_is)
       (takes r one client a.timestamp a.op bytes a.receives (a.says.output ∷ []) (λ c past runs known.
-      gives r one client a.timestamp a.op bytes a.receives c past runs known a.is_read a.says.output a.says.posts.bytes (sends c) (meant c known) (posted c past runs known)))
+      gives r one client a.timestamp a.op bytes a.receives c past runs known a.is_read a.says.output a.says.sends_frame.bytes (sends c) (meant c known) (is_outgoing c past runs known)))
     where
-      sends : (c : Configuration) → entry_of (me_of r) a.says.output ≡ Sent (me_of r) a.says.posts.bytes
-      sends c = subst (λ (m : ℕ). entry_of m a.says.output ≡ Sent m a.says.posts.bytes) one.0 a.says.posts.sends
+      sends : (c : Configuration) → entry_of (me_of r) a.says.output ≡ Sent (me_of r) a.says.sends_frame.bytes
+      sends c = subst (λ (m : ℕ). entry_of m a.says.output ≡ Sent m a.says.sends_frame.bytes) one.0 a.says.sends_frame.sends
 
       meant : (c : Configuration) → members c ≡ r.desk.membership → IsSentAsMeant c (me_of r) a.says.output
-      meant c known = subst (λ (m : ℕ). IsSentAsMeant c m a.says.output) one.0 (a.says.posts.meant c known)
+      meant c known = subst (λ (m : ℕ). IsSentAsMeant c m a.says.output) one.0 (a.says.sends_frame.meant c known)
 
-      posted : (c : Configuration) (past : List Entry) (runs : BothPartsMatchHistory c r past) → members c ≡ r.desk.membership
-          → IsOutgoing c (me_of r) (read_reply r.desk.executed.state client a.timestamp a.op) (client ∷ []) a.says.posts.bytes
-      posted c past runs known =
-          subst (λ (m : ℕ). IsOutgoing c m (read_reply r.desk.executed.state client a.timestamp a.op) (client ∷ []) a.says.posts.bytes) one.0 (a.says.posts.posted c known)
+      is_outgoing : (c : Configuration) (past : List Entry) (runs : BothPartsMatchHistory c r past) → members c ≡ r.desk.membership
+          → IsOutgoing c (me_of r) (read_reply r.desk.executed.state client a.timestamp a.op) (client ∷ []) a.says.sends_frame.bytes
+      is_outgoing c past runs known =
+          subst (λ (m : ℕ). IsOutgoing c m (read_reply r.desk.executed.state client a.timestamp a.op) (client ∷ []) a.says.sends_frame.bytes) one.0 (a.says.sends_frame.is_outgoing c known)
 
 -- ---- whatever asks
 

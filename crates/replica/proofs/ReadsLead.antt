@@ -21,7 +21,7 @@ use Rattle.protocol.proofs.Words.Options.{some_injective}
 use Rattle.replica_histories.specs.Desk.{Desk}
 use Rattle.replica_histories.specs.Events.{FitsFrames}
 use Rattle.replica_histories.specs.Questions.{read_from, read_reply}
-use Rattle.replica_histories.specs.Transfers.{FitsOpenTransfer}
+use Rattle.replica_histories.specs.Transfers.{FitsStateTransfer}
 use Rattle.replica_histories.specs.TransfersQuorums.{QuorumsFetched}
 use Rattle.replica_histories.proofs.Transfers.{open_stays, asks_none}
 use Rattle.replica.specs.State.{DeskPart, IsDeskPart}
@@ -67,7 +67,7 @@ module _ (c : Configuration) (me : ℕ) (d : DeskData) (h : List Entry) (bytes :
       → FitsFlags c me v used d.waiting d.executed.state (waiting_calls c d.waiting.requests) (e ∷ past)
   flags_on v used past e idle = flags_stay c me v used d.waiting d.executed.state (waiting_calls c d.waiting.requests) past e (idle_keeps c me v past e idle)
 
-  opened : FitsOpenTransfer c me (desk_of c d).transfer d.executed.state.number got
+  opened : FitsStateTransfer c me (desk_of c d).transfer d.executed.state.number got
   opened = open_stays c me (desk_of c d).transfer d.executed.state.number h (Got me bytes) refl tt hd.holds.opened
 
   -- the point, except for what ran
@@ -127,14 +127,14 @@ module _ (c : Configuration) (me : ℕ) (d : DeskData) (h : List Entry) (bytes :
     answers : (outs : List Output) → AnswersRead d bytes [] outs → Left c me d h (after_event me (Got me bytes) outs h)
     answers outs a = subst (λ (os : List Output). Left c me d h (after_event me (Got me bytes) os h)) (sym a.says.given_is)
         (subst (λ (e : Entry). Left c me d h (e ∷ got)) (sym sends)
-        (answered (256 + a.client.number) a.timestamp a.op a.says.posts.bytes (hears_so (Some (read_from (256 + a.client.number) a.timestamp a.op)) a.receives) a.is_read posted))
+        (answered (256 + a.client.number) a.timestamp a.op a.says.sends_frame.bytes (hears_so (Some (read_from (256 + a.client.number) a.timestamp a.op)) a.receives) a.is_read is_outgoing))
       where
-        sends : entry_of me a.says.output ≡ Sent me a.says.posts.bytes
-        sends = subst (λ (m : ℕ). entry_of m a.says.output ≡ Sent m a.says.posts.bytes) mine a.says.posts.sends
+        sends : entry_of me a.says.output ≡ Sent me a.says.sends_frame.bytes
+        sends = subst (λ (m : ℕ). entry_of m a.says.output ≡ Sent m a.says.sends_frame.bytes) mine a.says.sends_frame.sends
 
-        posted : IsOutgoing c me (read_reply p.state (256 + a.client.number) a.timestamp a.op) ((256 + a.client.number) ∷ []) a.says.posts.bytes
-        posted = subst (λ (s : State). IsOutgoing c me (read_reply s (256 + a.client.number) a.timestamp a.op) ((256 + a.client.number) ∷ []) a.says.posts.bytes) (sym state_is)
-            (subst (λ (m : ℕ). IsOutgoing c m (read_reply d.executed.state (256 + a.client.number) a.timestamp a.op) ((256 + a.client.number) ∷ []) a.says.posts.bytes) mine (a.says.posts.posted c known))
+        is_outgoing : IsOutgoing c me (read_reply p.state (256 + a.client.number) a.timestamp a.op) ((256 + a.client.number) ∷ []) a.says.sends_frame.bytes
+        is_outgoing = subst (λ (s : State). IsOutgoing c me (read_reply s (256 + a.client.number) a.timestamp a.op) ((256 + a.client.number) ∷ []) a.says.sends_frame.bytes) (sym state_is)
+            (subst (λ (m : ℕ). IsOutgoing c m (read_reply d.executed.state (256 + a.client.number) a.timestamp a.op) ((256 + a.client.number) ∷ []) a.says.sends_frame.bytes) mine (a.says.sends_frame.is_outgoing c known))
 
     never_heard : ReceivesNoRead d bytes → (client t : ℕ) (op : Operation) → authentic (members c) me bytes ≡ Some (read_from client t op) → is_read_only op ≡ true → ⊥
     never_heard (inl silent) client t op receives is = absurd (none_some (read_from client t op) (sym (hears_so None silent) ∙ receives))
@@ -178,5 +178,5 @@ read_leads part later d bytes outs holds are marks same answers = subst (ReadLea
 pub read_sends : (part : DeskPart) (d : DeskData) (bytes : List ℕ) (outs : List Output) → part.holds ≡ Some d → IsDeskPart part → AnswersBytes d bytes [] outs → ReadSendsAsMeant part outs
 read_sends part d bytes outs holds are (inl a) c me h f =
     subst (λ (os : List Output). AreSentAsMeant c me os) (sym a.says.given_is)
-    (subst (λ (k : ℕ). AreSentAsMeant c k (a.says.output ∷ [])) ((are d holds).0 ∙ f.me_is) (a.says.posts.meant c (f.members_are ∙ sym (are d holds).1), tt))
+    (subst (λ (k : ℕ). AreSentAsMeant c k (a.says.output ∷ [])) ((are d holds).0 ∙ f.me_is) (a.says.sends_frame.meant c (f.members_are ∙ sym (are d holds).1), tt))
 read_sends part d bytes outs holds are (inr (none, same)) c me h f = subst (λ (os : List Output). AreSentAsMeant c me os) (sym same) tt

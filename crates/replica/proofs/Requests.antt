@@ -43,7 +43,7 @@ use Rattle.replica.specs.declared.taking.DueWork.TheVariants as due_work
 use Rattle.orderer.specs.State.{OrdererData}
 use Rattle.replica.specs.State.{BothPartsData, AreOne}
 use Rattle.desk.specs.State.{DeskData}
-use Rattle.desk.specs.Waiting.{WaitingData, frames_waiting, is_begun, is_of, request_of, with_request, without_client}
+use Rattle.desk.specs.Waiting.{WaitingData, frames_waiting, is_assigned, is_of, request_of, with_request, without_client}
 use Rattle.orderer.specs.Flags.{FitsFlags}
 use Rattle.replica.specs.Desks.{PartsFitEvent}
 use Rattle.orderer.specs.Fitting.{FitsWaiting, FitsEvent, given, changes_held}
@@ -262,7 +262,7 @@ module _ (old : BothPartsData) (client : ClientId) (timestamp : Timestamp) (byte
       pays c (start c past runs known) old.orderer known (stands_seen c past runs known (seen_of_kept old.desk.executed.state k t kept has same)),
       leaves c past runs known outs (owes_none c past runs known (seen_fresh c past runs known (seen_of_kept old.desk.executed.state k t kept has same)) (given (me_of old) outs) old.desk.executed.state.number)
           (inr (counts c past runs known (inl (kept, has, same)))),
-      runs.begun,
+      runs.nothing_begins,
     );
   }
 
@@ -274,7 +274,7 @@ module _ (old : BothPartsData) (client : ClientId) (timestamp : Timestamp) (byte
       subst (λ (xs : List Output). PartsFitEvent c (start c past runs known) old.orderer old.desk [] xs) (sym silent)
           (due_none old.desk c (start c past runs known) old.orderer [] none (stands_past c past runs known is)),
       leaves c past runs known outs (owes_none c past runs known (past_fresh c past runs known is) (given (me_of old) outs) old.desk.executed.state.number) (inl silent),
-      runs.begun,
+      runs.nothing_begins,
     );
   }
 
@@ -290,7 +290,7 @@ module _ (old : BothPartsData) (client : ClientId) (timestamp : Timestamp) (byte
         no_older_same c k t op old.desk.waiting.requests r runs.is_desk.calls runs.is_desk.differ found
             (ap (option_and_then (call_in c)) says ∙ call_of_bytes c (me_of old) bytes k t op (h c past runs known)),
       )))),
-      runs.begun,
+      runs.nothing_begins,
     );
   }
     where
@@ -306,7 +306,7 @@ module _ (old : BothPartsData) (client : ClientId) (timestamp : Timestamp) (byte
     more = with_request client timestamp waits.0 (without_client k old.desk.waiting)
 
     abbrev r : WaitingRequest
-    r = record { client = client; timestamp = timestamp; frame = waits.0; numbered = is_begun old.desk.waiting.begun k t }
+    r = record { client = client; timestamp = timestamp; frame = waits.0; numbered = is_assigned old.desk.waiting.assigned k t }
 
     abbrev waiting_desk : DeskData
     waiting_desk = record old.desk { waiting = more }
@@ -372,7 +372,7 @@ module _ (old : BothPartsData) (client : ClientId) (timestamp : Timestamp) (byte
             owes_none c past runs known (λ has. none_waits c k t op old.desk.waiting.requests (are_older c past runs known) has),
           ),
         ),
-        runs.begun,
+        runs.nothing_begins,
       );
     }
 

@@ -11,7 +11,7 @@ use Rattle.protocol.specs.System.Configuration.{Configuration, replicas}
 use Rattle.protocol.specs.System.Trace.{Entry}
 use Rattle.protocol.specs.System.Trace.Entry.{Got, Sent}
 use Rattle.protocol.specs.Replica.Selection.{is_quorum}
-use Rattle.protocol.specs.Replica.Certificates.{brought, view, view_after, target, taken, is_later, is_active_in, new_view_in, change_sent, checkpoint_in, installed_at, count_checkpoints, lists_checkpoint, is_stable, stable_at, started_at, low, is_in_marks, counts_at, checkpoints_of, with_checkpoint, batch_begun, batch_from, begun_proposal, entry_proposal, proposal, logged, prepare_from, prepare_of, commit_from, commit_of, vote_in, change_taken, change_at, latest_change}
+use Rattle.protocol.specs.Replica.Certificates.{brought, view, view_after, target, taken, is_later, is_active_in, new_view_in, change_sent, checkpoint_in, installed_at, count_checkpoints, lists_checkpoint, is_stable, stable_at, started_at, low, is_in_marks, counts_at, checkpoints_of, with_checkpoint, assigned_batch, batch_from, assigned_proposal, entry_proposal, proposal, logged, prepare_from, prepare_of, commit_from, commit_of, vote_in, change_taken, change_at, latest_change}
 use Rattle.protocol.specs.Replica.Transfers.{fetch_sent, fetching, asked_last}
 use Rattle.protocol.proofs.Words.Options.{or_else_alone}
 use Rattle.replica.specs.Idle.{BringsNothing, CertifySame, WordsStay}
@@ -71,15 +71,15 @@ module _ (c : Configuration) (me : ℕ) (e : Entry) (g h : List Entry) (f : Cert
   pub vote_same : (vote : Body → Option (List ℕ)) (v i : ℕ) → vote_in c me h e vote v i ≡ vote_in c me g e vote v i
   vote_same vote v i = ap (λ (b : Bool). cond b (option_and_then vote (brought c e)) None) (counts_same v i)
 
-  begun_same : (v i : ℕ) → begun_proposal c me h e v i ≡ begun_proposal c me g e v i
-  begun_same v i =
-      ap (λ (n : ℕ). cond (is_in_marks c n i) (option_and_then (batch_begun v i) (taken c h e)) None) low_both
-      ∙ ap (λ (o : Option NewViewData). cond (is_in_marks c (low c me (e ∷ g)) i) (option_and_then (batch_begun v i) o) None) taken_same
+  begins_nothing_same : (v i : ℕ) → assigned_proposal c me h e v i ≡ assigned_proposal c me g e v i
+  begins_nothing_same v i =
+      ap (λ (n : ℕ). cond (is_in_marks c n i) (option_and_then (assigned_batch v i) (taken c h e)) None) low_both
+      ∙ ap (λ (o : Option NewViewData). cond (is_in_marks c (low c me (e ∷ g)) i) (option_and_then (assigned_batch v i) o) None) taken_same
 
   pub proposal_same : (v i : ℕ) → proposal c me h e v i ≡ proposal c me g e v i
   proposal_same v i =
-      ap (λ (o : Option (List ℕ)). or_else o (entry_proposal c me h e v i)) (begun_same v i)
-      ∙ ap (or_else (begun_proposal c me g e v i)) (vote_same (batch_from c me v i) v i)
+      ap (λ (o : Option (List ℕ)). or_else o (entry_proposal c me h e v i)) (begins_nothing_same v i)
+      ∙ ap (or_else (assigned_proposal c me g e v i)) (vote_same (batch_from c me v i) v i)
 
   asked_both : asked_last (e ∷ h) ≡ asked_last (e ∷ g)
   asked_both = go e
@@ -143,8 +143,8 @@ module _ (c : Configuration) (me : ℕ) (e : Entry) (idle : BringsNothing c me e
     checkpoints = λ s. ap (λ (o : Option (ℕ × CheckpointEntry)). with_checkpoint s o (checkpoints_of c h s)) idle.checkpoint;
     low = low_idle;
     logged = λ v i. or_else_alone (logged c me h v i) (proposal c me h e v i)
-        (both_none (begun_proposal c me h e v i) (entry_proposal c me h e v i)
-        (none_chosen (is_in_marks c (low c me (e ∷ h)) i) (option_and_then (batch_begun v i) (taken c h e)) (ap (option_and_then (batch_begun v i)) taken_none))
+        (both_none (assigned_proposal c me h e v i) (entry_proposal c me h e v i)
+        (none_chosen (is_in_marks c (low c me (e ∷ h)) i) (option_and_then (assigned_batch v i) (taken c h e)) (ap (option_and_then (assigned_batch v i)) taken_none))
         (none_chosen (counts_at c me h e v i) (option_and_then (batch_from c me v i) (brought c e)) (idle.batch v i)));
     prepares = λ v i s. or_else_alone (prepare_of c me h v i s) (vote_in c me h e (prepare_from c s v i) v i) (none_chosen (counts_at c me h e v i) (option_and_then (prepare_from c s v i) (brought c e)) (idle.prepare s v i));
     commits = λ v i s. or_else_alone (commit_of c me h v i s) (vote_in c me h e (commit_from s v i) v i) (none_chosen (counts_at c me h e v i) (option_and_then (commit_from s v i) (brought c e)) (idle.commit s v i));

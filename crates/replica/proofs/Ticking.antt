@@ -17,11 +17,11 @@ use Rattle.replica_histories.specs.Desk.{snapshot_of}
 use Rattle.replica_histories.specs.Questions.{AnswersInput, OwesViewChange}
 use Rattle.replica_histories.specs.Inputs.{again_due}
 use Rattle.replica_histories.specs.Views.{entries_of}
-use Rattle.replica_histories.specs.Transfers.{FitsOpenTransfer}
+use Rattle.replica_histories.specs.Transfers.{FitsStateTransfer}
 use Rattle.replica_histories.specs.Events as histories
 use Rattle.replica_histories.specs.Events.{Start, after_outputs}
 use Rattle.replica_histories.proofs.ChangesKept.{silent_keep}
-use Rattle.replica_histories.proofs.ChangesPassing.{changes_stay, claims_are_above, inputs_enter}
+use Rattle.replica_histories.proofs.ChangesPassing.{changes_stay, pq_sets_are_above, inputs_enter}
 use Rattle.replica_histories.proofs.Entering.{ticks_fit}
 use Rattle.replica_histories.proofs.Leaves.{all_are_spent}
 use Rattle.replica_histories.proofs.Questions.{others_owe_no_part}
@@ -72,10 +72,10 @@ module _ (r : BothPartsData) (one : AreOne r.orderer r.desk) where
 
     -- the view-change data stay
     held : FitsChanges c me o.log (changes_held o) (tick ∷ past)
-    held = changes_stay c me past tick o.log o.log (changes_held o) o.claims
+    held = changes_stay c me past tick o.log o.log (changes_held o) o.pq_sets
         (inputs_enter c me (desk_of c r.desk) (desk_of c r.desk) o.log o.log (again_due (desk_of c r.desk).transfer) past tick runs.holds entered)
         (record { view = refl; active = refl }) (silent_keep c me past tick tt)
-        (claims_are_above c me o.log past o.claims runs.holds.of_log.fits runs.changes.claims) runs.changes
+        (pq_sets_are_above c me o.log past o.pq_sets runs.holds.of_log.fits runs.changes.pq_sets) runs.changes
 
     begins : FitsEvent c me start o (desk_of c r.desk) r.desk.waiting (again_due (desk_of c r.desk).transfer) []
     begins = record {
@@ -99,7 +99,7 @@ module _ (r : BothPartsData) (one : AreOne r.orderer r.desk) where
         (subst (λ (t : Option TransferData). FitsEvent c me start o (desk_of c r.desk) r.desk.waiting (again_due t) []) closed begins)
     goes_on outs known (inr (x, there, says)) =
         let again = ticks_may_ask c me x.transfer r.desk.executed.state.number r.desk.executed.state past
-        (subst (λ (t : Option TransferData). FitsOpenTransfer c me t r.desk.executed.state.number past) (open_is x there)
+        (subst (λ (t : Option TransferData). FitsStateTransfer c me t r.desk.executed.state.number past) (open_is x there)
         runs.holds.of_desk.opened) in
         asks_again c start o (desk_of c r.desk) r.desk.waiting [] outs x.transfer known says [] (open_is x there) again.0 again.1
         (subst (λ (t : Option TransferData). FitsEvent c me start o (desk_of c r.desk) r.desk.waiting (again_due t) []) (open_is x there) begins)
@@ -187,7 +187,7 @@ module _ (r : BothPartsData) (one : AreOne r.orderer r.desk) where
           stands c past runs outs known says,
           leaves c past runs r outs (rests c r past runs) runs.all
               (answers c past runs (given me outs) r.desk.executed.state.number (no_move c past runs (subst (λ (d : BothPartsData). IsNotDue d) same none) (given me outs))),
-          runs.begun,
+          runs.nothing_begins,
         );
       })
 
@@ -202,7 +202,7 @@ module _ (r : BothPartsData) (one : AreOne r.orderer r.desk) where
           leaves c past runs r outs (rests c r past runs) runs.all
               (answers c past runs (given me outs) r.desk.executed.state.number (unsaid_move c past runs v alike judge known (subst (λ (d : BothPartsData). IsDue d v) same due)
               (subst (λ (d : BothPartsData). IsUnsendable d.orderer (change_for v (entries_of d.desk.snapshots) d.orderer)) same stays.2) (given me outs))),
-          runs.begun,
+          runs.nothing_begins,
         );
       })
 

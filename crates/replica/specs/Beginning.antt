@@ -14,10 +14,10 @@ use Rattle.orderer.specs.Going.{IsVotedAll}
 use Rattle.replica.specs.Going.{IsOneParty, NothingIsLeft}
 
 -- The orderer can't begin the view that it moves to: it is active, or not that view's primary; or its keys are spent;
--- or it has no selection over the stored view changes with its claims.
+-- or it has no selection over the stored view changes with its Q.
 abbrev pub CannotBegin : Configuration → OrdererData → Type 0
 CannotBegin c o = o.log.active ≡ false → logs.primary o.log o.target ≡ o.log.me
-    → SelectsNothing c o.target o.received.held o.claims ⊎ (o.spent ≡ 64)
+    → SelectsNothing c o.target o.received.held o.pq_sets ⊎ (o.spent ≡ 64)
 
 -- It can't in any configuration with the replica's members and its period of checkpoints.
 abbrev pub HasNoView : BothPartsData → Type 0

@@ -33,7 +33,7 @@ pub record BothPartsMatchHistory (c : Configuration) (r : BothPartsData) (histor
   pub said : WasSent (me_of r) r.orderer.last_checkpoint history
   pub changes : FitsChanges c (me_of r) r.orderer.log (changes_held r.orderer) history
   pub all : IsAllNumbered r
-  pub begun : CannotBegin c r.orderer
+  pub nothing_begins : CannotBegin c r.orderer
 
 -- The history is that of a replica that orders requests, and the replica holds what the history says.
 pub record BothPartsFitHistory (c : Configuration) (r : BothPartsData) (history : List Entry) : Type 0 where

@@ -1,5 +1,5 @@
 -- How a replica enters a new view, part by part (Castro and Liskov, TOCS 2002, on new views).
-use Rattle.std.specs.Prelude.{◌≡◌, ◌⊎◌, true, false, ℕ, suc, ◌+◌, ◌≤◌, ◌<◌, Option, Some, None, Vec}
+use Rattle.std.specs.Prelude.{◌≡◌, ◌⊎◌, true, ℕ, suc, ◌+◌, ◌≤◌, Option}
 use Rattle.std.specs.Prelude.{List, length, ◌≡◌, ◌⊎◌, true, ℕ, suc, ◌+◌, ◌≤◌, Option}
 use Rattle.wire_format.specs.Messages.{CheckpointEntryData as CheckpointEntry}
 use Rattle.events.specs.declared.output.Output.{Output}
@@ -7,7 +7,7 @@ use Rattle.orderer.specs.EnterView.{LogsBatches, MulticastsVotesOf, entering}
 use Rattle.orderer.specs.State.{OrdererData}
 use Rattle.replica.specs.State.{BothPartsData}
 use Rattle.desk.specs.State.{DeskData}
-use Rattle.desk.specs.Begun.{NotesBegun}
+use Rattle.desk.specs.Assigned.{NotesAssigned}
 use Rattle.replica.specs.Fetching.{MulticastsFetch}
 use Rattle.desk.specs.Fetching.{SetsTarget, target_number}
 use Rattle.replica.specs.Marking.{MovesMarks}
@@ -23,7 +23,7 @@ FetchesStart entry old before new after =
 pub record EntersView (view : ℕ) (start : CheckpointEntry) (texts : List (List ℕ)) (own : Option (List ℕ))
     (old : BothPartsData) (before : List Output) (new : BothPartsData) (after : List Output) : Type 0 where
   pub desk : DeskData
-  pub noted : NotesBegun texts old.desk desk
+  pub noted : NotesAssigned texts old.desk desk
   pub cut : BothPartsData
   pub cuts : MovesMarks start.number
       (record old { orderer = entering view (start.number + length texts) own old.orderer; desk = desk }) cut

@@ -3,10 +3,10 @@ use Rattle.std.specs.Prelude.{◌≡◌, ℕ}
 use Rattle.ordering.specs.Log as logs
 use Rattle.orderer.specs.State.{OrdererData}
 use Rattle.replica.specs.State.{BothPartsData}
-use Rattle.orderer.specs.Claiming.{CutsLog}
+use Rattle.orderer.specs.PqSets.{CutsLog}
 use Rattle.desk.specs.Desking.{desk_above}
 
--- The low mark moves up to a number: the log is cut there, and the claims and kept states below it are dropped.
+-- The low mark moves up to a number: the log, P, Q and the kept states are cut there.
 abbrev pub MovesMarks : ℕ → BothPartsData → BothPartsData → Type 0
 MovesMarks low old new =
     (o : OrdererData) × CutsLog low old.orderer o

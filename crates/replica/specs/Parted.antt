@@ -51,7 +51,7 @@ pub record OrdererMatchesHistory (c : Configuration) (me : ℕ) (o : OrdererData
   pub said : WasSent me o.last_checkpoint history
   pub changes : FitsChanges c me o.log (changes_held o) history
   pub period : c.period ≡ o.received.sizes.period
-  pub begun : CannotBegin c o
+  pub nothing_begins : CannotBegin c o
 
 -- ---- what fits
 

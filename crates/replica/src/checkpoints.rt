@@ -79,7 +79,7 @@ impl BothParts {
         true
     }
 
-    /// Moves the low mark up to this number, and drops the rows, claims and states below it.
+    /// Moves the low mark up to this number, and drops the rows, entries of P and Q, and states below it.
     pub(crate) fn move_marks(&mut self, low: Number)
         requires { low.0 < 2 ^ 48 }
         ensures moves { MovesMarks low.0 self.old self.new }

@@ -39,10 +39,10 @@ impl BothParts {
             digest: selection.root,
         };
         let last = Number(start.number.0 + selection.batches.len() as u64);
-        self.desk.note_begun(alloc, &selection.batches)?;
+        self.desk.note_assigned(alloc, &selection.batches)?;
         self.orderer.enter(view, last, own);
         self.move_marks(start.number);
-        self.orderer.log_begun(start.number, selection.batches)?;
+        self.orderer.log_assigned(start.number, selection.batches)?;
         self.fetch_start(alloc, &start, outputs)?;
         self.orderer
             .multicast_all_votes(alloc, start.number, last, outputs)

@@ -60,17 +60,17 @@
 //! - **A request that comes again** (`multicast_all_again`). An active replica sends its own new view again. Then it
 //!   sends its batch, prepare and commit of each number above the executed one, and last its latest checkpoint. An
 //!   inactive one sends its view change. By contract all of it is among the outputs (`OutputsHaveAll`,
-//!   `OutputsHaveViewChange` in `orderer/specs/Saying.antt`), as `Owes.says_again` asks.
-//! - **A part that completes a state** (`install`, `Touched::State`). The marks move, and committed batches are
+//!   `OutputsHaveViewChange` in `orderer/specs/Multicasting.antt`), as `Owes.says_again` asks.
+//! - **A part that completes a state** (`install`, `DueWork::State`). The marks move, and committed batches are
 //!   executed. A page that completes no state is given back.
 //! - **A tick** (`on_timeout`, `change_view`). The replica sends the open fetch again, as `Owes.fetches_again` asks. A
-//!   replica that moves to the next view signs a view change by its claims and kept states, leaves its view, and sends
+//!   replica that moves to the next view signs a view change by P, Q and its kept states, leaves its view, and sends
 //!   it.
 //! - **A view change** (`receive`, `begin_view`). The primary signs and sends what `select` gives over the view changes
 //!   that it holds. If nothing is selected there, it owes none (`Owes.new_views`): `select` gives what meets the rules
 //!   over any part of them.
-//! - **A new view** (`enter`, `Touched::View`), the own one or another's. Calls in it count as numbered. The log enters
-//!   the view, the marks move up to the start, and the batches are logged and claimed. If the start is ahead, its state
+//! - **A new view** (`enter`, `DueWork::View`), the own one or another's. Calls in it count as numbered. The log enters
+//!   the view, the marks move up to the start, and the batches are logged and enter Q. If the start is ahead, its state
 //!   is fetched (`Owes.fetches_start`). Then votes are sent, and committed batches are executed.
 //!
 //! # How it is made

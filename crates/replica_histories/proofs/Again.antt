@@ -12,9 +12,9 @@ use Rattle.ordering.specs.Votes.{voted_digest}
 use Rattle.protocol.specs.System.Configuration.{Configuration, primary, is_number}
 use Rattle.protocol.specs.System.Trace.{Entry, Once, Always}
 use Rattle.protocol.specs.System.Trace.Entry.{Invoke, Got, Sent}
-use Rattle.protocol.specs.Replica.Certificates.{are_genuine, counts_at, taken, checkpoint_from, with_checkpoint, insert_checkpoint, checkpoints_of, batch_from, prepare_from, commit_from, batch_begun, brought, low, is_in_marks, begun_proposal, entry_proposal, proposal, logged, prepare_of, commit_of}
+use Rattle.protocol.specs.Replica.Certificates.{are_genuine, counts_at, taken, checkpoint_from, with_checkpoint, insert_checkpoint, checkpoints_of, batch_from, prepare_from, commit_from, assigned_batch, brought, low, is_in_marks, assigned_proposal, entry_proposal, proposal, logged, prepare_of, commit_of}
 use Rattle.protocol.specs.Replica.RightReplica.{Point, HistoryReaches, HasSeen, MayCheckpoint, others}
-use Rattle.protocol.specs.Replica.Owed.{NumbersOnce, IsBegunBelow}
+use Rattle.protocol.specs.Replica.Owed.{NumbersOnce, IsAssignedBelow}
 use Rattle.protocol.proofs.Words.Options.{some_injective, and_then_some, given_once, or_else_cases}
 use Rattle.protocol.proofs.Words.Temporal.{once_weaker, once_stays}
 use Rattle.protocol.proofs.Words.Elements.{each_weaker}
@@ -40,12 +40,12 @@ leaves_now : (c : Configuration) (me : ℕ) (s : Start) (desk : Desk) (log : Log
 leaves_now c me s desk log due outputs f = steps_leave c me s outputs (point_of desk f.of_desk.states f.of_desk.ran) f.of_desk.leaves f.of_desk.steps
 
 pub prepares_go_again : PreparesGoAgain
-prepares_go_again c me s desk log due outputs i digest bytes is_active there none posted f =
-    sent_fits c me s desk log log due due outputs bytes (others c me) (Prepare log.view i digest) f posted refl tt
+prepares_go_again c me s desk log due outputs i digest bytes is_active there none is_outgoing f =
+    sent_fits c me s desk log log due due outputs bytes (others c me) (Prepare log.view i digest) f is_outgoing refl tt
     (record { is_backup = backup; active = active c me log past f.of_log ∙ is_active; batch = l.batch; is_logged = l.is_logged; digest_is = l.digest })
     tt takes (prepare_placed c me me i digest log is_active within)
-    refl (no_root c (after_outputs s outputs) bytes me (Prepare log.view i digest) desk.state.number posted.says refl) (pays_none c me s desk log outputs (Prepare log.view i digest) bytes posted.says due refl f)
-    (unsent me s (Prepare log.view i digest) bytes outputs f.says.begins posted.says none) (no_proposal c me past bytes (Prepare log.view i digest) posted.says tt)
+    refl (no_root c (after_outputs s outputs) bytes me (Prepare log.view i digest) desk.state.number is_outgoing.says refl) (pays_none c me s desk log outputs (Prepare log.view i digest) bytes is_outgoing.says due refl f)
+    (unsent me s (Prepare log.view i digest) bytes outputs f.says.begins is_outgoing.says none) (no_proposal c me past bytes (Prepare log.view i digest) is_outgoing.says tt)
   where
     past : List Entry
     past = after_outputs s outputs
@@ -75,12 +75,12 @@ prepares_go_again c me s desk log due outputs i digest bytes is_active there non
         spoken_logged c me log.view i digest past (point_of desk f.of_desk.states f.of_desk.ran) leaves (prepare_spoken c me log.view i digest past (point_of desk f.of_desk.states f.of_desk.ran) leaves own)
 
 pub commits_go_again : CommitsGoAgain
-commits_go_again c me s desk log due outputs i digest bytes is_active there none posted f =
-    sent_fits c me s desk log log due due outputs bytes (others c me) (Commit log.view i digest) f posted refl tt
+commits_go_again c me s desk log due outputs i digest bytes is_active there none is_outgoing f =
+    sent_fits c me s desk log log due due outputs bytes (others c me) (Commit log.view i digest) f is_outgoing refl tt
     (record { active = active c me log past f.of_log ∙ is_active; batch = l.batch; prepared = l.prepared; digest_is = l.digest_is })
     tt takes (commit_placed c me me i digest log is_active within)
-    refl (no_root c (after_outputs s outputs) bytes me (Commit log.view i digest) desk.state.number posted.says refl) (pays_none c me s desk log outputs (Commit log.view i digest) bytes posted.says due refl f)
-    (unsent me s (Commit log.view i digest) bytes outputs f.says.begins posted.says none) (no_proposal c me past bytes (Commit log.view i digest) posted.says tt)
+    refl (no_root c (after_outputs s outputs) bytes me (Commit log.view i digest) desk.state.number is_outgoing.says refl) (pays_none c me s desk log outputs (Commit log.view i digest) bytes is_outgoing.says due refl f)
+    (unsent me s (Commit log.view i digest) bytes outputs f.says.begins is_outgoing.says none) (no_proposal c me past bytes (Commit log.view i digest) is_outgoing.says tt)
   where
     past : List Entry
     past = after_outputs s outputs
@@ -127,8 +127,8 @@ proposes c me v i batch own past (Invoke x y z) r h = absurd (let bad : None ≡
 proposes c me v i batch own past _ r h = absurd (let bad : None ≡ Some h.0 = h.1 in cc)
 
 -- a new view that the replica takes proposes the batch for the number
-abbrev BegunAt : Configuration → ℕ → ℕ → List ℕ → List Entry → Entry → Type 0
-BegunAt c v i batch past e = (new : NewViewData) × (taken c past e ≡ Some new) × (batch_begun v i new ≡ Some batch)
+abbrev IsAssignedAt : Configuration → ℕ → ℕ → List ℕ → List Entry → Entry → Type 0
+IsAssignedAt c v i batch past e = (new : NewViewData) × (taken c past e ≡ Some new) × (assigned_batch v i new ≡ Some batch)
 
 beyond : (batch : List ℕ) (xs : List (List ℕ)) (k : ℕ) → length xs ≤ k → slice_get xs k ≡ Some batch → ⊥
 beyond batch [] k l h = cc
@@ -136,24 +136,24 @@ beyond batch (x ∷ xs) zero l h = absurd (omega arith)
 beyond batch (x ∷ xs) (suc k) l h = beyond batch xs k (omega arith) h
 
 -- none does, if all new views of the view end below the number
-not_begun : (c : Configuration) (v i : ℕ) (batch : List ℕ) (history : List Entry) → IsBegunBelow c v i history → Once (BegunAt c v i batch) history → ⊥
-not_begun c v i batch [] below h = h
-not_begun c v i batch (e ∷ past) below (inr h) = not_begun c v i batch past (λ new once at. below new (inr once) at) h
-not_begun c v i batch (e ∷ past) below (inl h) =
+not_assigned : (c : Configuration) (v i : ℕ) (batch : List ℕ) (history : List Entry) → IsAssignedBelow c v i history → Once (IsAssignedAt c v i batch) history → ⊥
+not_assigned c v i batch [] below h = h
+not_assigned c v i batch (e ∷ past) below (inr h) = not_assigned c v i batch past (λ new once at. below new (inr once) at) h
+not_assigned c v i batch (e ∷ past) below (inl h) =
     let p = passed ((h.0.view == v) && nat_lt h.0.start i) (slice_get h.0.batches (i - h.0.start - 1)) batch h.2 in
     let q = and_parts (h.0.view == v) (nat_lt h.0.start i) p.0 in
     let l = below h.0 (inl h.1) (eqb-true h.0.view v q.0) in
     beyond batch h.0.batches (i - h.0.start - 1) (omega arith) p.1
 
 -- an entry's proposal, if no new view begins with it
-proposal_source : (c : Configuration) (me v i : ℕ) (batch : List ℕ) (past : List Entry) (e : Entry) → (BegunAt c v i batch past e → ⊥) → proposal c me past e v i ≡ Some batch
+proposal_source : (c : Configuration) (me v i : ℕ) (batch : List ℕ) (past : List Entry) (e : Entry) → (IsAssignedAt c v i batch past e → ⊥) → proposal c me past e v i ≡ Some batch
     → (body : Body) × (brought c e ≡ Some body) × (batch_from c me v i body ≡ Some batch)
-proposal_source c me v i batch past e none h = go (or_else_cases (begun_proposal c me past e v i) (entry_proposal c me past e v i) batch h)
+proposal_source c me v i batch past e none h = go (or_else_cases (assigned_proposal c me past e v i) (entry_proposal c me past e v i) batch h)
   where
-    go : (begun_proposal c me past e v i ≡ Some batch) ⊎ (entry_proposal c me past e v i ≡ Some batch) → (body : Body) × (brought c e ≡ Some body) × (batch_from c me v i body ≡ Some batch)
+    go : (assigned_proposal c me past e v i ≡ Some batch) ⊎ (entry_proposal c me past e v i ≡ Some batch) → (body : Body) × (brought c e ≡ Some body) × (batch_from c me v i body ≡ Some batch)
     go (inl k) =
-        let p = passed (is_in_marks c (low c me (e ∷ past)) i) (option_and_then (batch_begun v i) (taken c past e)) batch k in
-        let n = and_then_some (batch_begun v i) (taken c past e) batch p.1 in
+        let p = passed (is_in_marks c (low c me (e ∷ past)) i) (option_and_then (assigned_batch v i) (taken c past e)) batch k in
+        let n = and_then_some (assigned_batch v i) (taken c past e) batch p.1 in
         absurd (none (n.0, n.1, n.2))
     go (inr k) =
         let p = passed (counts_at c me past e v i) (option_and_then (batch_from c me v i) (brought c e)) batch k in
@@ -165,26 +165,26 @@ once_but P Q (e ∷ past) (inl h) n = inl (h, λ q. n (inl q))
 once_but P Q (e ∷ past) (inr h) n = inr (once_but P Q past h (λ q. n (inr q)))
 
 -- the replica proposed its own batch in a log that fits
-batch_proposed : (c : Configuration) (me v i : ℕ) (batch : List ℕ) (past : List Entry) (point : Point) → HistoryReaches c me past point → primary c v ≡ me → (Once (BegunAt c v i batch) past → ⊥) → logged c me past v i ≡ Some batch
+batch_proposed : (c : Configuration) (me v i : ℕ) (batch : List ℕ) (past : List Entry) (point : Point) → HistoryReaches c me past point → primary c v ≡ me → (Once (IsAssignedAt c v i batch) past → ⊥) → logged c me past v i ≡ Some batch
     → Proposed c me batch past
 unfolding logged
 batch_proposed c me v i batch past point leaves own none h =
     let once = given_once (λ earlier e. proposal c me earlier e v i) batch past h in
-    let but = once_but (λ past e. proposal c me past e v i ≡ Some batch) (BegunAt c v i batch) past once none in
+    let but = once_but (λ past e. proposal c me past e v i ≡ Some batch) (IsAssignedAt c v i batch) past once none in
     once_stays (Proposed c me batch) (proposed_stays c me batch) past
     (once_weaker
-    (λ past e. RightAt c me past e × ((proposal c me past e v i ≡ Some batch) × (BegunAt c v i batch past e → ⊥)) × Always (RightAt c me) past)
+    (λ past e. RightAt c me past e × ((proposal c me past e v i ≡ Some batch) × (IsAssignedAt c v i batch past e → ⊥)) × Always (RightAt c me) past)
     (λ past e. Proposed c me batch past)
     (λ past e t. proposes c me v i batch own past e t.0 (proposal_source c me v i batch past e t.1.1 t.1.0)) past
-    (once_right c me (λ past e. (proposal c me past e v i ≡ Some batch) × (BegunAt c v i batch past e → ⊥)) past (point, leaves) but))
+    (once_right c me (λ past e. (proposal c me past e v i ≡ Some batch) × (IsAssignedAt c v i batch past e → ⊥)) past (point, leaves) but))
 
 pub batches_go_again : BatchesGoAgain
-batches_go_again c me s desk log due outputs i batch bytes is_active own there below none posted f =
-    sent_fits c me s desk log log due due outputs bytes (others c me) (PrePrepare log.view i batch) f posted refl proposed.1
+batches_go_again c me s desk log due outputs i batch bytes is_active own there below none is_outgoing f =
+    sent_fits c me s desk log log due due outputs bytes (others c me) (PrePrepare log.view i batch) f is_outgoing refl proposed.1
     (record { is_primary = primary_is; active = active c me log past f.of_log ∙ is_active; in_marks = marks_are c me log past i f.of_log ∙ within; genuine = proposed.0; one = logged_stays c me log.view i batch (Sent me bytes) past logs_it; next = λ none. absurd (given_not (logged c me past log.view i) batch logs_it none) })
     tt takes (record { batch = place; votes = λ v j x other. (refl, refl); resting = λ rests j x. never_rests log is_active rests })
-    refl (no_root c (after_outputs s outputs) bytes me (PrePrepare log.view i batch) desk.state.number posted.says refl) (pays_none c me s desk log outputs (PrePrepare log.view i batch) bytes posted.says due refl f)
-    (unsent me s (PrePrepare log.view i batch) bytes outputs f.says.begins posted.says none) once
+    refl (no_root c (after_outputs s outputs) bytes me (PrePrepare log.view i batch) desk.state.number is_outgoing.says refl) (pays_none c me s desk log outputs (PrePrepare log.view i batch) bytes is_outgoing.says due refl f)
+    (unsent me s (PrePrepare log.view i batch) bytes outputs f.says.begins is_outgoing.says none) once
   where
     past : List Entry
     past = after_outputs s outputs
@@ -199,7 +199,7 @@ batches_go_again c me s desk log due outputs i batch bytes is_active own there b
     logs_it = f.of_log.batches i within ∙ there
 
     proposed : Proposed c me batch past
-    proposed = batch_proposed c me log.view i batch past (point_of desk f.of_desk.states f.of_desk.ran) (leaves_now c me s desk log due outputs f) primary_is (not_begun c log.view i batch past below) logs_it
+    proposed = batch_proposed c me log.view i batch past (point_of desk f.of_desk.states f.of_desk.ran) (leaves_now c me s desk log due outputs f) primary_is (not_assigned c log.view i batch past below) logs_it
 
     takes : LogTakesBody c me (Some (record { sender = me; message = PrePrepare log.view i batch })) log log
     takes = takes_nothing c me _ log f.of_log.is_log
@@ -218,7 +218,7 @@ batches_go_again c me s desk log due outputs i batch bytes is_active own there b
     -- its number is not free
     once : NumbersOnce c me past (Sent me bytes)
     once v j b says free =
-        let is : ◌≡◌ {A = Body} (record { sender = me; message = PrePrepare log.view i batch }) (record { sender = me; message = PrePrepare v j b }) = some_injective _ _ (sym posted.says ∙ says) in
+        let is : ◌≡◌ {A = Body} (record { sender = me; message = PrePrepare log.view i batch }) (record { sender = me; message = PrePrepare v j b }) = some_injective _ _ (sym is_outgoing.says ∙ says) in
         let at : place_of (PrePrepare log.view i batch) ≡ place_of (PrePrepare v j b) = ap (λ (x : Body). place_of x.message) is in
         let bad : logged c me past log.view i ≡ None = subst (λ (y : ℕ × ℕ). logged c me past y.0 y.1 ≡ None) (sym at) free in
         absurd (given_not (logged c me past log.view i) batch logs_it bad)
@@ -229,12 +229,12 @@ batches_go_again c me s desk log due outputs i batch bytes is_active own there b
 -- ---- the replica's own checkpoint
 
 pub checkpoints_go_again : CheckpointsGoAgain
-checkpoints_go_again c me s desk log outputs k root bytes once none posted f =
-    sent_fits c me s desk log log [] [] outputs bytes (others c me) (Checkpoint k root) f posted refl tt
+checkpoints_go_again c me s desk log outputs k root bytes once none is_outgoing f =
+    sent_fits c me s desk log log [] [] outputs bytes (others c me) (Checkpoint k root) f is_outgoing refl tt
     may
     tt takes (beside_placed c me log me (Checkpoint k root) tt)
-    refl (own_root c past bytes me k root desk.state.number posted.says executed) (pays_alone c me s desk log outputs (Checkpoint k root) bytes posted.says (λ j kept same. no_reply (Checkpoint k root) j kept refl same) f)
-    (unsent me s (Checkpoint k root) bytes outputs f.says.begins posted.says none) (no_proposal c me past bytes (Checkpoint k root) posted.says tt)
+    refl (own_root c past bytes me k root desk.state.number is_outgoing.says executed) (pays_alone c me s desk log outputs (Checkpoint k root) bytes is_outgoing.says (λ j kept same. no_reply (Checkpoint k root) j kept refl same) f)
+    (unsent me s (Checkpoint k root) bytes outputs f.says.begins is_outgoing.says none) (no_proposal c me past bytes (Checkpoint k root) is_outgoing.says tt)
   where
     past : List Entry
     past = after_outputs s outputs

@@ -40,23 +40,23 @@ is_part pages k _ index = tt
 part_goes : (c : Configuration) (me : ℕ) (s : Start) (desk : Desk) (log : LogData) (due : List Message) (outputs : List Entry) (receivers bytes : List ℕ) (message : Message) (f : BothFitWithinEvent c me s desk log due outputs) → IsPart message
     → IsOutgoing c me message receivers bytes → IsFor c me (after_outputs s outputs) message receivers → MaySendMessage c me (after_outputs s outputs) (point_of desk f.of_desk.states f.of_desk.ran) (Sent me bytes) bytes message → (SendsMessage me message outputs → ⊥)
     → BothFitWithinEvent c me s desk log due (Sent me bytes ∷ outputs)
-part_goes c me s desk log due outputs receivers bytes (Meta k level index digests) f is posted for allowed none =
-    sent_fits c me s desk log log due due outputs bytes receivers (Meta k level index digests) f posted for tt allowed
+part_goes c me s desk log due outputs receivers bytes (Meta k level index digests) f is is_outgoing for allowed none =
+    sent_fits c me s desk log log due due outputs bytes receivers (Meta k level index digests) f is_outgoing for tt allowed
     tt
     (takes_nothing c me (Some (record { sender = me; message = Meta k level index digests })) log f.of_log.is_log (λ i w h. refl) (λ i x w h. refl) (λ i x w h. refl) (λ x. refl)) (beside_placed c me log me (Meta k level index digests) tt)
-    refl (no_root c (after_outputs s outputs) bytes me (Meta k level index digests) desk.state.number posted.says refl) (pays_none c me s desk log outputs (Meta k level index digests) bytes posted.says due refl f)
-    (unsent me s (Meta k level index digests) bytes outputs f.says.begins posted.says none) (no_proposal c me (after_outputs s outputs) bytes (Meta k level index digests) posted.says tt)
-part_goes c me s desk log due outputs receivers bytes (Page k index text) f is posted for allowed none =
-    sent_fits c me s desk log log due due outputs bytes receivers (Page k index text) f posted for tt allowed
+    refl (no_root c (after_outputs s outputs) bytes me (Meta k level index digests) desk.state.number is_outgoing.says refl) (pays_none c me s desk log outputs (Meta k level index digests) bytes is_outgoing.says due refl f)
+    (unsent me s (Meta k level index digests) bytes outputs f.says.begins is_outgoing.says none) (no_proposal c me (after_outputs s outputs) bytes (Meta k level index digests) is_outgoing.says tt)
+part_goes c me s desk log due outputs receivers bytes (Page k index text) f is is_outgoing for allowed none =
+    sent_fits c me s desk log log due due outputs bytes receivers (Page k index text) f is_outgoing for tt allowed
     tt
     (takes_nothing c me (Some (record { sender = me; message = Page k index text })) log f.of_log.is_log (λ i w h. refl) (λ i x w h. refl) (λ i x w h. refl) (λ x. refl)) (beside_placed c me log me (Page k index text) tt)
-    refl (no_root c (after_outputs s outputs) bytes me (Page k index text) desk.state.number posted.says refl) (pays_none c me s desk log outputs (Page k index text) bytes posted.says due refl f)
-    (unsent me s (Page k index text) bytes outputs f.says.begins posted.says none) (no_proposal c me (after_outputs s outputs) bytes (Page k index text) posted.says tt)
-part_goes c me s desk log due outputs receivers bytes _ f is posted for allowed none = absurd is
+    refl (no_root c (after_outputs s outputs) bytes me (Page k index text) desk.state.number is_outgoing.says refl) (pays_none c me s desk log outputs (Page k index text) bytes is_outgoing.says due refl f)
+    (unsent me s (Page k index text) bytes outputs f.says.begins is_outgoing.says none) (no_proposal c me (after_outputs s outputs) bytes (Page k index text) is_outgoing.says tt)
+part_goes c me s desk log due outputs receivers bytes _ f is is_outgoing for allowed none = absurd is
 
 pub parts_fit : PartsFit
-parts_fit c me s desk log due outputs snapshot asker index level bytes has asked none posted f =
-    part_goes c me s desk log due outputs (asker ∷ []) bytes (answer_by snapshot.pages snapshot.number level index) f (is_part snapshot.pages snapshot.number level index) posted may.1 may.0 none
+parts_fit c me s desk log due outputs snapshot asker index level bytes has asked none is_outgoing f =
+    part_goes c me s desk log due outputs (asker ∷ []) bytes (answer_by snapshot.pages snapshot.number level index) f (is_part snapshot.pages snapshot.number level index) is_outgoing may.1 may.0 none
   where
     point : Point
     point = point_of desk f.of_desk.states f.of_desk.ran
@@ -110,12 +110,12 @@ abbrev is_read_only_of : Body → Bool
 is_read_only_of body = elim body.message [ Request t mode op ↦ is_read_only op | _ ↦ false ]
 
 pub reads_fit : ReadsFit
-reads_fit c me s desk log due outputs client t op bytes heard_it is none posted f =
-    sent_fits c me s desk log log due due outputs bytes (client ∷ []) reply f posted refl tt (record { op = op; is_read = is; authentic = heard_it; answer_is = refl; number_is = refl })
+reads_fit c me s desk log due outputs client t op bytes heard_it is none is_outgoing f =
+    sent_fits c me s desk log log due due outputs bytes (client ∷ []) reply f is_outgoing refl tt (record { op = op; is_read = is; authentic = heard_it; answer_is = refl; number_is = refl })
     tt
     (takes_nothing c me (Some (record { sender = me; message = reply })) log f.of_log.is_log (λ i w h. refl) (λ i x w h. refl) (λ i x w h. refl) (λ x. refl)) (beside_placed c me log me reply tt)
-    refl (no_root c (after_outputs s outputs) bytes me reply desk.state.number posted.says refl) (pays_none c me s desk log outputs reply bytes posted.says due refl f)
-    (unsent me s reply bytes outputs f.says.begins posted.says none) (no_proposal c me (after_outputs s outputs) bytes reply posted.says tt)
+    refl (no_root c (after_outputs s outputs) bytes me reply desk.state.number is_outgoing.says refl) (pays_none c me s desk log outputs reply bytes is_outgoing.says due refl f)
+    (unsent me s reply bytes outputs f.says.begins is_outgoing.says none) (no_proposal c me (after_outputs s outputs) bytes reply is_outgoing.says tt)
   where
     reply : Message
     reply = read_reply desk.state client t op

@@ -13,7 +13,7 @@ use Rattle.ordering.proofs.Reading.{batches_are_logged}
 use Rattle.ordering.proofs.Moving.{cuts_keep}
 use Rattle.ordering.proofs.Viewing.{committed_stay}
 use Rattle.replica_histories.specs.Logs.{LogStays}
-use Rattle.replica_histories.specs.Views.{with_batches, begun_log}
+use Rattle.replica_histories.specs.Views.{with_batches, entered_log}
 use Rattle.replica_histories.proofs.Words.{marks_stay}
 use Rattle.replica_histories.proofs.Cutting.{cut_low, cut_same, cut_at, cut_is_log}
 
@@ -156,39 +156,39 @@ module _ (log : LogData) (new : NewViewData) (is : IsLog log) (small : new.start
   cut_is : IsLog cut
   cut_is = cut_is_log in_view new.start in_view_is_log small
 
-  pub stays : LogStays cut (begun_log log new)
+  pub stays : LogStays cut (entered_log log new)
   stays = batches_stay cut (suc new.start) new.batches cut_is
 
-  pub begun_is_log : IsLog (begun_log log new)
-  begun_is_log = stays.is_log
+  pub entered_is_log : IsLog (entered_log log new)
+  entered_is_log = stays.is_log
 
-  pub begun_me : (begun_log log new).me ≡ log.me
-  begun_me = stays.me ∙ cut_same (λ m. m.me) (λ m h rows. refl) in_view new.start
+  pub entered_me : (entered_log log new).me ≡ log.me
+  entered_me = stays.me ∙ cut_same (λ m. m.me) (λ m h rows. refl) in_view new.start
 
-  pub begun_faults : (begun_log log new).faults ≡ log.faults
-  begun_faults = stays.faults ∙ cut_same (λ m. m.faults) (λ m h rows. refl) in_view new.start
+  pub entered_faults : (entered_log log new).faults ≡ log.faults
+  entered_faults = stays.faults ∙ cut_same (λ m. m.faults) (λ m h rows. refl) in_view new.start
 
-  pub begun_span : (begun_log log new).span ≡ log.span
-  begun_span = stays.span ∙ cut_same (λ m. m.span) (λ m h rows. refl) in_view new.start
+  pub entered_span : (entered_log log new).span ≡ log.span
+  entered_span = stays.span ∙ cut_same (λ m. m.span) (λ m h rows. refl) in_view new.start
 
-  pub begun_view : (begun_log log new).view ≡ new.view
-  begun_view = stays.view ∙ cut_same (λ m. m.view) (λ m h rows. refl) in_view new.start
+  pub entered_view : (entered_log log new).view ≡ new.view
+  entered_view = stays.view ∙ cut_same (λ m. m.view) (λ m h rows. refl) in_view new.start
 
-  pub begun_active : (begun_log log new).active ≡ true
-  begun_active = stays.active ∙ cut_same (λ m. m.active) (λ m h rows. refl) in_view new.start
+  pub entered_log_active : (entered_log log new).active ≡ true
+  entered_log_active = stays.active ∙ cut_same (λ m. m.active) (λ m h rows. refl) in_view new.start
 
-  pub begun_checkpoints : (begun_log log new).checkpoints ≡ log.checkpoints
-  begun_checkpoints = stays.checkpoints ∙ cut_same (λ m. m.checkpoints) (λ m h rows. refl) in_view new.start
+  pub entered_checkpoints : (entered_log log new).checkpoints ≡ log.checkpoints
+  entered_checkpoints = stays.checkpoints ∙ cut_same (λ m. m.checkpoints) (λ m h rows. refl) in_view new.start
 
-  pub begun_low : (begun_log log new).low ≡ max log.low new.start
-  begun_low = stays.low ∙ ap (λ (m : LogData). m.low) (sym (cut_at in_view new.start)) ∙ cut_low in_view (max log.low new.start) (omega arith)
+  pub entered_low : (entered_log log new).low ≡ max log.low new.start
+  entered_low = stays.low ∙ ap (λ (m : LogData). m.low) (sym (cut_at in_view new.start)) ∙ cut_low in_view (max log.low new.start) (omega arith)
 
-  within_cut : (i : ℕ) → logs.is_in_marks (begun_log log new) i ≡ true → logs.is_in_marks cut i ≡ true
-  within_cut i w = sym (marks_stay cut (begun_log log new) i stays) ∙ w
+  within_cut : (i : ℕ) → logs.is_in_marks (entered_log log new) i ≡ true → logs.is_in_marks cut i ≡ true
+  within_cut i w = sym (marks_stay cut (entered_log log new) i stays) ∙ w
 
   -- its batch is the new view's
-  pub begun_batch : (i : ℕ) → logs.is_in_marks (begun_log log new) i ≡ true → new.start < i → logs.logged_batch (begun_log log new) i ≡ slice_get new.batches (i - suc new.start)
-  begun_batch i w l =
+  pub entered_batch : (i : ℕ) → logs.is_in_marks (entered_log log new) i ≡ true → new.start < i → logs.logged_batch (entered_log log new) i ≡ slice_get new.batches (i - suc new.start)
+  entered_batch i w l =
       batches_there cut (suc new.start) i new.batches cut_is (within_cut i w) (omega arith)
       ∙ ap (or_else (slice_get new.batches (i - suc new.start))) ((cuts_keep in_view new.start i log.me in_view_is_log).0 ∙ rw (within_cut i w) (committed_stay log new.view i log.me is).0)
       ∙ alone (slice_get new.batches (i - suc new.start))
@@ -198,19 +198,19 @@ module _ (log : LogData) (new : NewViewData) (is : IsLog log) (small : new.start
       alone (Some x) = refl
 
   -- nobody has voted
-  pub begun_prepare : (i s : ℕ) → logs.prepare_of (begun_log log new) i s ≡ None
-  begun_prepare i s =
+  pub assigned_prepare : (i s : ℕ) → logs.prepare_of (entered_log log new) i s ≡ None
+  assigned_prepare i s =
       (batches_votes cut (suc new.start) i s new.batches cut_is).0 ∙ (cuts_keep in_view new.start i s in_view_is_log).1
       ∙ none_chosen (logs.is_in_marks cut i) (logs.prepare_of in_view i s) (committed_stay log new.view i s is).1
 
-  pub begun_commit : (i s : ℕ) → logs.commit_of (begun_log log new) i s ≡ None
-  begun_commit i s =
+  pub assigned_commit : (i s : ℕ) → logs.commit_of (entered_log log new) i s ≡ None
+  assigned_commit i s =
       (batches_votes cut (suc new.start) i s new.batches cut_is).1 ∙ (cuts_keep in_view new.start i s in_view_is_log).2
       ∙ none_chosen (logs.is_in_marks cut i) (logs.commit_of in_view i s) (committed_stay log new.view i s is).2
 
   -- and it has the batch that was committed
-  pub begun_decided : (i : ℕ) → logs.is_in_marks (begun_log log new) i ≡ true → (logs.row_of (begun_log log new) i).decided ≡ logs.committed_batch log i
-  begun_decided i w =
+  pub assigned_decided : (i : ℕ) → logs.is_in_marks (entered_log log new) i ≡ true → (logs.row_of (entered_log log new) i).decided ≡ logs.committed_batch log i
+  assigned_decided i w =
       batches_decided cut (suc new.start) i new.batches cut_is (within_cut i w) ∙ (cuts_keep in_view new.start i log.me in_view_is_log).3 (within_cut i w) ∙ go (logs.is_in_marks log i) refl
     where
       go : (b : Bool) → logs.is_in_marks log i ≡ b → cond b (logs.row_of in_view i).decided None ≡ logs.committed_batch log i

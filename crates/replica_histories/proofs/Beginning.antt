@@ -16,7 +16,7 @@ use Rattle.ordering.proofs.Reading.{above_low}
 use Rattle.protocol.specs.System.Configuration.{Configuration, replicas}
 use Rattle.protocol.specs.System.Trace.{Entry, Once}
 use Rattle.protocol.specs.Replica.Selection.{is_quorum, is_weak_quorum, changes_of, passes_by, count_in, is_within, may_select}
-use Rattle.protocol.specs.Replica.Certificates.{brought, target, taken, installed_at, checkpoint_in, checkpoint_from, checkpoints_of, with_checkpoint, is_stable, stable_at, started_at, low, is_in_marks, counts_at, batch_from, batch_begun, begun_proposal, entry_proposal, proposal, logged, prepare_from, prepare_of, commit_from, commit_of, vote_in, Prepared, Committed}
+use Rattle.protocol.specs.Replica.Certificates.{brought, target, taken, installed_at, checkpoint_in, checkpoint_from, checkpoints_of, with_checkpoint, is_stable, stable_at, started_at, low, is_in_marks, counts_at, batch_from, assigned_batch, assigned_proposal, entry_proposal, proposal, logged, prepare_from, prepare_of, commit_from, commit_of, vote_in, Prepared, Committed}
 use Rattle.protocol.specs.Replica.Owed.{BeginsViewWith}
 use Rattle.protocol.proofs.Words.Options.{or_else_alone, or_else_cases, or_else_second, some_injective}
 use Rattle.protocol.proofs.Words.Elements.{every_has, some_of_has}
@@ -25,12 +25,12 @@ use Rattle.protocol.proofs.Words.Bounds.{bounded}
 use Rattle.protocol.proofs.Agreement.Marks.{Takes, takes, selects, selected_in, proposes}
 use Rattle.protocol.proofs.Agreement.Executing.{commit_stays, committed_later}
 use Rattle.replica_histories.specs.Logs.{checkpoints_above, AreLatest, IsVoted, MayBeLogged, FitsViews, FitsLog}
-use Rattle.replica_histories.specs.Views.{begun_log}
+use Rattle.replica_histories.specs.Views.{entered_log}
 use Rattle.replica_histories.proofs.Words.{apart, passed, given_not, marks_same}
 use Rattle.replica_histories.proofs.Latest.{above_higher}
 use Rattle.replica_histories.proofs.Certified.{logged_within, prepared_there, committed_here, committed_there}
 use Rattle.replica_histories.proofs.Settling.{own_commit}
-use Rattle.replica_histories.proofs.Batches.{begun_is_log, begun_me, begun_faults, begun_span, begun_view, begun_active, begun_checkpoints, begun_low, begun_batch, begun_prepare, begun_commit, begun_decided}
+use Rattle.replica_histories.proofs.Batches.{entered_is_log, entered_me, entered_faults, entered_span, entered_view, entered_log_active, entered_checkpoints, entered_low, entered_batch, assigned_prepare, assigned_commit, assigned_decided}
 use Rattle.replica_histories.proofs.Cutting.{installs_nothing}
 
 -- ---- an entry that brings a view change or a new view
@@ -137,43 +137,43 @@ module _ (c : Configuration) (me : ℕ) (log : LogData) (past : List Entry) (e :
   pub new_small : new.start < 2 ^ 48
   new_small = start_small c new (selected_in c e new it.brought)
 
-  abbrev begun : LogData
-  begun = begun_log log new
+  abbrev assigned : LogData
+  assigned = entered_log log new
 
-  pub low_behind : low c me (e ∷ past) ≡ begun.low
+  pub low_behind : low c me (e ∷ past) ≡ assigned.low
   unfolding low
   low_behind =
       let stable : stable_at c me past e ≡ 0 = ap (λ (o : Option (ℕ × CheckpointEntry)). option_map_or (λ (x : ℕ × CheckpointEntry). cond (is_stable c me (e ∷ past) x.1) x.1.number 0) o 0) q.checkpoint in
       let started : started_at c past e ≡ new.start = ap (λ (o : Option NewViewData). option_map_or (λ (x : NewViewData). x.start) o 0) t in
       let installed = q.installed in
       let was = f.low in
-      let is = begun_low log new f.is_log new_small in
+      let is = entered_low log new f.is_log new_small in
       omega arith
 
-  marks_behind : (i : ℕ) → is_in_marks c (low c me (e ∷ past)) i ≡ logs.is_in_marks begun i
-  marks_behind i = ap (λ (h : ℕ). is_in_marks c h i) low_behind ∙ marks_same c begun i (begun_span log new f.is_log new_small ∙ f.span)
+  marks_behind : (i : ℕ) → is_in_marks c (low c me (e ∷ past)) i ≡ logs.is_in_marks assigned i
+  marks_behind i = ap (λ (h : ℕ). is_in_marks c h i) low_behind ∙ marks_same c assigned i (entered_span log new f.is_log new_small ∙ f.span)
 
-  pub begun_high : log.low ≤ begun.low
-  begun_high = let is = begun_low log new f.is_log new_small in omega arith
+  pub entered_high : log.low ≤ assigned.low
+  entered_high = let is = entered_low log new f.is_log new_small in omega arith
 
-  begun_start : new.start ≤ begun.low
-  begun_start = let is = begun_low log new f.is_log new_small in omega arith
+  assigned_start : new.start ≤ assigned.low
+  assigned_start = let is = entered_low log new f.is_log new_small in omega arith
 
   -- its proposals are for its view, within the marks after it
-  proposed : (v i : ℕ) (batch : List ℕ) → proposal c me past e v i ≡ Some batch → (v ≡ new.view) × (logs.is_in_marks begun i ≡ true)
-  proposed v i batch h = go (or_else_cases (begun_proposal c me past e v i) (entry_proposal c me past e v i) batch h)
+  proposed : (v i : ℕ) (batch : List ℕ) → proposal c me past e v i ≡ Some batch → (v ≡ new.view) × (logs.is_in_marks assigned i ≡ true)
+  proposed v i batch h = go (or_else_cases (assigned_proposal c me past e v i) (entry_proposal c me past e v i) batch h)
     where
-      go : (begun_proposal c me past e v i ≡ Some batch) ⊎ (entry_proposal c me past e v i ≡ Some batch) → (v ≡ new.view) × (logs.is_in_marks begun i ≡ true)
+      go : (assigned_proposal c me past e v i ≡ Some batch) ⊎ (entry_proposal c me past e v i ≡ Some batch) → (v ≡ new.view) × (logs.is_in_marks assigned i ≡ true)
       go (inr k) = absurd (given_not (entry_proposal c me past e v i) batch k (q.batch v i))
       go (inl k) =
-          let p = passed (is_in_marks c (low c me (e ∷ past)) i) (option_and_then (batch_begun v i) (taken c past e)) batch k in
-          (sym (proposes c v i new batch (sym (ap (option_and_then (batch_begun v i)) t) ∙ p.1)).view_is, sym (marks_behind i) ∙ p.0)
+          let p = passed (is_in_marks c (low c me (e ∷ past)) i) (option_and_then (assigned_batch v i) (taken c past e)) batch k in
+          (sym (proposes c v i new batch (sym (ap (option_and_then (assigned_batch v i)) t) ∙ p.1)).view_is, sym (marks_behind i) ∙ p.0)
 
-  pub logged_cases : (v i : ℕ) (batch : List ℕ) → logged c me (e ∷ past) v i ≡ Some batch → (logged c me past v i ≡ Some batch) ⊎ ((v ≡ new.view) × (logs.is_in_marks begun i ≡ true))
+  pub logged_cases : (v i : ℕ) (batch : List ℕ) → logged c me (e ∷ past) v i ≡ Some batch → (logged c me past v i ≡ Some batch) ⊎ ((v ≡ new.view) × (logs.is_in_marks assigned i ≡ true))
   unfolding logged
   logged_cases v i batch h = go (or_else_cases (logged c me past v i) (proposal c me past e v i) batch h)
     where
-      go : (logged c me past v i ≡ Some batch) ⊎ (proposal c me past e v i ≡ Some batch) → (logged c me past v i ≡ Some batch) ⊎ ((v ≡ new.view) × (logs.is_in_marks begun i ≡ true))
+      go : (logged c me past v i ≡ Some batch) ⊎ (proposal c me past e v i ≡ Some batch) → (logged c me past v i ≡ Some batch) ⊎ ((v ≡ new.view) × (logs.is_in_marks assigned i ≡ true))
       go (inl k) = inl k
       go (inr k) = inr (proposed v i batch k)
 
@@ -181,7 +181,7 @@ module _ (c : Configuration) (me : ℕ) (log : LogData) (past : List Entry) (e :
   pub logged_before : (v i : ℕ) (batch : List ℕ) → v < new.view → logged c me (e ∷ past) v i ≡ Some batch → logged c me past v i ≡ Some batch
   logged_before v i batch l h = go (logged_cases v i batch h)
     where
-      go : (logged c me past v i ≡ Some batch) ⊎ ((v ≡ new.view) × (logs.is_in_marks begun i ≡ true)) → logged c me past v i ≡ Some batch
+      go : (logged c me past v i ≡ Some batch) ⊎ ((v ≡ new.view) × (logs.is_in_marks assigned i ≡ true)) → logged c me past v i ≡ Some batch
       go (inl k) = k
       go (inr k) = let same = k.0 in absurd (omega arith)
 
@@ -193,44 +193,44 @@ module _ (c : Configuration) (me : ℕ) (log : LogData) (past : List Entry) (e :
       go None h = refl
       go (Some batch) h = let w = (f.within new.view i batch h).view in let a = new_above in absurd (omega arith)
 
-  pub logged_here : (i : ℕ) → logs.is_in_marks begun i ≡ true → logged c me (e ∷ past) new.view i ≡ logs.logged_batch begun i
+  pub logged_here : (i : ℕ) → logs.is_in_marks assigned i ≡ true → logged c me (e ∷ past) new.view i ≡ logs.logged_batch assigned i
   unfolding logged
   logged_here i w =
       or_else_second (logged c me past new.view i) (proposal c me past e new.view i) (none_logged i)
-      ∙ or_else_alone (begun_proposal c me past e new.view i) (entry_proposal c me past e new.view i) (q.batch new.view i)
+      ∙ or_else_alone (assigned_proposal c me past e new.view i) (entry_proposal c me past e new.view i) (q.batch new.view i)
       ∙ rw (marks_behind i ∙ w, t, eq-eqb new.view new.view refl, lt-ltb new.start i above) (ap (slice_get new.batches) place)
-      ∙ sym (begun_batch log new f.is_log new_small i w above)
+      ∙ sym (entered_batch log new f.is_log new_small i w above)
     where
       above : new.start < i
-      above = let l = above_low begun i w in let s = begun_start in omega arith
+      above = let l = above_low assigned i w in let s = assigned_start in omega arith
 
       place : i - new.start - 1 ≡ i - suc new.start
       place = omega arith
 
-  above_old : (i : ℕ) → logs.is_in_marks begun i ≡ true → log.low < i
-  above_old i w = let l = above_low begun i w in let h = begun_high in omega arith
+  above_old : (i : ℕ) → logs.is_in_marks assigned i ≡ true → log.low < i
+  above_old i w = let l = above_low assigned i w in let h = entered_high in omega arith
 
   nobody : (i s : ℕ) (v : ℕ) → log.view < v → (prepare_of c me (e ∷ past) v i s ≡ None) × (commit_of c me (e ∷ past) v i s ≡ None)
   nobody i s v l = let n = f.views.later v i s l in (still_prepare c me past e q v i s ∙ n.0, still_commit c me past e q v i s ∙ n.1)
 
   module _ (targets : target (e ∷ past) ≤ new.view) (none_due : (i : ℕ) → logs.due_commit log i ≡ None) where
-    at : (P : ℕ → Type 0) → P new.view → P begun.view
-    at P h = subst P (sym (begun_view log new f.is_log new_small)) h
+    at : (P : ℕ → Type 0) → P new.view → P assigned.view
+    at P h = subst P (sym (entered_view log new f.is_log new_small)) h
 
-    decided : (i : ℕ) (batch : List ℕ) → logs.is_in_marks begun i ≡ true → (logs.row_of begun i).decided ≡ Some batch → (v : ℕ) × (v < begun.view) × Committed c me (e ∷ past) v i batch
+    decided : (i : ℕ) (batch : List ℕ) → logs.is_in_marks assigned i ≡ true → (logs.row_of assigned i).decided ≡ Some batch → (v : ℕ) × (v < assigned.view) × Committed c me (e ∷ past) v i batch
     decided i batch w h =
-        let k = committed_here c me log past i batch f (sym (begun_decided log new f.is_log new_small i w) ∙ h) in
+        let k = committed_here c me log past i batch f (sym (assigned_decided log new f.is_log new_small i w) ∙ h) in
         let a = new_above in
         let most = (f.within k.0 i batch k.1.prepared.logged).view in
         (k.0, at (λ v. k.0 < v) (omega arith), committed_later c me k.0 i batch e past k.1)
 
-    all_decided : (v i : ℕ) (batch : List ℕ) → v < new.view → logs.is_in_marks begun i ≡ true → Committed c me (e ∷ past) v i batch → (known : List ℕ) × ((logs.row_of begun i).decided ≡ Some known)
+    all_decided : (v i : ℕ) (batch : List ℕ) → v < new.view → logs.is_in_marks assigned i ≡ true → Committed c me (e ∷ past) v i batch → (known : List ℕ) × ((logs.row_of assigned i).decided ≡ Some known)
     all_decided v i batch l w k =
         let was = still_committed c me past e q v i batch (logged_before v i batch l k.prepared.logged) k in
         let known = committed_there c me log past v i batch f (above_old i w) was in
-        (known.0, begun_decided log new f.is_log new_small i w ∙ known.1)
+        (known.0, assigned_decided log new f.is_log new_small i w ∙ known.1)
 
-    voted : (v i : ℕ) (batch : List ℕ) → logs.is_in_marks begun i ≡ true → v < new.view → Prepared c me (e ∷ past) v i batch → (digest : List ℕ) × (commit_of c me (e ∷ past) v i me ≡ Some digest)
+    voted : (v i : ℕ) (batch : List ℕ) → logs.is_in_marks assigned i ≡ true → v < new.view → Prepared c me (e ∷ past) v i batch → (digest : List ℕ) × (commit_of c me (e ∷ past) v i me ≡ Some digest)
     voted v i batch w l p = go (nat_lt v log.view) refl
       where
         was_logged : logged c me past v i ≡ Some batch
@@ -255,82 +255,82 @@ module _ (c : Configuration) (me : ℕ) (log : LogData) (past : List Entry) (e :
         go true h = later (f.views.voted v i batch inside (inl (ltb-true v log.view h)) was)
         go false h = let most = (f.within v i batch was_logged).view in let least = ltb-false v log.view h in later (own (omega arith) log.active refl)
 
-    views : FitsViews c me begun (e ∷ past)
+    views : FitsViews c me assigned (e ∷ past)
     views = record {
       decided = decided;
-      all_decided = λ v i batch l w k. all_decided v i batch (subst (λ (n : ℕ). v < n) (begun_view log new f.is_log new_small) l) w k;
+      all_decided = λ v i batch l w k. all_decided v i batch (subst (λ (n : ℕ). v < n) (entered_view log new f.is_log new_small) l) w k;
       voted = λ v i batch w when p. voted v i batch w (earlier v when) p;
-      later = λ v i s l. nobody i s v (let a = new_above in let is = begun_view log new f.is_log new_small in omega arith);
+      later = λ v i s l. nobody i s v (let a = new_above in let is = entered_view log new f.is_log new_small in omega arith);
     }
       where
-        earlier : (v : ℕ) → (v < begun.view) ⊎ (begun.active ≡ false) → v < new.view
-        earlier v (inl l) = subst (λ (n : ℕ). v < n) (begun_view log new f.is_log new_small) l
-        earlier v (inr a) = absurd (apart begun.active (begun_active log new f.is_log new_small) a)
+        earlier : (v : ℕ) → (v < assigned.view) ⊎ (assigned.active ≡ false) → v < new.view
+        earlier v (inl l) = subst (λ (n : ℕ). v < n) (entered_view log new f.is_log new_small) l
+        earlier v (inr a) = absurd (apart assigned.active (entered_log_active log new f.is_log new_small) a)
 
-    within : (v i : ℕ) (batch : List ℕ) → logged c me (e ∷ past) v i ≡ Some batch → MayBeLogged begun v i
+    within : (v i : ℕ) (batch : List ℕ) → logged c me (e ∷ past) v i ≡ Some batch → MayBeLogged assigned v i
     within v i batch h = go (logged_cases v i batch h)
       where
-        is_view : begun.view ≡ new.view
-        is_view = begun_view log new f.is_log new_small
+        is_view : assigned.view ≡ new.view
+        is_view = entered_view log new f.is_log new_small
 
-        span_same : begun.span ≡ log.span
-        span_same = begun_span log new f.is_log new_small
+        span_same : assigned.span ≡ log.span
+        span_same = entered_span log new f.is_log new_small
 
-        inside : logs.is_in_marks begun i ≡ true → (i ≤ begun.low + begun.span) × (i < 2 ^ 48)
+        inside : logs.is_in_marks assigned i ≡ true → (i ≤ assigned.low + assigned.span) × (i < 2 ^ 48)
         inside w =
-            let p = and_parts (nat_lt begun.low i && nat_le i (begun.low + begun.span)) (nat_lt i (2 ^ 48)) w in
-            (leb-true i (begun.low + begun.span) (and_parts (nat_lt begun.low i) (nat_le i (begun.low + begun.span)) p.0).1, ltb-true i (2 ^ 48) p.1)
+            let p = and_parts (nat_lt assigned.low i && nat_le i (assigned.low + assigned.span)) (nat_lt i (2 ^ 48)) w in
+            (leb-true i (assigned.low + assigned.span) (and_parts (nat_lt assigned.low i) (nat_le i (assigned.low + assigned.span)) p.0).1, ltb-true i (2 ^ 48) p.1)
 
-        go : (logged c me past v i ≡ Some batch) ⊎ ((v ≡ new.view) × (logs.is_in_marks begun i ≡ true)) → MayBeLogged begun v i
+        go : (logged c me past v i ≡ Some batch) ⊎ ((v ≡ new.view) × (logs.is_in_marks assigned i ≡ true)) → MayBeLogged assigned v i
         go (inl k) =
             let w = f.within v i batch k in
             let most = w.view in
             let a = new_above in
             let is = is_view in
             let ahead = w.ahead.0 in
-            let high = begun_high in
+            let high = entered_high in
             let same = span_same in
             record { view = omega arith; marks = λ here. absurd (omega arith); ahead = (omega arith, w.ahead.1) }
         go (inr k) = let is = is_view in let here = k.0 in record { view = omega arith; marks = λ x. inr k.1; ahead = inside k.1 }
 
-    begins : (v : ℕ) (batch : List ℕ) → Once (BeginsViewWith c v batch) (e ∷ past) → v ≤ begun.view
+    begins : (v : ℕ) (batch : List ℕ) → Once (BeginsViewWith c v batch) (e ∷ past) → v ≤ assigned.view
     begins v batch (inl h) =
         let same : h.0 ≡ new = some_injective h.0 new (sym h.1 ∙ t) in
-        let is = begun_view log new f.is_log new_small in
+        let is = entered_view log new f.is_log new_small in
         let view_is = sym h.2 ∙ ap (λ (x : NewViewData). x.view) same in
         omega arith
-    begins v batch (inr h) = let most = f.begun v batch h in let a = new_above in let is = begun_view log new f.is_log new_small in omega arith
+    begins v batch (inr h) = let most = f.begins v batch h in let a = new_above in let is = entered_view log new f.is_log new_small in omega arith
 
-    settled : (i : ℕ) (batch : List ℕ) → i ≤ begun.low → logged c me (e ∷ past) new.view i ≡ Some batch → IsVoted c me (e ∷ past) new.view i batch
+    settled : (i : ℕ) (batch : List ℕ) → i ≤ assigned.low → logged c me (e ∷ past) new.view i ≡ Some batch → IsVoted c me (e ∷ past) new.view i batch
     settled i batch l h = go (logged_cases new.view i batch h)
       where
-        go : (logged c me past new.view i ≡ Some batch) ⊎ ((new.view ≡ new.view) × (logs.is_in_marks begun i ≡ true)) → IsVoted c me (e ∷ past) new.view i batch
+        go : (logged c me past new.view i ≡ Some batch) ⊎ ((new.view ≡ new.view) × (logs.is_in_marks assigned i ≡ true)) → IsVoted c me (e ∷ past) new.view i batch
         go (inl k) = absurd (given_not (logged c me past new.view i) batch k (none_logged i))
-        go (inr k) = let over = above_low begun i k.1 in absurd (omega arith)
+        go (inr k) = let over = above_low assigned i k.1 in absurd (omega arith)
 
-    checks : (s : ℕ) → checkpoints_above begun.low (checkpoints_of c (e ∷ past) s) ≡ checkpoints_above begun.low (logs.checkpoints_of begun s)
+    checks : (s : ℕ) → checkpoints_above assigned.low (checkpoints_of c (e ∷ past) s) ≡ checkpoints_above assigned.low (logs.checkpoints_of assigned s)
     checks s =
-        ap (checkpoints_above begun.low) (still_checkpoints c me past e q s)
-        ∙ sym (above_higher log.low begun.low (checkpoints_of c past s) begun_high) ∙ ap (checkpoints_above begun.low) (f.checkpoints s) ∙ above_higher log.low begun.low (logs.checkpoints_of log s) begun_high
-        ∙ ap (λ (xs : List (List CheckpointEntry)). checkpoints_above begun.low (slice_index_or xs s [])) (sym (begun_checkpoints log new f.is_log new_small))
+        ap (checkpoints_above assigned.low) (still_checkpoints c me past e q s)
+        ∙ sym (above_higher log.low assigned.low (checkpoints_of c past s) entered_high) ∙ ap (checkpoints_above assigned.low) (f.checkpoints s) ∙ above_higher log.low assigned.low (logs.checkpoints_of log s) entered_high
+        ∙ ap (λ (xs : List (List CheckpointEntry)). checkpoints_above assigned.low (slice_index_or xs s [])) (sym (entered_checkpoints log new f.is_log new_small))
 
-    pub begun_fits : FitsLog c me begun (e ∷ past)
-    begun_fits = record {
-      is_log = begun_is_log log new f.is_log new_small;
-      own = begun_me log new f.is_log new_small ∙ f.own;
-      faults = begun_faults log new f.is_log new_small ∙ f.faults;
-      span = begun_span log new f.is_log new_small ∙ f.span;
-      view = it.view_is ∙ sym (begun_view log new f.is_log new_small);
-      active = at (λ v. nat_le (target (e ∷ past)) v ≡ begun.active) (le-leb (target (e ∷ past)) new.view targets ∙ sym (begun_active log new f.is_log new_small));
+    pub assigned_fits : FitsLog c me assigned (e ∷ past)
+    assigned_fits = record {
+      is_log = entered_is_log log new f.is_log new_small;
+      own = entered_me log new f.is_log new_small ∙ f.own;
+      faults = entered_faults log new f.is_log new_small ∙ f.faults;
+      span = entered_span log new f.is_log new_small ∙ f.span;
+      view = it.view_is ∙ sym (entered_view log new f.is_log new_small);
+      active = at (λ v. nat_le (target (e ∷ past)) v ≡ assigned.active) (le-leb (target (e ∷ past)) new.view targets ∙ sym (entered_log_active log new f.is_log new_small));
       low = low_behind;
-      batches = λ i w. at (λ v. logged c me (e ∷ past) v i ≡ logs.logged_batch begun i) (logged_here i w);
-      prepares = λ i s w. at (λ v. prepare_of c me (e ∷ past) v i s ≡ logs.prepare_of begun i s) ((nobody i s new.view new_above).0 ∙ sym (begun_prepare log new f.is_log new_small i s));
-      commits = λ i s w. at (λ v. commit_of c me (e ∷ past) v i s ≡ logs.commit_of begun i s) ((nobody i s new.view new_above).1 ∙ sym (begun_commit log new f.is_log new_small i s));
+      batches = λ i w. at (λ v. logged c me (e ∷ past) v i ≡ logs.logged_batch assigned i) (logged_here i w);
+      prepares = λ i s w. at (λ v. prepare_of c me (e ∷ past) v i s ≡ logs.prepare_of assigned i s) ((nobody i s new.view new_above).0 ∙ sym (assigned_prepare log new f.is_log new_small i s));
+      commits = λ i s w. at (λ v. commit_of c me (e ∷ past) v i s ≡ logs.commit_of assigned i s) ((nobody i s new.view new_above).1 ∙ sym (assigned_commit log new f.is_log new_small i s));
       within = within;
       above = λ i s l out. at (λ v. (prepare_of c me (e ∷ past) v i s ≡ None) × (commit_of c me (e ∷ past) v i s ≡ None)) (nobody i s new.view new_above);
-      begun = begins;
-      settled = λ active i batch l h. at (λ v. IsVoted c me (e ∷ past) v i batch) (settled i batch l (subst (λ (v : ℕ). logged c me (e ∷ past) v i ≡ Some batch) (begun_view log new f.is_log new_small) h));
+      begins = begins;
+      settled = λ active i batch l h. at (λ v. IsVoted c me (e ∷ past) v i batch) (settled i batch l (subst (λ (v : ℕ). logged c me (e ∷ past) v i ≡ Some batch) (entered_view log new f.is_log new_small) h));
       views = views;
       checkpoints = checks;
-      latest = λ s. subst AreLatest (ap (λ (xs : List (List CheckpointEntry)). slice_index_or xs s []) (sym (begun_checkpoints log new f.is_log new_small))) (f.latest s);
+      latest = λ s. subst AreLatest (ap (λ (xs : List (List CheckpointEntry)). slice_index_or xs s []) (sym (entered_checkpoints log new f.is_log new_small))) (f.latest s);
     }

@@ -115,8 +115,8 @@ sent_keep c me past message bytes says news again = record {
 
 -- the replica's own checkpoint that is new
 pub checkpoints_are_noted : CheckpointsAreNoted
-checkpoints_are_noted c me past log after x claims entry bytes p same says latest cuts f =
-    changes_noted c me past (Sent me bytes) log after x claims (Some entry) p same
+checkpoints_are_noted c me past log after x pq_sets entry bytes p same says latest cuts f =
+    changes_noted c me past (Sent me bytes) log after x pq_sets (Some entry) p same
     (sent_views c me past (Checkpoint entry.number entry.digest) bytes says tt (λ signed. absurd cc)) latest cuts f
 
 -- ---- entries that change nothing
@@ -243,12 +243,12 @@ sealed_signed c body (macs entries) h well = absurd cc
 sealed_signed c body (signature s) h well = well
 
 pub own_are_signed : OwnAreSigned
-own_are_signed c me vc bytes known posted =
-    let s = (says_what_is_spelled bytes (record { sender = me; message = ViewChange vc })).0 posted.says in
+own_are_signed c me vc bytes known is_outgoing =
+    let s = (says_what_is_spelled bytes (record { sender = me; message = ViewChange vc })).0 is_outgoing.says in
     let sender : s.0.body.sender ≡ me = ap (λ (b : Body). b.sender) s.2 in
     let message : s.0.body.message ≡ ViewChange vc = ap (λ (b : Body). b.message) s.2 in
     let kind : authenticator_is_signed s.0.authenticator ≡ true = s.1.valid.proved ∙ ap is_signed message in
-    let well = (posted.is_sealed s.0 ((reads_frames bytes s.0).1 s.1)).0 in
+    let well = (is_outgoing.is_sealed s.0 ((reads_frames bytes s.0).1 s.1)).0 in
     spelled_tells c bytes s.0 s.1
     ∙ is_change c s.0 vc (lt-ltb s.0.body.sender (replicas c) (subst (λ (n : ℕ). n < replicas c) (sym sender) known)) (sealed_signed c s.0.body s.0.authenticator kind well) message
     ∙ ap (λ (n : ℕ). Some (let x : ℕ × ViewChangeData = (n, vc) in x)) sender

@@ -1,10 +1,10 @@
--- A replica's view-change data stay if an entry changes nothing, and claim each batch that is logged or committed.
+-- A replica's view-change data stay if an entry changes nothing. Each batch that is logged or committed enters Q or P.
 use Rattle.std.proofs.Common.{◌≡◌, ◌≢◌, ℕ, zero, suc, ◌+◌, ◌^◌, ◌⊎◌, inl, inr, Bool, true, false, cond, ◌&&◌, List, [], ◌∷◌, length, filter, replicate, Option, Some, None, is_none, refl, sym, ap, ◌∙◌, subst, arith, eq-eqb}
 use Rattle.std.specs.Prelude.{◌==◌, nat_lt, nat_le, option_and_then}
 use Rattle.std.specs.Bool.{then_some}
 use Rattle.std.specs.Option.{option_map_or}
 use Rattle.std.proofs.lemmas.Bool.{and_parts, ne_eqb}
-use Rattle.wire_format.specs.Messages.{BodyData as Body, MessageData as Message, BatchEntryData as Claim, NewViewData, CheckpointEntryData as CheckpointEntry, pre_prepare as PrePrepare, commit as Commit}
+use Rattle.wire_format.specs.Messages.{BodyData as Body, MessageData as Message, BatchEntryData as PqEntry, NewViewData, CheckpointEntryData as CheckpointEntry, pre_prepare as PrePrepare, commit as Commit}
 use Rattle.wire_format.specs.Words.{said}
 use Rattle.wire.proofs.Skipping.{none_chosen}
 use Rattle.signing.specs.AuthenticBody.{signed_body}
@@ -21,22 +21,22 @@ use Rattle.protocol.proofs.Words.Options.{some_injective, or_else_alone, or_else
 use Rattle.protocol.proofs.Words.Elements.{each_has, each_where}
 use Rattle.protocol.proofs.Words.Plain.{Plain, said_plain, taken_none, plain_target, plain_low}
 use Rattle.protocol.proofs.Words.Linking.{heard_said, signed_said}
-use Rattle.claims.specs.ClaimsView.{ClaimsData, claim_of, IsAmongTexts}
-use Rattle.claims.specs.Recording.{with_prepared, with_logged, with_all, above_mark, IsLoggedAs, AddsClaims}
+use Rattle.pq_sets.specs.PqSetsView.{PqSetsData, pq_entry_of, IsAmongTexts}
+use Rattle.pq_sets.specs.Recording.{with_prepared, with_logged, with_all, above_mark, IsLoggedAs, AddsPqEntries}
 use Rattle.view_change.specs.ReceivedData.{HeldData, held_of}
 use Rattle.protocol.proofs.Words.Reacting.{proceeds_leaves}
 use Rattle.replica_histories.specs.Desk.{point_of}
 use Rattle.replica_histories.specs.Events.{start_at}
-use Rattle.replica_histories.specs.Claims.{SentCommit, WasLogged, FitsClaims}
+use Rattle.replica_histories.specs.PqSets.{SentCommit, WasLogged, FitsPqSets}
 use Rattle.replica_histories.specs.Numbers.{is_pre_prepare}
-use Rattle.replica_histories.specs.Changes.{Changes, HasOwnChange, IsOwnView, IsBegunUpTo, FitsChanges, IsSameView, KeepsViews, LogPassesEntry, CutsClaims, OutputsPass, InputsEnter, ClaimsAreAbove, ChangesBegin, ChangesStay, CommitsAreClaimed, BatchesAreClaimed}
+use Rattle.replica_histories.specs.Changes.{Changes, HasOwnChange, IsOwnView, IsAssignedUpTo, FitsChanges, IsSameView, KeepsViews, LogPassesEntry, CutsPqSets, OutputsPass, InputsEnter, PqSetsAreAbove, ChangesBegin, ChangesStay, CommitsEnterP, BatchesEnterQ}
 use Rattle.replica_histories.proofs.Words.{passed, given_not, marks_are}
 use Rattle.replica_histories.proofs.Certified.{is_prepared_in}
 use Rattle.replica_histories.proofs.Logging.{none_taken}
 use Rattle.replica_histories.proofs.Ending.{steps_leave}
 use Rattle.replica_histories.proofs.NumbersKept.{view_of, number_of, proposal_said, logged_same}
-use Rattle.replica_histories.proofs.Claims.{claims_begin, claims_grow}
-use Rattle.replica_histories.proofs.ClaimsAdding.{no_batch_adds, no_commit_adds, batch_adds, commit_adds}
+use Rattle.replica_histories.proofs.PqSets.{pq_sets_begin, pq_sets_grow}
+use Rattle.replica_histories.proofs.PqSetsAdding.{no_batch_adds, no_commit_adds, batch_adds, commit_adds}
 use Rattle.replica_histories.proofs.Leaves.{leaves_stay, leaves_remain, unsigned_sends_none}
 use Rattle.replica_histories.proofs.OwnCheckpoints.{none_first, none_later}
 use Rattle.replica_histories.proofs.Received.{none_held, received_begin, received_stays, sent_bring_none, unsigned_bring_none}
@@ -63,7 +63,7 @@ inputs_enter c me desk later log after due past input held g = record {
   fits_behind = g.of_log;
 }
 
--- ---- claims
+-- ---- P and Q
 
 all_kept : {A : Type 0} (test : A → Bool) (xs : List A) → ((x : A) → Has (λ y. y ≡ x) xs → test x ≡ true) → xs ≡ filter test xs
 all_kept test [] f = refl
@@ -76,47 +76,47 @@ all_kept {A} test (x ∷ xs) f = go (test x) (f x (inl refl)) (all_kept test xs 
 over_low : (c : Configuration) (h i : ℕ) → is_in_marks c h i ≡ true → nat_lt h i ≡ true
 over_low c h i k = (and_parts (nat_lt h i) (nat_le i (h + span c)) (and_parts (nat_lt h i && nat_le i (h + span c)) (nat_lt i (2 ^ 48)) k).0).0
 
-pub claims_are_above : ClaimsAreAbove
-claims_are_above c me log history claims f fits = record {
-  prepared = all_kept (λ (x : Claim). nat_lt log.low x.number) claims.prepared (λ x has. at x.number (fits.prepared.listed x has).1);
-  logged = all_kept (λ (x : Claim). nat_lt log.low x.number) claims.logged (λ x has. at x.number (fits.logged.listed x has).1);
-  texts = each_where (IsAmongTexts claims.texts) claims.texts (λ text has. has);
+pub pq_sets_are_above : PqSetsAreAbove
+pq_sets_are_above c me log history pq_sets f fits = record {
+  prepared = all_kept (λ (x : PqEntry). nat_lt log.low x.number) pq_sets.prepared (λ x has. at x.number (fits.prepared.listed x has).1);
+  logged = all_kept (λ (x : PqEntry). nat_lt log.low x.number) pq_sets.logged (λ x has. at x.number (fits.logged.listed x has).1);
+  texts = each_where (IsAmongTexts pq_sets.texts) pq_sets.texts (λ text has. has);
 }
   where
     at : (i : ℕ) → is_in_marks c (low c me history) i ≡ true → nat_lt log.low i ≡ true
     at i k = subst (λ (h : ℕ). nat_lt h i ≡ true) f.low (over_low c (low c me history) i k)
 
--- claims grow at an entry
-pub claims_pass : (c : Configuration) (me : ℕ) (past : List Entry) (e : Entry) (log after : LogData) (claims new : ClaimsData) (commits batches : List Claim) → LogPassesEntry c me past e log after
-    → AddsClaims (SentCommit c me past) (SentCommit c me (e ∷ past)) (is_in_marks c (low c me (e ∷ past))) commits
-    → AddsClaims (IsLoggedAs c me past) (IsLoggedAs c me (e ∷ past)) (is_in_marks c (low c me (e ∷ past))) batches
-    → new.prepared ≡ with_all with_prepared commits (above_mark after.low claims.prepared)
-    → new.logged ≡ with_all with_logged batches (above_mark after.low claims.logged)
-    → ((text : List ℕ) → IsAmongTexts new.texts text → IsAmongTexts claims.texts text ⊎ WasLogged c me (e ∷ past) text)
-    → FitsClaims c me past claims → FitsClaims c me (e ∷ past) new
-claims_pass c me past e log after claims new commits batches p says logs_it prepared logged texts f =
-    claims_grow c me log past e p.old p.new claims new commits batches p.fits p.leaves p.goes says logs_it
+-- P and Q grow at an entry
+pub pq_sets_pass : (c : Configuration) (me : ℕ) (past : List Entry) (e : Entry) (log after : LogData) (pq_sets new : PqSetsData) (commits batches : List PqEntry) → LogPassesEntry c me past e log after
+    → AddsPqEntries (SentCommit c me past) (SentCommit c me (e ∷ past)) (is_in_marks c (low c me (e ∷ past))) commits
+    → AddsPqEntries (IsLoggedAs c me past) (IsLoggedAs c me (e ∷ past)) (is_in_marks c (low c me (e ∷ past))) batches
+    → new.prepared ≡ with_all with_prepared commits (above_mark after.low pq_sets.prepared)
+    → new.logged ≡ with_all with_logged batches (above_mark after.low pq_sets.logged)
+    → ((text : List ℕ) → IsAmongTexts new.texts text → IsAmongTexts pq_sets.texts text ⊎ WasLogged c me (e ∷ past) text)
+    → FitsPqSets c me past pq_sets → FitsPqSets c me (e ∷ past) new
+pq_sets_pass c me past e log after pq_sets new commits batches p says logs_it prepared logged texts f =
+    pq_sets_grow c me log past e p.old p.new pq_sets new commits batches p.fits p.leaves p.goes says logs_it
     (record {
-      prepared = prepared ∙ ap (λ (h : ℕ). with_all with_prepared commits (above_mark h claims.prepared)) (sym p.fits_behind.low);
-      logged = logged ∙ ap (λ (h : ℕ). with_all with_logged batches (above_mark h claims.logged)) (sym p.fits_behind.low);
+      prepared = prepared ∙ ap (λ (h : ℕ). with_all with_prepared commits (above_mark h pq_sets.prepared)) (sym p.fits_behind.low);
+      logged = logged ∙ ap (λ (h : ℕ). with_all with_logged batches (above_mark h pq_sets.logged)) (sym p.fits_behind.low);
     }) texts f
 
 -- ---- data that stay
 
-pub begun_before : (c : Configuration) (past : List Entry) (e : Entry) (new : NewViewData) → taken c past e ≡ None → Once (λ past e. taken c past e ≡ Some new) (e ∷ past)
+pub assigned_before : (c : Configuration) (past : List Entry) (e : Entry) (new : NewViewData) → taken c past e ≡ None → Once (λ past e. taken c past e ≡ Some new) (e ∷ past)
     → Once (λ past e. taken c past e ≡ Some new) past
-begun_before c past e new none (inl h) = absurd (given_not (taken c past e) new h none)
-begun_before c past e new none (inr h) = h
+assigned_before c past e new none (inl h) = absurd (given_not (taken c past e) new h none)
+assigned_before c past e new none (inr h) = h
 
 pub own_stays : (c : Configuration) (me : ℕ) (past : List Entry) (e : Entry) (x y : Changes) → y.target ≡ x.target → held_of y.held me ≡ held_of x.held me → HasOwnChange c me x past → HasOwnChange c me y (e ∷ past)
-own_stays c me past e x y target_same held_same o = record { own = o.own; held = held_same ∙ o.held; view = o.view ∙ sym target_same; sent = inr o.sent; posted = o.posted }
+own_stays c me past e x y target_same held_same o = record { own = o.own; held = held_same ∙ o.held; view = o.view ∙ sym target_same; sent = inr o.sent; is_outgoing = o.is_outgoing }
 
 pub own_view_stays : (c : Configuration) (me : ℕ) (past : List Entry) (e : Entry) (v w : ℕ) (frame : List ℕ) → w ≡ v → IsOwnView c me v past frame → IsOwnView c me w (e ∷ past) frame
-own_view_stays c me past e v w frame same o = record { new = o.new; view = o.view ∙ sym same; primary = o.primary; sent = inr o.sent; posted = o.posted }
+own_view_stays c me past e v w frame same o = record { new = o.new; view = o.view ∙ sym same; primary = o.primary; sent = inr o.sent; is_outgoing = o.is_outgoing }
 
-pub begun_by_stays : (c : Configuration) (past : List Entry) (e : Entry) (v w i : ℕ) → w ≡ v → (i ≡ 0) ⊎ IsBegunUpTo c v i past → (i ≡ 0) ⊎ IsBegunUpTo c w i (e ∷ past)
-begun_by_stays c past e v w i same (inl none) = inl none
-begun_by_stays c past e v w i same (inr (new, once, at, is)) = inr (new, inr once, at ∙ sym same, is)
+pub assigned_by_stays : (c : Configuration) (past : List Entry) (e : Entry) (v w i : ℕ) → w ≡ v → (i ≡ 0) ⊎ IsAssignedUpTo c v i past → (i ≡ 0) ⊎ IsAssignedUpTo c w i (e ∷ past)
+assigned_by_stays c past e v w i same (inl none) = inl none
+assigned_by_stays c past e v w i same (inr (new, once, at, is)) = inr (new, inr once, at ∙ sym same, is)
 
 abbrev pub OwnBegins : Configuration → ℕ → ℕ → Option (List ℕ) → Type 0
 OwnBegins c me v frame = primary c v ≡ me → (v ≡ 0) ⊎ ((text : List ℕ) × (frame ≡ Some text))
@@ -131,12 +131,12 @@ places_of (suc n) = ap suc (places_of n)
 pub changes_begin : ChangesBegin
 changes_begin c me = record {
   target = refl;
-  claims = claims_begin c me;
+  pq_sets = pq_sets_begin c me;
   received = received_begin c me (replicas c);
   places = places_of (replicas c);
-  begun = λ new once at. absurd once;
+  assigned = λ new once at. absurd once;
   own_change = λ rests. absurd cc;
-  begun_by = inl refl;
+  assigned_by = inl refl;
   own_view = λ frame is. absurd cc;
   own_begins = λ own. inl refl;
   latest = none_first c me;
@@ -146,18 +146,18 @@ changes_begin c me = record {
 }
 
 -- with whatever own checkpoint is the latest then
-pub changes_noted : (c : Configuration) (me : ℕ) (past : List Entry) (e : Entry) (log after : LogData) (x : Changes) (claims : ClaimsData) (last : Option CheckpointEntry) → LogPassesEntry c me past e log after → IsSameView log after
-    → KeepsViews c me past e → latest_checkpoint c me (e ∷ past) ≡ last → CutsClaims after.low x.claims claims → FitsChanges c me log x past
-    → FitsChanges c me after (record x { claims = claims; last_checkpoint = last }) (e ∷ past)
-changes_noted c me past e log after x claims last p same k latest cuts f = record {
+pub changes_noted : (c : Configuration) (me : ℕ) (past : List Entry) (e : Entry) (log after : LogData) (x : Changes) (pq_sets : PqSetsData) (last : Option CheckpointEntry) → LogPassesEntry c me past e log after → IsSameView log after
+    → KeepsViews c me past e → latest_checkpoint c me (e ∷ past) ≡ last → CutsPqSets after.low x.pq_sets pq_sets → FitsChanges c me log x past
+    → FitsChanges c me after (record x { pq_sets = pq_sets; last_checkpoint = last }) (e ∷ past)
+changes_noted c me past e log after x pq_sets last p same k latest cuts f = record {
   target = k.target ∙ f.target;
-  claims = claims_pass c me past e log after x.claims claims [] [] p (no_commit_adds c me past e k.commits) (no_batch_adds c me past e k.logged) cuts.prepared cuts.logged
-      (λ text has. inl (each_has (IsAmongTexts x.claims.texts) claims.texts text cuts.texts has)) f.claims;
+  pq_sets = pq_sets_pass c me past e log after x.pq_sets pq_sets [] [] p (no_commit_adds c me past e k.commits) (no_batch_adds c me past e k.logged) cuts.prepared cuts.logged
+      (λ text has. inl (each_has (IsAmongTexts x.pq_sets.texts) pq_sets.texts text cuts.texts has)) f.pq_sets;
   received = received_stays c me past e x.held k.changes f.received;
   places = f.places;
-  begun = λ new once at. f.begun new (begun_before c past e new k.none once) (at ∙ same.view);
-  begun_by = begun_by_stays c past e log.view after.view x.begun same.view f.begun_by;
-  own_change = λ rests. own_stays c me past e x (record x { claims = claims; last_checkpoint = last }) refl refl (f.own_change (sym same.active ∙ rests));
+  assigned = λ new once at. f.assigned new (assigned_before c past e new k.none once) (at ∙ same.view);
+  assigned_by = assigned_by_stays c past e log.view after.view x.assigned same.view f.assigned_by;
+  own_change = λ rests. own_stays c me past e x (record x { pq_sets = pq_sets; last_checkpoint = last }) refl refl (f.own_change (sym same.active ∙ rests));
   own_view = λ frame is. own_view_stays c me past e log.view after.view frame same.view (f.own_view frame is);
   own_begins = own_begins_stays c me log.view after.view x.new_view same.view f.own_begins;
   latest = latest;
@@ -167,7 +167,7 @@ changes_noted c me past e log after x claims last p same k latest cuts f = recor
 }
 
 pub changes_stay : ChangesStay
-changes_stay c me past e log after x claims p same k cuts f = changes_noted c me past e log after x claims x.last_checkpoint p same k.views (k.checkpoint ∙ f.latest) cuts f
+changes_stay c me past e log after x pq_sets p same k cuts f = changes_noted c me past e log after x pq_sets x.last_checkpoint p same k.views (k.checkpoint ∙ f.latest) cuts f
 
 -- ---- what a body brings
 
@@ -223,20 +223,20 @@ none_of true true false x h = refl
 none_of true true true x (inl h) = absurd cc
 none_of true true true x (inr h) = absurd cc
 
-pub commits_are_claimed : CommitsAreClaimed
-commits_are_claimed c me past log after x i digest bytes p same low_same due says f = record {
+pub commits_enter_p : CommitsEnterP
+commits_enter_p c me past log after x i digest bytes p same low_same due says f = record {
   target = plain_target c past e plain ∙ f.target;
-  claims = claims_pass c me past e log after x.claims (record x.claims { prepared = with_prepared claim x.claims.prepared }) (claim ∷ []) [] p
+  pq_sets = pq_sets_pass c me past e log after x.pq_sets (record x.pq_sets { prepared = with_prepared pq_entry x.pq_sets.prepared }) (pq_entry ∷ []) [] p
       (commit_adds c me past e log.view i digest inside_behind here elsewhere)
       (no_batch_adds c me past e (logs_nothing c me past e me (Commit log.view i digest) none says refl))
-      (ap (with_prepared claim) above.prepared) above.logged (λ text has. inl has) f.claims;
+      (ap (with_prepared pq_entry) above.prepared) above.logged (λ text has. inl has) f.pq_sets;
   received = received_stays c me past e x.held (λ s other. sent_bring_none c me s bytes past) f.received;
   places = f.places;
-  begun = λ new once at. f.begun new (begun_before c past e new none once) (at ∙ same.view);
-  begun_by = begun_by_stays c past e log.view after.view x.begun same.view f.begun_by;
+  assigned = λ new once at. f.assigned new (assigned_before c past e new none once) (at ∙ same.view);
+  assigned_by = assigned_by_stays c past e log.view after.view x.assigned same.view f.assigned_by;
   own_begins = own_begins_stays c me log.view after.view x.new_view same.view f.own_begins;
   latest = none_later c me past e (ap (option_and_then checkpoint_from) says) ∙ f.latest;
-  own_change = λ rests. own_stays c me past e x (record x { claims = record x.claims { prepared = with_prepared claim x.claims.prepared } }) refl refl (f.own_change (sym same.active ∙ rests));
+  own_change = λ rests. own_stays c me past e x (record x { pq_sets = record x.pq_sets { prepared = with_prepared pq_entry x.pq_sets.prepared } }) refl refl (f.own_change (sym same.active ∙ rests));
   own_view = λ frame is. own_view_stays c me past e log.view after.view frame same.view (f.own_view frame is);
   leaves = leaves_stay x.spent past e (unsigned_sends_none c past e (record { sender = me; message = Commit log.view i digest }) says refl) f.leaves;
   signed = leaves_remain x.spent past e f.signed;
@@ -246,8 +246,8 @@ commits_are_claimed c me past log after x i digest bytes p same low_same due say
     e : Entry
     e = Sent me bytes
 
-    claim : Claim
-    claim = record { number = i; digest = digest; view = log.view }
+    pq_entry : PqEntry
+    pq_entry = record { number = i; digest = digest; view = log.view }
 
     plain : Plain c past e
     plain = said_plain c past me bytes (record { sender = me; message = Commit log.view i digest }) says tt
@@ -255,8 +255,8 @@ commits_are_claimed c me past log after x i digest bytes p same low_same due say
     none : taken c past e ≡ None
     none = taken_none c past e plain
 
-    above : CutsClaims after.low x.claims x.claims
-    above = subst (λ (h : ℕ). CutsClaims h x.claims x.claims) (sym low_same) (claims_are_above c me log past x.claims p.fits f.claims)
+    above : CutsPqSets after.low x.pq_sets x.pq_sets
+    above = subst (λ (h : ℕ). CutsPqSets h x.pq_sets x.pq_sets) (sym low_same) (pq_sets_are_above c me log past x.pq_sets p.fits f.pq_sets)
 
     tests : (logs.is_in_marks log i ≡ true) × (logs.commit_of log i log.me ≡ None)
     tests =
@@ -283,20 +283,20 @@ commits_are_claimed c me past log after x i digest bytes p same low_same due say
 
 -- ---- one batch
 
-pub batches_are_claimed : BatchesAreClaimed
-batches_are_claimed c me past e log x claims s i text p inside free brings adds f = record {
+pub batches_enter_q : BatchesEnterQ
+batches_enter_q c me past e log x pq_sets s i text p inside free brings adds f = record {
   target = (let still = sends_none c e s (PrePrepare log.view i text) brings refl in let was = f.target in omega arith);
-  claims = claims_pass c me past e log (logs.with_batch log i text) x.claims claims [] (claim_of i log.view text ∷ []) p
+  pq_sets = pq_sets_pass c me past e log (logs.with_batch log i text) x.pq_sets pq_sets [] (pq_entry_of i log.view text ∷ []) p
       (no_commit_adds c me past e (λ v j. commit_quiet c me past e v j (ap (option_and_then (commit_from me v j)) brings)))
       (batch_adds c me past e log.view i text inside_behind here elsewhere)
-      (adds.prepared ∙ above.prepared) (adds.logged ∙ ap (with_logged (claim_of i log.view text)) above.logged) texts f.claims;
+      (adds.prepared ∙ above.prepared) (adds.logged ∙ ap (with_logged (pq_entry_of i log.view text)) above.logged) texts f.pq_sets;
   received = received_stays c me past e x.held (λ r other. changes_nothing c past e (record { sender = s; message = PrePrepare log.view i text }) r brings refl) f.received;
   places = f.places;
-  begun = λ new once at. f.begun new (begun_before c past e new none once) at;
-  begun_by = begun_by_stays c past e log.view log.view x.begun refl f.begun_by;
+  assigned = λ new once at. f.assigned new (assigned_before c past e new none once) at;
+  assigned_by = assigned_by_stays c past e log.view log.view x.assigned refl f.assigned_by;
   own_begins = f.own_begins;
   latest = none_later c me past e (ap (option_and_then checkpoint_from) brings) ∙ f.latest;
-  own_change = λ rests. own_stays c me past e x (record x { claims = claims }) refl refl (f.own_change rests);
+  own_change = λ rests. own_stays c me past e x (record x { pq_sets = pq_sets }) refl refl (f.own_change rests);
   own_view = λ frame is. own_view_stays c me past e log.view log.view frame refl (f.own_view frame is);
   leaves = leaves_stay x.spent past e (unsigned_sends_none c past e (record { sender = s; message = PrePrepare log.view i text }) brings refl) f.leaves;
   signed = leaves_remain x.spent past e f.signed;
@@ -306,8 +306,8 @@ batches_are_claimed c me past e log x claims s i text p inside free brings adds 
     none : taken c past e ≡ None
     none = none_taken c past e (ap (option_and_then (new_view_from c)) brings)
 
-    above : CutsClaims log.low x.claims x.claims
-    above = claims_are_above c me log past x.claims p.fits f.claims
+    above : CutsPqSets log.low x.pq_sets x.pq_sets
+    above = pq_sets_are_above c me log past x.pq_sets p.fits f.pq_sets
 
     inside_behind : is_in_marks c (low c me (e ∷ past)) i ≡ true
     inside_behind = ap (λ (h : ℕ). is_in_marks c h i) (p.fits_behind.low ∙ sym p.fits.low) ∙ marks_are c me log past i p.fits ∙ inside
@@ -327,9 +327,9 @@ batches_are_claimed c me past e log x claims s i text p inside free brings adds 
         differs (inl d) v k = d (sym v)
         differs (inr d) v k = d (sym k)
 
-    texts : (t : List ℕ) → IsAmongTexts claims.texts t → IsAmongTexts x.claims.texts t ⊎ WasLogged c me (e ∷ past) t
-    texts t has = pick (each_has (IsAmongTexts (text ∷ x.claims.texts)) claims.texts t adds.texts has)
+    texts : (t : List ℕ) → IsAmongTexts pq_sets.texts t → IsAmongTexts x.pq_sets.texts t ⊎ WasLogged c me (e ∷ past) t
+    texts t has = pick (each_has (IsAmongTexts (text ∷ x.pq_sets.texts)) pq_sets.texts t adds.texts has)
       where
-        pick : IsAmongTexts (text ∷ x.claims.texts) t → IsAmongTexts x.claims.texts t ⊎ WasLogged c me (e ∷ past) t
+        pick : IsAmongTexts (text ∷ x.pq_sets.texts) t → IsAmongTexts x.pq_sets.texts t ⊎ WasLogged c me (e ∷ past) t
         pick (inl same) = inr (log.view, i, here ∙ ap Some same)
         pick (inr k) = inl k

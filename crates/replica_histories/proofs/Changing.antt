@@ -21,7 +21,7 @@ use Rattle.protocol.specs.Replica.RightReplica.{HasSeen, SendsBytes, SentBefore,
 use Rattle.protocol.proofs.Words.Temporal.{once_weaker}
 use Rattle.protocol.proofs.Words.Options.{or_else_alone}
 use Rattle.protocol.proofs.Agreement.Executing.{commit_stays, committed_later}
-use Rattle.protocol.proofs.Words.Posting.{leaf_signs_once}
+use Rattle.protocol.proofs.Words.Outgoing.{leaf_signs_once}
 use Rattle.protocol.proofs.Words.Elements.{each_where}
 use Rattle.replica_histories.specs.Desk.{Desk, snapshot_of, point_of}
 use Rattle.replica_histories.specs.Logs.{checkpoints_above, FitsLog, IsVoted}
@@ -29,7 +29,7 @@ use Rattle.replica_histories.specs.Events.{Start, after_outputs, LowMarkIsReache
 use Rattle.replica_histories.specs.Views.{checkpoint_entry_of, entries_of, ViewChangesFit, ViewChangesGoAgain, NewViewsGoAgain, ViewChangesCount}
 use Rattle.replica_histories.proofs.Certified.{active, prepared_there}
 use Rattle.replica_histories.proofs.Settling.{own_commit, voted_goes}
-use Rattle.replica_histories.proofs.Logging.{none_taken, view_quiet, proposal_quiet, begun_quiet}
+use Rattle.replica_histories.proofs.Logging.{none_taken, view_quiet, proposal_quiet, begins_quiet}
 use Rattle.replica_histories.proofs.Giving.{no_proposal, signed_may_send, sent_goes}
 use Rattle.replica_histories.proofs.SentOnce.{unsent, pays_none, change_is_new}
 use Rattle.replica_histories.proofs.Ending.{steps_leave}
@@ -111,7 +111,7 @@ module _ (c : Configuration) (me : ℕ) (log : LogData) (past : List Entry) (e :
       commits = λ i s w. still_commit c me past e q log.view i s ∙ f.commits i s w;
       within = λ v i batch h. let w = f.within v i batch (sym (same_logged c me past e q none v i) ∙ h) in record { view = w.view; marks = w.marks; ahead = w.ahead };
       above = λ i s l out. let n = f.above i s l out in (still_prepare c me past e q log.view i s ∙ n.0, still_commit c me past e q log.view i s ∙ n.1);
-      begun = begun_quiet c past e log.view none f.begun;
+      begins = begins_quiet c past e log.view none f.begins;
       settled = settled;
       views = record {
         decided = λ i batch w h. let k = f.views.decided i batch w h in (k.0, k.1, committed_later c me k.0 i batch e past k.2);
@@ -157,13 +157,13 @@ not_at_most a b l = go (nat_le a b) refl
     go false e = refl
 
 pub view_changes_fit : ViewChangesFit
-view_changes_fit c me s desk log due outputs vc bytes none_due change posted leaf f =
+view_changes_fit c me s desk log due outputs vc bytes none_due change is_outgoing leaf f =
     sent_goes c me s desk log (logs.left log) due due outputs bytes desk.snapshots desk.transfer f
-    (signed_may_send c me past (point_of desk f.of_desk.states f.of_desk.ran) (Sent me bytes) bytes (ViewChange vc) refl posted tt (inl may) leaf (change_is_new me vc bytes past posted.says change.newer))
+    (signed_may_send c me past (point_of desk f.of_desk.states f.of_desk.ran) (Sent me bytes) bytes (ViewChange vc) refl is_outgoing tt (inl may) leaf (change_is_new me vc bytes past is_outgoing.says change.newer))
     (still_fits c me log past e f.of_log q none false (not_at_most (target (e ∷ past)) log.view (let above = change.above in let says = says_view in omega arith)) (λ a. absurd cc) (λ a i. none_due i))
     (ap (λ (h : ℕ). map snapshot_of (kept_states h f.of_desk.states)) (sym f.of_log.low) ∙ f.of_desk.kept) (same_reached c me past e q none log.low desk.state.number due f.low)
-    (open_stays c me desk.transfer desk.state.number past e (asks_none bytes me (ViewChange vc) posted.says refl) tt f.of_desk.opened) (no_root c past bytes me (ViewChange vc) desk.state.number posted.says refl) none
-    (pays_none c me s desk log outputs (ViewChange vc) bytes posted.says due refl f) (no_proposal c me past bytes (ViewChange vc) posted.says tt)
+    (open_stays c me desk.transfer desk.state.number past e (asks_none bytes me (ViewChange vc) is_outgoing.says refl) tt f.of_desk.opened) (no_root c past bytes me (ViewChange vc) desk.state.number is_outgoing.says refl) none
+    (pays_none c me s desk log outputs (ViewChange vc) bytes is_outgoing.says due refl f) (no_proposal c me past bytes (ViewChange vc) is_outgoing.says tt)
   where
     past : List Entry
     past = after_outputs s outputs
@@ -172,13 +172,13 @@ view_changes_fit c me s desk log due outputs vc bytes none_due change posted lea
     e = Sent me bytes
 
     q : Still c me past e
-    q = still_brings c me past e me (ViewChange vc) tt posted.says
+    q = still_brings c me past e me (ViewChange vc) tt is_outgoing.says
 
     none : taken c past e ≡ None
-    none = none_taken c past e (ap (option_and_then (new_view_from c)) posted.says)
+    none = none_taken c past e (ap (option_and_then (new_view_from c)) is_outgoing.says)
 
     says_view : change_sent e ≡ vc.view
-    says_view = ap (λ (o : Option Body). option_map_or change_from o 0) posted.says
+    says_view = ap (λ (o : Option Body). option_map_or change_from o 0) is_outgoing.says
 
     may : IsNewViewChange c me past (point_of desk f.of_desk.states f.of_desk.ran) vc
     may = record {
@@ -217,13 +217,13 @@ leaf_again c me s desk log due outputs bytes f before leaf sent is was earlier =
     (steps_leave c me s outputs (point_of desk f.of_desk.states f.of_desk.ran) f.of_desk.leaves f.of_desk.steps) earlier before
 
 pub view_changes_go_again : ViewChangesGoAgain
-view_changes_go_again c me s desk log due outputs vc bytes left last before fresh posted f =
+view_changes_go_again c me s desk log due outputs vc bytes left last before fresh is_outgoing f =
     sent_goes c me s desk log log due due outputs bytes desk.snapshots desk.transfer f
-    (signed_may_send c me past (point_of desk f.of_desk.states f.of_desk.ran) (Sent me bytes) bytes (ViewChange vc) refl posted tt (inr (subst (λ (v : ℕ). v < target past) (sym f.of_log.view) left, last, before)) (leaf_again c me s desk log due outputs bytes f before) (unsent me s (ViewChange vc) bytes outputs f.says.begins posted.says fresh))
+    (signed_may_send c me past (point_of desk f.of_desk.states f.of_desk.ran) (Sent me bytes) bytes (ViewChange vc) refl is_outgoing tt (inr (subst (λ (v : ℕ). v < target past) (sym f.of_log.view) left, last, before)) (leaf_again c me s desk log due outputs bytes f before) (unsent me s (ViewChange vc) bytes outputs f.says.begins is_outgoing.says fresh))
     (still_fits c me log past e f.of_log q none log.active (ap (λ (n : ℕ). nat_le n log.view) same ∙ f.of_log.active) (λ a. a) (λ a i. rw a refl))
     (ap (λ (h : ℕ). map snapshot_of (kept_states h f.of_desk.states)) (sym f.of_log.low) ∙ f.of_desk.kept) (same_reached c me past e q none log.low desk.state.number due f.low)
-    (open_stays c me desk.transfer desk.state.number past e (asks_none bytes me (ViewChange vc) posted.says refl) tt f.of_desk.opened) (no_root c past bytes me (ViewChange vc) desk.state.number posted.says refl) none
-    (pays_none c me s desk log outputs (ViewChange vc) bytes posted.says due refl f) (no_proposal c me past bytes (ViewChange vc) posted.says tt)
+    (open_stays c me desk.transfer desk.state.number past e (asks_none bytes me (ViewChange vc) is_outgoing.says refl) tt f.of_desk.opened) (no_root c past bytes me (ViewChange vc) desk.state.number is_outgoing.says refl) none
+    (pays_none c me s desk log outputs (ViewChange vc) bytes is_outgoing.says due refl f) (no_proposal c me past bytes (ViewChange vc) is_outgoing.says tt)
   where
     past : List Entry
     past = after_outputs s outputs
@@ -232,24 +232,24 @@ view_changes_go_again c me s desk log due outputs vc bytes left last before fres
     e = Sent me bytes
 
     q : Still c me past e
-    q = still_brings c me past e me (ViewChange vc) tt posted.says
+    q = still_brings c me past e me (ViewChange vc) tt is_outgoing.says
 
     none : taken c past e ≡ None
-    none = none_taken c past e (ap (option_and_then (new_view_from c)) posted.says)
+    none = none_taken c past e (ap (option_and_then (new_view_from c)) is_outgoing.says)
 
     same : target (e ∷ past) ≡ target past
-    same = let says : change_sent e ≡ vc.view = ap (λ (o : Option Body). option_map_or change_from o 0) posted.says in let is = last in omega arith
+    same = let says : change_sent e ≡ vc.view = ap (λ (o : Option Body). option_map_or change_from o 0) is_outgoing.says in let is = last in omega arith
 
 pub new_views_go_again : NewViewsGoAgain
-new_views_go_again c me s desk log due outputs new bytes is_active own primary_is before fresh posted f =
+new_views_go_again c me s desk log due outputs new bytes is_active own primary_is before fresh is_outgoing f =
     sent_goes c me s desk log log due due outputs bytes desk.snapshots desk.transfer f
-    (signed_may_send c me past (point_of desk f.of_desk.states f.of_desk.ran) (Sent me bytes) bytes (NewView new) refl posted (seen_again me (NewView new) bytes past posted.says before)
+    (signed_may_send c me past (point_of desk f.of_desk.states f.of_desk.ran) (Sent me bytes) bytes (NewView new) refl is_outgoing (seen_again me (NewView new) bytes past is_outgoing.says before)
     (primary_is, inr (subst (λ (v : ℕ). is_active_in c past v ≡ true) (sym own) (active c me log past f.of_log ∙ is_active), before)) (leaf_again c me s desk log due outputs bytes f before)
-    (unsent me s (NewView new) bytes outputs f.says.begins posted.says fresh))
+    (unsent me s (NewView new) bytes outputs f.says.begins is_outgoing.says fresh))
     (still_fits c me log past e f.of_log q none log.active (ap (λ (n : ℕ). nat_le n log.view) same ∙ f.of_log.active) (λ a. a) (λ a i. rw a refl))
     (ap (λ (h : ℕ). map snapshot_of (kept_states h f.of_desk.states)) (sym f.of_log.low) ∙ f.of_desk.kept) (same_reached c me past e q none log.low desk.state.number due f.low)
-    (open_stays c me desk.transfer desk.state.number past e (asks_none bytes me (NewView new) posted.says refl) tt f.of_desk.opened) (no_root c past bytes me (NewView new) desk.state.number posted.says refl) none
-    (pays_none c me s desk log outputs (NewView new) bytes posted.says due refl f) (no_proposal c me past bytes (NewView new) posted.says tt)
+    (open_stays c me desk.transfer desk.state.number past e (asks_none bytes me (NewView new) is_outgoing.says refl) tt f.of_desk.opened) (no_root c past bytes me (NewView new) desk.state.number is_outgoing.says refl) none
+    (pays_none c me s desk log outputs (NewView new) bytes is_outgoing.says due refl f) (no_proposal c me past bytes (NewView new) is_outgoing.says tt)
   where
     past : List Entry
     past = after_outputs s outputs
@@ -258,20 +258,20 @@ new_views_go_again c me s desk log due outputs new bytes is_active own primary_i
     e = Sent me bytes
 
     q : Still c me past e
-    q = still_brings c me past e me (NewView new) tt posted.says
+    q = still_brings c me past e me (NewView new) tt is_outgoing.says
 
     not_later : is_later (view c past) (target past) new ≡ false
     not_later = rw (le-ltb (view c past) new.view (let v = f.of_log.view in let o = own in omega arith)) refl
 
     none : taken c past e ≡ None
-    none = ap (λ (o : Option Body). option_and_then (λ (x : NewViewData). then_some (is_later (view c past) (target past) x) x) (option_and_then (new_view_from c) o)) posted.says ∙ at ((me == primary c new.view) && may_select c new)
+    none = ap (λ (o : Option Body). option_and_then (λ (x : NewViewData). then_some (is_later (view c past) (target past) x) x) (option_and_then (new_view_from c) o)) is_outgoing.says ∙ at ((me == primary c new.view) && may_select c new)
       where
         at : (b : Bool) → option_and_then (λ (x : NewViewData). then_some (is_later (view c past) (target past) x) x) (then_some b new) ≡ None
         at true = rw not_later refl
         at false = refl
 
     same : target (e ∷ past) ≡ target past
-    same = let says : change_sent e ≡ 0 = ap (λ (o : Option Body). option_map_or change_from o 0) posted.says in omega arith
+    same = let says : change_sent e ≡ 0 = ap (λ (o : Option Body). option_map_or change_from o 0) is_outgoing.says in omega arith
 
 -- ---- which view changes count
 

@@ -29,7 +29,7 @@ use Rattle.replica_histories.proofs.Certified.{Same, same_turned, prepared_back,
 use Rattle.replica_histories.proofs.Latest.{inserts_same, behind_latest, behind_above, above_higher}
 use Rattle.replica_histories.proofs.Checking.{latest_of, log_stable}
 use Rattle.replica_histories.proofs.Settling.{votes_said, voted_goes}
-use Rattle.replica_histories.proofs.Logging.{none_taken, view_quiet, proposal_quiet, begun_quiet, active_goes}
+use Rattle.replica_histories.proofs.Logging.{none_taken, view_quiet, proposal_quiet, begins_quiet, active_goes}
 use Rattle.replica_histories.proofs.Reaching.{reached_by}
 
 -- ---- the log after a cut
@@ -264,7 +264,7 @@ module _ (c : Configuration) (me : ℕ) (log : LogData) (past : List Entry) (e :
       within = λ v i batch h. within v i batch (sym (log_next v i) ∙ h);
       above = λ i s l out. at_view (λ v. (prepare_of c me (e ∷ past) v i s ≡ None) × (commit_of c me (e ∷ past) v i s ≡ None))
           (let n = beyond i s l out in (prepare_next log.view i s ∙ n.0, commit_next log.view i s ∙ n.1));
-      begun = λ v batch h. subst (λ (x : ℕ). v ≤ x) (sym ev) (begun_quiet c past e log.view q.no_view f.begun v batch h);
+      begins = λ v batch h. subst (λ (x : ℕ). v ≤ x) (sym ev) (begins_quiet c past e log.view q.no_view f.begins v batch h);
       views = views;
       settled = λ is_active i batch l h. at_view (λ v. IsVoted c me (e ∷ past) v i batch)
           (settled (sym ea ∙ is_active) i batch (subst (λ (n : ℕ). i ≤ n) low_new l) (sym (log_next log.view i) ∙ subst (λ (v : ℕ). logged c me (e ∷ past) v i ≡ Some batch) ev h));

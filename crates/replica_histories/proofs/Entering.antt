@@ -29,7 +29,7 @@ use Rattle.state_transfer.specs.Transfer.{TransferData}
 use Rattle.replica_histories.specs.Logs.{checkpoints_above, FitsLog}
 use Rattle.replica_histories.specs.Marks.{checked_log, BringsCheckpoint}
 use Rattle.replica_histories.specs.Events.{Start, IsOnItsWay, IsRepeatedRequest, MaySendDue, AreUnsent, SaysOnce, IsFetchedOrDue, LowMarkIsReached}
-use Rattle.replica_histories.specs.Transfers.{HasQuorum, FitsOpenTransfer, open_number}
+use Rattle.replica_histories.specs.Transfers.{HasQuorum, FitsStateTransfer, open_number}
 use Rattle.replica_histories.specs.TransfersQuorums.{BringsRoot, QuorumsFetched}
 use Rattle.replica_histories.specs.Inputs.{again_for, asked_by, replies_again, fetch_due, again_due, InputsFit, CheckpointsEnter, TicksFit}
 use Rattle.replica_histories.proofs.Checking.{log_stable, quorum_counted, own_at_most}
@@ -147,8 +147,8 @@ inputs_fit c me desk new log after due past bytes held none e = record {
     asked = λ k kept a. inl (subst (λ (xs : List Message). Has (λ x. x ≡ reply_of k kept) xs) (sym due_is) (asked_is_due c me past bytes old k kept a));
     fetch_again = λ k index level h. absurd h.0;
     checkpoints = λ k h multiple. absurd h;
-    opened = subst (λ (o : Option TransferData). FitsOpenTransfer c me o new.state.number (Got me bytes ∷ past)) (sym e.transfer)
-        (subst (λ (st : State). FitsOpenTransfer c me desk.transfer st.number (Got me bytes ∷ past)) (sym e.state) (open_stays c me desk.transfer desk.state.number past (Got me bytes) refl tt held.of_desk.opened));
+    opened = subst (λ (o : Option TransferData). FitsStateTransfer c me o new.state.number (Got me bytes ∷ past)) (sym e.transfer)
+        (subst (λ (st : State). FitsStateTransfer c me desk.transfer st.number (Got me bytes ∷ past)) (sym e.state) (open_stays c me desk.transfer desk.state.number past (Got me bytes) refl tt held.of_desk.opened));
     fetches = quorums_begin c me (record { before = past; input = Got me bytes; old = old }) new.state.number due (subst (λ (st : State). QuorumsFetched c st.number past) (sym e.state) held.of_desk.fetches)
         (λ k root b quorum above. inl (below_fetched k (unchanged_bring_none c log.low past (Got me bytes) k root unchanged b) (let number = ap (λ (st : State). st.number) e.state in omega arith) held.low))
         (λ k start above. none_starts c past (Got me bytes) k none start);
@@ -396,13 +396,13 @@ ticks_fit c me desk log past held = record {
     moves = same_point old.snapshots desk.state old.state desk.waiting old.waiting (sym (ap (λ (p : Point). p.state) held.of_desk.is)) (sym (ap (λ (p : Point). p.waiting) held.of_desk.is))
 
     -- the last place that was asked for, with a number above the state's, is the open transfer's
-    again : (k index : ℕ) (level : Level) (o : Option TransferData) → FitsOpenTransfer c me o desk.state.number past → asked_last past ≡ Some (k, (level, index)) → desk.state.number < k
+    again : (k index : ℕ) (level : Level) (o : Option TransferData) → FitsStateTransfer c me o desk.state.number past → asked_last past ≡ Some (k, (level, index)) → desk.state.number < k
         → Has (λ x. x ≡ Fetch k level index) (again_due o)
     again k index level None f was above = let most = asked_at_most past k (level, index) was in let least = f.0 in absurd (omega (arith, most, least, above))
     again k index level (Some t) f was above =
         inl (ap (λ (x : ℕ × (Level × ℕ)). Fetch x.0 x.1.0 x.1.1) (some_injective (t.number, (t.asked.level, t.asked.index)) (k, (level, index)) (sym f.0.asked ∙ was)))
 
-    rightly : (message : Message) (o : Option TransferData) → FitsOpenTransfer c me o desk.state.number past → Has (λ x. x ≡ message) (again_due o) → MaySendDue c me (Tick me ∷ past) (point_of desk old.snapshots []) message
+    rightly : (message : Message) (o : Option TransferData) → FitsStateTransfer c me o desk.state.number past → Has (λ x. x ≡ message) (again_due o) → MaySendDue c me (Tick me ∷ past) (point_of desk old.snapshots []) message
     rightly message None f k = absurd k
     rightly message (Some t) f (inl k) =
         subst (λ (x : Message). MaySendDue c me (Tick me ∷ past) (point_of desk old.snapshots []) x) k (t.root, (f.1, root_later c t.number t.root past (Tick me) f.0.aims.root_wanted))

@@ -19,7 +19,7 @@ use Rattle.protocol.proofs.Points.Keeping.{executed_times}
 use Rattle.protocol.proofs.Words.Plain.{Plain, plain_low}
 use Rattle.replica_histories.specs.Desk.{Desk, Snapshot, snapshot_of, point_of}
 use Rattle.replica_histories.specs.Events.{after_outputs, IsOnItsWay, MaySendDue, AreUnsent}
-use Rattle.replica_histories.specs.Transfers.{FitsOpenTransfer, still_open}
+use Rattle.replica_histories.specs.Transfers.{FitsStateTransfer, still_open}
 use Rattle.replica_histories.specs.Outputs.{replies_to, checkpoint_due, executed_desk, ExecutesFit}
 use Rattle.replica_histories.proofs.Words.{apart, passed}
 use Rattle.replica_histories.proofs.Certified.{committed_here}
@@ -48,7 +48,7 @@ executes_fit c me s desk log outputs batch frames is_state few commits fewer f =
     asked = λ k kept h. sent (reply_of k kept) (f.of_desk.asked k kept h);
     fetch_again = λ j index level h. sent (Fetch j level index) (f.of_desk.fetch_again j index level h);
     checkpoints = λ j h multiple. checked j (st.number % c.period == 0) refl h multiple;
-    opened = subst (λ (n : ℕ). FitsOpenTransfer c me (still_open n desk.transfer) n (e ∷ past)) (sym number_is) (open_executes c me desk.transfer desk.state.number k past batch (omega arith) f.of_desk.opened);
+    opened = subst (λ (n : ℕ). FitsStateTransfer c me (still_open n desk.transfer) n (e ∷ past)) (sym number_is) (open_executes c me desk.transfer desk.state.number k past batch (omega arith) f.of_desk.opened);
     fetches = quorums_go_on c me s desk.state.number st.number [] (replies_to more ++ checkpoint_due c st) outputs e grows
         (λ i root b. absurd (let bad : None ≡ Some (b.sender, (let x : CheckpointEntry = record { number = i; digest = root } in x)) = b.brings in cc)) (λ i start above. none_starts c past e i refl start) (λ x h. absurd h) f.of_desk.fetches;
     rightly = λ message h. rightly message (has_either (λ x. x ≡ message) (replies_to more) (checkpoint_due c st) h);

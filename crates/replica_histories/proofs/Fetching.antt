@@ -16,10 +16,10 @@ use Rattle.protocol.specs.Replica.Certificates.{new_view_from}
 use Rattle.protocol.specs.Replica.State.{State, Call, call_in}
 use Rattle.protocol.specs.Replica.RightReplica.{Point, MayFetch, kept_states, others, with_waiting}
 use Rattle.state_transfer.specs.Transfer.{TransferData, with_digests}
-use Rattle.protocol.proofs.Words.Posting.{may_send}
+use Rattle.protocol.proofs.Words.Outgoing.{may_send}
 use Rattle.replica_histories.specs.Desk.{Desk, snapshot_of, point_of}
 use Rattle.replica_histories.specs.Logs.{FitsLog}
-use Rattle.replica_histories.specs.Transfers.{HasQuorum, TransferMayAsk, AsksNext, FitsOpenTransfer, open_number}
+use Rattle.replica_histories.specs.Transfers.{HasQuorum, TransferMayAsk, AsksNext, FitsStateTransfer, open_number}
 use Rattle.replica_histories.specs.Events.{Start, after_outputs, BothFitWithinEvent, BothFitBetweenEvents, start_at}
 use Rattle.replica_histories.specs.Inputs.{replies_again, BytesEnter, IsBesideLog}
 use Rattle.replica_histories.specs.Fetching.{FetchesFit, DueFetchesFit, QuorumsMayAsk, HeldOweNoFetch, DigestsEnter, PagesEnter, AskedDigestsCount, AskedPagesCount, TransfersChange}
@@ -44,13 +44,13 @@ fetch_of t = Fetch t.number t.asked.level t.asked.index
 fetch_goes : (c : Configuration) (me : ℕ) (s : Start) (desk : Desk) (log : LogData) (due rest : List Message) (outputs : List Entry) (t : TransferData) (bytes : List ℕ) → TransferMayAsk c me t desk.state.number (after_outputs s outputs) → AsksNext c me t desk.state (after_outputs s outputs)
     → IsOutgoing c me (fetch_of t) (others c me) bytes → Pays me s desk.state due rest outputs bytes
     → BothFitWithinEvent c me s desk log due outputs → BothFitWithinEvent c me s (record desk { transfer = Some t }) log rest (Sent me bytes ∷ outputs)
-fetch_goes c me s desk log due rest outputs t bytes m next posted pays f =
+fetch_goes c me s desk log due rest outputs t bytes m next is_outgoing pays f =
     sent_goes c me s desk log log due rest outputs bytes desk.snapshots (Some t) f
-    (may_send c me past (point_of desk f.of_desk.states f.of_desk.ran) (Sent me bytes) bytes (others c me) (fetch_of t) posted refl tt may (λ signed. absurd cc) (fetch_is_new c me past (point_of desk f.of_desk.states f.of_desk.ran) t.number t.asked.level t.asked.index bytes posted.says may)) fits
+    (may_send c me past (point_of desk f.of_desk.states f.of_desk.ran) (Sent me bytes) bytes (others c me) (fetch_of t) is_outgoing refl tt may (λ signed. absurd cc) (fetch_is_new c me past (point_of desk f.of_desk.states f.of_desk.ran) t.number t.asked.level t.asked.index bytes is_outgoing.says may)) fits
     (ap (λ (h : ℕ). map snapshot_of (kept_states h f.of_desk.states)) (sym f.of_log.low) ∙ f.of_desk.kept)
-    (reached_sent c me desk.state.number due rest log log past bytes (others c me) (fetch_of t) posted tt placed refl pays.paid f.low)
-    (transfers_ask c me t desk.state.number past bytes posted.says m) (no_root c past bytes me (fetch_of t) desk.state.number posted.says refl)
-    (none_taken c past (Sent me bytes) (ap (option_and_then (new_view_from c)) posted.says)) pays (no_proposal c me past bytes (fetch_of t) posted.says tt)
+    (reached_sent c me desk.state.number due rest log log past bytes (others c me) (fetch_of t) is_outgoing tt placed refl pays.paid f.low)
+    (transfers_ask c me t desk.state.number past bytes is_outgoing.says m) (no_root c past bytes me (fetch_of t) desk.state.number is_outgoing.says refl)
+    (none_taken c past (Sent me bytes) (ap (option_and_then (new_view_from c)) is_outgoing.says)) pays (no_proposal c me past bytes (fetch_of t) is_outgoing.says tt)
   where
     past : List Entry
     past = after_outputs s outputs
@@ -62,14 +62,14 @@ fetch_goes c me s desk log due rest outputs t bytes m next posted pays f =
     placed = beside_placed c me log me (fetch_of t) tt
 
     fits : FitsLog c me log (Sent me bytes ∷ past)
-    fits = log_sent c me log log past bytes (others c me) (fetch_of t) f.of_log posted tt
+    fits = log_sent c me log log past bytes (others c me) (fetch_of t) f.of_log is_outgoing tt
         (takes_nothing c me (Some (record { sender = me; message = fetch_of t })) log f.of_log.is_log (λ i w h. refl) (λ i x w h. refl) (λ i x w h. refl) (λ x. refl)) placed
 
 pub fetches_fit : FetchesFit
-fetches_fit c me s desk log due outputs t bytes m next posted f = fetch_goes c me s desk log due due outputs t bytes m next posted (pays_fetch c me s desk log outputs (fetch_of t) bytes posted.says due refl f) f
+fetches_fit c me s desk log due outputs t bytes m next is_outgoing f = fetch_goes c me s desk log due due outputs t bytes m next is_outgoing (pays_fetch c me s desk log outputs (fetch_of t) bytes is_outgoing.says due refl f) f
 
 pub due_fetches_fit : DueFetchesFit
-due_fetches_fit c me s desk log rest outputs t bytes m next posted f = fetch_goes c me s desk log (fetch_of t ∷ rest) rest outputs t bytes m next posted (pays_first c me s desk log outputs (fetch_of t) bytes posted.says rest f) f
+due_fetches_fit c me s desk log rest outputs t bytes m next is_outgoing f = fetch_goes c me s desk log (fetch_of t ∷ rest) rest outputs t bytes m next is_outgoing (pays_first c me s desk log outputs (fetch_of t) bytes is_outgoing.says rest f) f
 
 -- ---- quorums
 
@@ -129,8 +129,8 @@ transfers_change c me s desk log due outputs open_one o f = record {
 }
 
 -- the open transfer of a desk
-open_at : (c : Configuration) (me : ℕ) (desk : Desk) (t : TransferData) (number : ℕ) (history : List Entry) → desk.transfer ≡ Some t → FitsOpenTransfer c me desk.transfer number history → FitsOpenTransfer c me (Some t) number history
-open_at c me desk t number history is f = subst (λ (o : Option TransferData). FitsOpenTransfer c me o number history) is f
+open_at : (c : Configuration) (me : ℕ) (desk : Desk) (t : TransferData) (number : ℕ) (history : List Entry) → desk.transfer ≡ Some t → FitsStateTransfer c me desk.transfer number history → FitsStateTransfer c me (Some t) number history
+open_at c me desk t number history is f = subst (λ (o : Option TransferData). FitsStateTransfer c me o number history) is f
 
 -- ---- a part arrives
 
@@ -164,7 +164,7 @@ part_enters c me desk log past s message bytes f is h = record {
 
 -- so the event begins with the transfer that has the part
 enters : (c : Configuration) (me : ℕ) (desk : Desk) (log : LogData) (past : List Entry) (s : ℕ) (message : Message) (bytes : List ℕ) (open_one : Option TransferData) (held : BothFitBetweenEvents c me desk log past) → IsPart message
-    → authentic (members c) me bytes ≡ Some (record { sender = s; message = message }) → FitsOpenTransfer c me open_one desk.state.number (Got me bytes ∷ past)
+    → authentic (members c) me bytes ≡ Some (record { sender = s; message = message }) → FitsStateTransfer c me open_one desk.state.number (Got me bytes ∷ past)
     → BothFitWithinEvent c me (start_at c me desk log past held (Got me bytes)) (record desk { transfer = open_one }) log [] []
 enters c me desk log past s message bytes open_one held is h o =
     transfers_change c me (start_at c me desk log past held (Got me bytes)) desk log [] [] open_one o
@@ -193,10 +193,10 @@ pages_enter c me desk log past t s index text bytes held is asks h long known = 
 -- ---- which parts count
 
 -- the open transfer at the point of a history that fits
-open_there : (c : Configuration) (me : ℕ) (desk : Desk) (log : LogData) (past : List Entry) (t : TransferData) (held : BothFitBetweenEvents c me desk log past) → desk.transfer ≡ Some t → FitsOpenTransfer c me (Some t) held.of_desk.point.state.number past
+open_there : (c : Configuration) (me : ℕ) (desk : Desk) (log : LogData) (past : List Entry) (t : TransferData) (held : BothFitBetweenEvents c me desk log past) → desk.transfer ≡ Some t → FitsStateTransfer c me (Some t) held.of_desk.point.state.number past
 open_there c me desk log past t held is =
     open_at c me desk t held.of_desk.point.state.number past is
-    (subst (λ (st : State). FitsOpenTransfer c me desk.transfer st.number past) (sym (ap (λ (p : Point). p.state) held.of_desk.is)) held.of_desk.opened)
+    (subst (λ (st : State). FitsStateTransfer c me desk.transfer st.number past) (sym (ap (λ (p : Point). p.state) held.of_desk.is)) held.of_desk.opened)
 
 pub asked_digests_count : AskedDigestsCount
 asked_digests_count c me desk log past t s place digests bytes held is asks wants =

@@ -18,20 +18,20 @@ use Rattle.protocol.specs.System.Configuration.{Configuration, primary, is_numbe
 use Rattle.protocol.specs.System.Frames.{IsOutgoing}
 use Rattle.protocol.specs.System.Trace.{Entry, Once, Has}
 use Rattle.protocol.specs.System.Trace.Entry.{Sent}
-use Rattle.protocol.specs.Replica.Certificates.{are_genuine, new_view_from, taken, logged, batch_from, begun_proposal, entry_proposal, proposal, prepare_from, commit_from, vote_in, prepare_of, commit_of}
+use Rattle.protocol.specs.Replica.Certificates.{are_genuine, new_view_from, taken, logged, batch_from, assigned_proposal, entry_proposal, proposal, prepare_from, commit_from, vote_in, prepare_of, commit_of}
 use Rattle.protocol.specs.Replica.State.{State, root_of}
 use Rattle.protocol.specs.Replica.RightReplica.{Point, Executes, kept_states, others, reply_of, IsFor, IsAddressed, HasSeen, HasOwnLeaf, SentInEvent, MaySendMessage, MaySend, MayCheckpoint}
 use Rattle.protocol.specs.Replica.Transfers.{place_from}
 use Rattle.protocol.specs.Replica.Owed.{IsSending, HasRequest, IsNumbered, AreDifferent, NumbersOnce}
 use Rattle.protocol.proofs.Words.Options.{some_injective, then_some_gives, or_else_second}
 use Rattle.protocol.proofs.Words.Elements.{has_weaker, all_of_each, each_weaker}
-use Rattle.protocol.proofs.Words.Posting.{may_send}
+use Rattle.protocol.proofs.Words.Outgoing.{may_send}
 use Rattle.replica_histories.specs.Desk.{Desk, Snapshot, snapshot_of, kept_from, point_of}
 use Rattle.replica_histories.specs.Logs.{FitsLog, LogTakesBody}
 use Rattle.replica_histories.specs.Marks.{checked_log, BringsCheckpoint}
 use Rattle.replica_histories.specs.Events.{Start, after_outputs, IsOnItsWay, MaySendDue, FitsFrames, LowMarkIsReached, BothFitWithinEvent, KeptAreAbove}
 use Rattle.state_transfer.specs.Transfer.{TransferData}
-use Rattle.replica_histories.specs.Transfers.{FitsOpenTransfer}
+use Rattle.replica_histories.specs.Transfers.{FitsStateTransfer}
 use Rattle.replica_histories.specs.TransfersQuorums.{BringsRoot}
 use Rattle.replica_histories.specs.Outputs.{PreparesFit, CommitsFit, BatchesFit, RepliesFit, CheckpointsFit}
 use Rattle.replica_histories.proofs.Words.{apart, passed, HasBatch, has_batch, batch_read, marks_are, primary_same}
@@ -72,18 +72,18 @@ signed_addressed c me past message (signature s) h = tt
 
 pub signed_may_send : (c : Configuration) (me : ℕ) (past : List Entry) (point : Point) (e : Entry) (bytes : List ℕ) (message : Message) → is_signed message ≡ true → IsOutgoing c me message [] bytes
     → Each (λ frame. Once (HasSeen frame) past) (carried message) → MaySendMessage c me past point e bytes message → HasOwnLeaf bytes past → (SentInEvent bytes past → ⊥) → MaySend c me past point e bytes
-signed_may_send c me past point e bytes message signed posted seen allowed leaf once = record {
+signed_may_send c me past point e bytes message signed is_outgoing seen allowed leaf once = record {
   leaf = leaf;
   once = once;
   body = record { sender = me; message = message };
-  says = posted.says;
+  says = is_outgoing.says;
   own = refl;
   seen = seen;
   allowed = allowed;
   is_sealed = λ frame is.
       let spells = (reads_frames bytes frame).0 is in
-      let same : ◌≡◌ {A = Body} frame.body (record { sender = me; message = message }) = some_injective _ _ (sym (reads_said bytes frame spells) ∙ posted.says) in
-      ((posted.is_sealed frame is).0, signed_addressed c me past message frame.authenticator (spells.valid.proved ∙ ap (λ (b : Body). is_signed b.message) same ∙ signed));
+      let same : ◌≡◌ {A = Body} frame.body (record { sender = me; message = message }) = some_injective _ _ (sym (reads_said bytes frame spells) ∙ is_outgoing.says) in
+      ((is_outgoing.is_sealed frame is).0, signed_addressed c me past message frame.authenticator (spells.valid.proved ∙ ap (λ (b : Body). is_signed b.message) same ∙ signed));
 }
 
 -- A sent frame: the log changes, of the snapshots these stay, this transfer is open, and due messages may be paid.
@@ -91,7 +91,7 @@ pub sent_goes : (c : Configuration) (me : ℕ) (s : Start) (desk : Desk) (log af
     (f : BothFitWithinEvent c me s desk log due outputs) → MaySend c me (after_outputs s outputs) (point_of desk f.of_desk.states f.of_desk.ran) (Sent me bytes) bytes
     → FitsLog c me after (Sent me bytes ∷ after_outputs s outputs) → map snapshot_of (kept_states after.low f.of_desk.states) ≡ snapshots
     → LowMarkIsReached c me after.low desk.state.number rest (Sent me bytes ∷ after_outputs s outputs)
-    → FitsOpenTransfer c me transfer desk.state.number (Sent me bytes ∷ after_outputs s outputs)
+    → FitsStateTransfer c me transfer desk.state.number (Sent me bytes ∷ after_outputs s outputs)
     → ((k : ℕ) (root : List ℕ) → BringsRoot c (after_outputs s outputs) (Sent me bytes) k root → k ≤ desk.state.number)
     → taken c (after_outputs s outputs) (Sent me bytes) ≡ None
     → Pays me s desk.state due rest outputs bytes
@@ -132,16 +132,16 @@ sent_goes c me s desk log after due rest outputs bytes snapshots transfer f may 
 -- the log after it
 pub log_sent : (c : Configuration) (me : ℕ) (log after : LogData) (past : List Entry) (bytes receivers : List ℕ) (message : Message) → FitsLog c me log past → IsOutgoing c me message receivers bytes → KeepsView message
     → LogTakesBody c me (Some (record { sender = me; message = message })) log after → IsPlaced c me log (record { sender = me; message = message }) → FitsLog c me after (Sent me bytes ∷ past)
-log_sent c me log after past bytes receivers message f posted keeps takes place =
-    log_goes c me log after past (Sent me bytes) f (sent_read c me log past bytes me message posted.says keeps place) (subst (λ (o : Option Body). LogTakesBody c me o log after) (sym posted.says) takes)
+log_sent c me log after past bytes receivers message f is_outgoing keeps takes place =
+    log_goes c me log after past (Sent me bytes) f (sent_read c me log past bytes me message is_outgoing.says keeps place) (subst (λ (o : Option Body). LogTakesBody c me o log after) (sym is_outgoing.says) takes)
 
 -- and the low mark, which stays, is reached
 pub reached_sent : (c : Configuration) (me number : ℕ) (due rest : List Message) (log after : LogData) (past : List Entry) (bytes receivers : List ℕ) (message : Message) → IsOutgoing c me message receivers bytes → KeepsView message
     → IsPlaced c me log (record { sender = me; message = message }) → after.low ≡ log.low → ((x : Message) → Has (λ y. y ≡ x) due → Has (λ y. y ≡ x) rest ⊎ IsSending me x (Sent me bytes))
     → LowMarkIsReached c me log.low number due past → LowMarkIsReached c me after.low number rest (Sent me bytes ∷ past)
-reached_sent c me number due rest log after past bytes receivers message posted keeps place same paid h =
+reached_sent c me number due rest log after past bytes receivers message is_outgoing keeps place same paid h =
     subst (λ (n : ℕ). LowMarkIsReached c me n number rest (Sent me bytes ∷ past)) (sym same)
-    (reached_goes c me number due rest log past (Sent me bytes) (sent_read c me log past bytes me message posted.says keeps place) paid h)
+    (reached_goes c me number due rest log past (Sent me bytes) (sent_read c me log past bytes me message is_outgoing.says keeps place) paid h)
 
 -- view changes and new views alone are signed
 never_signed : {A : Type 0} (message : Message) → KeepsView message → is_signed message ≡ true → A
@@ -160,13 +160,13 @@ pub sent_fits : (c : Configuration) (me : ℕ) (s : Start) (desk : Desk) (log af
     → Pays me s desk.state due rest outputs bytes → (SentInEvent bytes (after_outputs s outputs) → ⊥)
     → NumbersOnce c me (after_outputs s outputs) (Sent me bytes)
     → BothFitWithinEvent c me s desk after rest (Sent me bytes ∷ outputs)
-sent_fits c me s desk log after due rest outputs bytes receivers message f posted for seen allowed keeps takes place none roots pays new once =
+sent_fits c me s desk log after due rest outputs bytes receivers message f is_outgoing for seen allowed keeps takes place none roots pays new once =
     sent_goes c me s desk log after due rest outputs bytes desk.snapshots desk.transfer f
-    (may_send c me (after_outputs s outputs) (point_of desk f.of_desk.states f.of_desk.ran) (Sent me bytes) bytes receivers message posted for seen allowed (λ signed. never_signed message keeps signed) new)
-    (log_sent c me log after (after_outputs s outputs) bytes receivers message f.of_log posted keeps takes place)
+    (may_send c me (after_outputs s outputs) (point_of desk f.of_desk.states f.of_desk.ran) (Sent me bytes) bytes receivers message is_outgoing for seen allowed (λ signed. never_signed message keeps signed) new)
+    (log_sent c me log after (after_outputs s outputs) bytes receivers message f.of_log is_outgoing keeps takes place)
     (ap (λ (h : ℕ). map snapshot_of (kept_states h f.of_desk.states)) (takes.stays.low ∙ sym f.of_log.low) ∙ f.of_desk.kept)
-    (reached_sent c me desk.state.number due rest log after (after_outputs s outputs) bytes receivers message posted keeps place takes.stays.low pays.paid f.low)
-    (open_stays c me desk.transfer desk.state.number (after_outputs s outputs) (Sent me bytes) (asks_none bytes me message posted.says none) tt f.of_desk.opened) roots (none_taken c (after_outputs s outputs) (Sent me bytes) (ap (option_and_then (new_view_from c)) posted.says ∙ begins_none c me message keeps)) pays once
+    (reached_sent c me desk.state.number due rest log after (after_outputs s outputs) bytes receivers message is_outgoing keeps place takes.stays.low pays.paid f.low)
+    (open_stays c me desk.transfer desk.state.number (after_outputs s outputs) (Sent me bytes) (asks_none bytes me message is_outgoing.says none) tt f.of_desk.opened) roots (none_taken c (after_outputs s outputs) (Sent me bytes) (ap (option_and_then (new_view_from c)) is_outgoing.says ∙ begins_none c me message keeps)) pays once
 
 -- a prepare has a place if its number is in the marks and the replica is active, and so has a commit
 differ : (log : LogData) (v i j : ℕ) → logs.is_in_marks log i ≡ true → (v ≢ log.view) ⊎ (logs.is_in_marks log j ≡ false) → ((log.view == v) && (i == j)) ≡ false
@@ -237,14 +237,14 @@ fresh_commit log i h = none_is (logs.commit_of log i log.me) (and_parts (log.act
 
 pub prepares_fit : PreparesFit
 unfolding prepare_of
-prepares_fit c me s desk log due outputs i digest bytes vote asks sender same posted f =
-    sent_fits c me s desk log (logs.with_prepare log i vote) due due outputs bytes (others c me) (Prepare log.view i digest) f posted refl tt
+prepares_fit c me s desk log due outputs i digest bytes vote asks sender same is_outgoing f =
+    sent_fits c me s desk log (logs.with_prepare log i vote) due due outputs bytes (others c me) (Prepare log.view i digest) f is_outgoing refl tt
     (record { is_backup = backup; active = active c me log (after_outputs s outputs) f.of_log ∙ is_active; batch = b.batch; is_logged = f.of_log.batches i b.within ∙ b.logged; digest_is = b.digest_is })
     tt
     (prepare_taken c me me i digest vote log f.of_log.is_log is_active b.within (subst (λ (x : ℕ). x < logs.replicas log) f.of_log.own f.of_log.is_log.me) (ap not (ne_eqb me (primary c log.view) (λ e. backup (sym e)))) sender same)
     (prepare_placed c me me i digest log is_active b.within)
-    refl (no_root c (after_outputs s outputs) bytes me (Prepare log.view i digest) desk.state.number posted.says refl) (pays_none c me s desk log outputs (Prepare log.view i digest) bytes posted.says due refl f) new
-    (no_proposal c me (after_outputs s outputs) bytes (Prepare log.view i digest) posted.says tt)
+    refl (no_root c (after_outputs s outputs) bytes me (Prepare log.view i digest) desk.state.number is_outgoing.says refl) (pays_none c me s desk log outputs (Prepare log.view i digest) bytes is_outgoing.says due refl f) new
+    (no_proposal c me (after_outputs s outputs) bytes (Prepare log.view i digest) is_outgoing.says tt)
   where
     test : ((log.active && not (log.me == logs.primary log log.view) && is_none (logs.prepare_of log i log.me)) ≡ true) × (logs.logged_digest log i ≡ Some digest)
     test = passed (log.active && not (log.me == logs.primary log log.view) && is_none (logs.prepare_of log i log.me)) (logs.logged_digest log i) digest asks
@@ -263,21 +263,21 @@ prepares_fit c me s desk log due outputs i digest bytes vote asks sender same po
     none = f.of_log.prepares i me b.within ∙ ap (logs.prepare_of log i) (sym f.of_log.own) ∙ fresh_prepare log i test.0
 
     new : SentInEvent bytes (after_outputs s outputs) → ⊥
-    new = new_by (λ earlier e. vote_in c me earlier e (prepare_from c me log.view i) log.view i) bytes (λ past p. (digest, ap (option_and_then (prepare_from c me log.view i)) posted.says ∙ prepared)) (after_outputs s outputs) none
+    new = new_by (λ earlier e. vote_in c me earlier e (prepare_from c me log.view i) log.view i) bytes (λ past p. (digest, ap (option_and_then (prepare_from c me log.view i)) is_outgoing.says ∙ prepared)) (after_outputs s outputs) none
       where
         prepared : prepare_from c me log.view i (record { sender = me; message = Prepare log.view i digest }) ≡ Some digest
         prepared = rw (eq-eqb me me refl, eq-eqb log.view log.view refl, eq-eqb i i refl, ne_eqb me (primary c log.view) (λ e. backup (sym e))) refl
 
 pub commits_fit : CommitsFit
 unfolding commit_of
-commits_fit c me s desk log due outputs i digest bytes vote asks sender same posted f =
-    sent_fits c me s desk log (logs.with_commit log i vote) due due outputs bytes (others c me) (Commit log.view i digest) f posted refl tt
+commits_fit c me s desk log due outputs i digest bytes vote asks sender same is_outgoing f =
+    sent_fits c me s desk log (logs.with_commit log i vote) due due outputs bytes (others c me) (Commit log.view i digest) f is_outgoing refl tt
     (record { active = active c me log (after_outputs s outputs) f.of_log ∙ is_active; batch = p.0; prepared = prepared_here c me log (after_outputs s outputs) i p.0 f.of_log p.1; digest_is = digest_is })
     tt
     (commit_taken c me me i digest vote log f.of_log.is_log is_active b.within (subst (λ (x : ℕ). x < logs.replicas log) f.of_log.own f.of_log.is_log.me) sender same)
     (commit_placed c me me i digest log is_active b.within)
-    refl (no_root c (after_outputs s outputs) bytes me (Commit log.view i digest) desk.state.number posted.says refl) (pays_none c me s desk log outputs (Commit log.view i digest) bytes posted.says due refl f) new
-    (no_proposal c me (after_outputs s outputs) bytes (Commit log.view i digest) posted.says tt)
+    refl (no_root c (after_outputs s outputs) bytes me (Commit log.view i digest) desk.state.number is_outgoing.says refl) (pays_none c me s desk log outputs (Commit log.view i digest) bytes is_outgoing.says due refl f) new
+    (no_proposal c me (after_outputs s outputs) bytes (Commit log.view i digest) is_outgoing.says tt)
   where
     test : ((log.active && logs.is_prepared log i && is_none (logs.commit_of log i log.me)) ≡ true) × (logs.logged_digest log i ≡ Some digest)
     test = passed (log.active && logs.is_prepared log i && is_none (logs.commit_of log i log.me)) (logs.logged_digest log i) digest asks
@@ -304,7 +304,7 @@ commits_fit c me s desk log due outputs i digest bytes vote asks sender same pos
 
     -- the replica's own commit would have counted
     new : SentInEvent bytes (after_outputs s outputs) → ⊥
-    new = new_by (λ earlier e. vote_in c me earlier e (commit_from me log.view i) log.view i) bytes (λ past p. (digest, ap (option_and_then (commit_from me log.view i)) posted.says ∙ committed)) (after_outputs s outputs) none
+    new = new_by (λ earlier e. vote_in c me earlier e (commit_from me log.view i) log.view i) bytes (λ past p. (digest, ap (option_and_then (commit_from me log.view i)) is_outgoing.says ∙ committed)) (after_outputs s outputs) none
       where
         committed : commit_from me log.view i (record { sender = me; message = Commit log.view i digest }) ≡ Some digest
         committed = rw (eq-eqb me me refl, eq-eqb log.view log.view refl, eq-eqb i i refl) refl
@@ -331,11 +331,11 @@ or_else_given (Some y) later x h = (y, refl)
 
 pub batches_fit : BatchesFit
 unfolding logged
-batches_fit c me s desk log due outputs i batch bytes p posted f =
-    sent_fits c me s desk log (logs.with_batch log i batch) due due outputs bytes (others c me) (PrePrepare log.view i batch) f posted refl
+batches_fit c me s desk log due outputs i batch bytes p is_outgoing f =
+    sent_fits c me s desk log (logs.with_batch log i batch) due due outputs bytes (others c me) (PrePrepare log.view i batch) f is_outgoing refl
     (each_weaker (λ frame. Once (HasSeen frame) past × (is_some (authentic (members c) me frame) ≡ true)) (λ frame. Once (HasSeen frame) past) (λ frame k. k.0) (requests_of batch) seen)
     (record { is_primary = primary_is; active = active c me log past f.of_log ∙ p.active; in_marks = marks_are c me log past i f.of_log ∙ p.within; genuine = genuine; one = one; next = λ none. p.free })
-    tt takes is_placed refl (no_root c (after_outputs s outputs) bytes me (PrePrepare log.view i batch) desk.state.number posted.says refl) (pays_none c me s desk log outputs (PrePrepare log.view i batch) bytes posted.says due refl f) new once
+    tt takes is_placed refl (no_root c (after_outputs s outputs) bytes me (PrePrepare log.view i batch) desk.state.number is_outgoing.says refl) (pays_none c me s desk log outputs (PrePrepare log.view i batch) bytes is_outgoing.says due refl f) new once
   where
     past : List Entry
     past = after_outputs s outputs
@@ -362,14 +362,14 @@ batches_fit c me s desk log due outputs i batch bytes p posted f =
     is_placed = record { batch = place; votes = λ v j x other. (refl, refl); resting = λ rests j x. never_rests log p.active rests }
 
     fits : FitsLog c me (logs.with_batch log i batch) (Sent me bytes ∷ past)
-    fits = log_sent c me log (logs.with_batch log i batch) past bytes (others c me) (PrePrepare log.view i batch) f.of_log posted tt takes is_placed
+    fits = log_sent c me log (logs.with_batch log i batch) past bytes (others c me) (PrePrepare log.view i batch) f.of_log is_outgoing tt takes is_placed
 
     proposed : batch_from c me log.view i (record { sender = me; message = PrePrepare log.view i batch }) ≡ Some batch
     proposed = rw (eq-eqb log.view log.view refl, eq-eqb i i refl, eq-eqb me (primary c log.view) (sym primary_is), genuine) refl
 
     -- the replica's own batch would have counted
     given : (earlier : List Entry) (q : ℕ) → (x : List ℕ) × (proposal c me earlier (Sent q bytes) log.view i ≡ Some x)
-    given earlier q = or_else_given (begun_proposal c me earlier (Sent q bytes) log.view i) (entry_proposal c me earlier (Sent q bytes) log.view i) batch (ap (option_and_then (batch_from c me log.view i)) posted.says ∙ proposed)
+    given earlier q = or_else_given (assigned_proposal c me earlier (Sent q bytes) log.view i) (entry_proposal c me earlier (Sent q bytes) log.view i) batch (ap (option_and_then (batch_from c me log.view i)) is_outgoing.says ∙ proposed)
 
     new : SentInEvent bytes past → ⊥
     new = new_by (λ earlier e. proposal c me earlier e log.view i) bytes given past (p.free.unused i (omega arith))
@@ -382,7 +382,7 @@ batches_fit c me s desk log due outputs i batch bytes p posted f =
         (p.differ, λ client t has numbered. p.fresh client t has (subst (λ (x : ℕ). IsNumbered c me past x client t) (sym view_is) numbered))
       where
         is : ◌≡◌ {A = Body} (record { sender = me; message = PrePrepare log.view i batch }) (record { sender = me; message = PrePrepare v j b })
-        is = some_injective _ _ (sym posted.says ∙ says)
+        is = some_injective _ _ (sym is_outgoing.says ∙ says)
 
         batch_of : Message → List ℕ
         batch_of message = elim message [ PrePrepare w k x ↦ x | _ ↦ [] ]
@@ -399,12 +399,12 @@ batches_fit c me s desk log due outputs i batch bytes p posted f =
 -- ---- a due reply
 
 pub replies_fit : RepliesFit
-replies_fit c me s desk log rest outputs k kept bytes posted f =
-    sent_fits c me s desk log log (reply_of k kept ∷ rest) rest outputs bytes ((256 + k) ∷ []) (reply_of k kept) f posted refl tt (f.of_desk.rightly (reply_of k kept) (inl refl))
+replies_fit c me s desk log rest outputs k kept bytes is_outgoing f =
+    sent_fits c me s desk log log (reply_of k kept ∷ rest) rest outputs bytes ((256 + k) ∷ []) (reply_of k kept) f is_outgoing refl tt (f.of_desk.rightly (reply_of k kept) (inl refl))
     tt
     (takes_nothing c me (Some (record { sender = me; message = reply_of k kept })) log f.of_log.is_log (λ i w h. refl) (λ i x w h. refl) (λ i x w h. refl) (λ x. refl)) (beside_placed c me log me (reply_of k kept) tt)
-    refl (no_root c (after_outputs s outputs) bytes me (reply_of k kept) desk.state.number posted.says refl) (pays_first c me s desk log outputs (reply_of k kept) bytes posted.says rest f)
-    (first_unsent c me s desk log outputs (reply_of k kept) bytes posted.says rest refl f) (no_proposal c me (after_outputs s outputs) bytes (reply_of k kept) posted.says tt)
+    refl (no_root c (after_outputs s outputs) bytes me (reply_of k kept) desk.state.number is_outgoing.says refl) (pays_first c me s desk log outputs (reply_of k kept) bytes is_outgoing.says rest f)
+    (first_unsent c me s desk log outputs (reply_of k kept) bytes is_outgoing.says rest refl f) (no_proposal c me (after_outputs s outputs) bytes (reply_of k kept) is_outgoing.says tt)
 
 -- ---- a due checkpoint
 
@@ -429,15 +429,15 @@ kept_are_above c me desk log states history fits kept =
     ap (λ (xs : List Snapshot). let new : Desk = record desk { snapshots = xs } in new) (sym (kept_on log.low log.low states desk.snapshots (omega arith) is) ∙ is)
 
 pub checkpoints_fit : CheckpointsFit
-checkpoints_fit c me s desk log rest outputs entry bytes prepares commits posted f =
+checkpoints_fit c me s desk log rest outputs entry bytes prepares commits is_outgoing f =
     sent_goes c me s desk log (checked_log log me entry) (Checkpoint entry.number entry.digest ∷ rest) rest outputs bytes (kept_from (checked_log log me entry).low desk.snapshots) desk.transfer f
-    (may_send c me past (point_of desk f.of_desk.states f.of_desk.ran) (Sent me bytes) bytes (others c me) (Checkpoint entry.number entry.digest) posted refl tt may.0 (λ signed. absurd cc)
-    (first_unsent c me s desk log outputs (Checkpoint entry.number entry.digest) bytes posted.says rest refl f)) fits
+    (may_send c me past (point_of desk f.of_desk.states f.of_desk.ran) (Sent me bytes) bytes (others c me) (Checkpoint entry.number entry.digest) is_outgoing refl tt may.0 (λ signed. absurd cc)
+    (first_unsent c me s desk log outputs (Checkpoint entry.number entry.digest) bytes is_outgoing.says rest refl f)) fits
     (kept_on log.low (checked_log log me entry).low f.of_desk.states desk.snapshots up (ap (λ (h : ℕ). map snapshot_of (kept_states h f.of_desk.states)) (sym f.of_log.low) ∙ f.of_desk.kept))
     (checked_reached c me log past (Sent me bytes) me entry f.of_log brings known desk.state.number (Checkpoint entry.number entry.digest ∷ rest) rest pays.paid f.low (λ stable. executed))
-    (open_stays c me desk.transfer desk.state.number past (Sent me bytes) (asks_none bytes me (Checkpoint entry.number entry.digest) posted.says refl) tt f.of_desk.opened)
-    (own_root c past bytes me entry.number entry.digest desk.state.number posted.says executed)
-    (none_taken c past (Sent me bytes) (ap (option_and_then (new_view_from c)) posted.says)) pays (no_proposal c me past bytes (Checkpoint entry.number entry.digest) posted.says tt)
+    (open_stays c me desk.transfer desk.state.number past (Sent me bytes) (asks_none bytes me (Checkpoint entry.number entry.digest) is_outgoing.says refl) tt f.of_desk.opened)
+    (own_root c past bytes me entry.number entry.digest desk.state.number is_outgoing.says executed)
+    (none_taken c past (Sent me bytes) (ap (option_and_then (new_view_from c)) is_outgoing.says)) pays (no_proposal c me past bytes (Checkpoint entry.number entry.digest) is_outgoing.says tt)
   where
     past : List Entry
     past = after_outputs s outputs
@@ -446,7 +446,7 @@ checkpoints_fit c me s desk log rest outputs entry bytes prepares commits posted
     may = f.of_desk.rightly (Checkpoint entry.number entry.digest) (inl refl)
 
     brings : BringsCheckpoint c (Sent me bytes) me entry
-    brings = record { brings = posted.says; number = may.1 }
+    brings = record { brings = is_outgoing.says; number = may.1 }
 
     known : me < logs.replicas log
     known = subst (λ (x : ℕ). x < logs.replicas log) f.of_log.own f.of_log.is_log.me
@@ -462,4 +462,4 @@ checkpoints_fit c me s desk log rest outputs entry bytes prepares commits posted
         (steps_leave c me s outputs (point_of desk f.of_desk.states f.of_desk.ran) f.of_desk.leaves f.of_desk.steps) may.0.executed
 
     pays : Pays me s desk.state (Checkpoint entry.number entry.digest ∷ rest) rest outputs bytes
-    pays = pays_first c me s desk log outputs (Checkpoint entry.number entry.digest) bytes posted.says rest f
+    pays = pays_first c me s desk log outputs (Checkpoint entry.number entry.digest) bytes is_outgoing.says rest f

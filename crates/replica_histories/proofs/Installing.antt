@@ -11,7 +11,7 @@ use Rattle.protocol.specs.Replica.RightReplica.{Point, IsStep, Executes, kept_st
 use Rattle.protocol.proofs.Words.Elements.{has_weaker}
 use Rattle.replica_histories.specs.Desk.{Snapshot, snapshot_of, kept_from, point_of}
 use Rattle.replica_histories.specs.Logs.{FitsLog}
-use Rattle.replica_histories.specs.Transfers.{FitsOpenTransfer, installed_point}
+use Rattle.replica_histories.specs.Transfers.{FitsStateTransfer, installed_point}
 use Rattle.replica_histories.specs.Events.{after_outputs, IsOnItsWay}
 use Rattle.replica_histories.specs.Outputs.{InstallationsFit}
 use Rattle.replica_histories.proofs.Cutting.{cut_low, installations_move}
@@ -53,7 +53,7 @@ installations_fit c me s desk log outputs t st frames may rests root_is is numbe
     later : desk.state.number < t.number
     later = may.ahead
 
-    installed : IsStep c me past old (Installed me t.number t.root) (installed_point old st) × FitsOpenTransfer c me None st.number (Installed me t.number t.root ∷ past)
+    installed : IsStep c me past old (Installed me t.number t.root) (installed_point old st) × FitsStateTransfer c me None st.number (Installed me t.number t.root ∷ past)
     installed = transfers_install c me t past old st may rests root_is is number pages
 
     fits : FitsLog c me (logs.cut_to log t.number) (Installed me t.number t.root ∷ past)

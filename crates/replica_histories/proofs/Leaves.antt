@@ -11,7 +11,7 @@ use Rattle.protocol.specs.System.Trace.Entry.{Got, Sent}
 use Rattle.protocol.specs.Replica.Certificates.{brought}
 use Rattle.protocol.specs.Replica.RightReplica.{SendsBytes, SentBefore}
 use Rattle.protocol.proofs.Words.Options.{some_injective}
-use Rattle.protocol.proofs.Words.Posting.{unsigned_no_leaf}
+use Rattle.protocol.proofs.Words.Outgoing.{unsigned_no_leaf}
 use Rattle.replica_histories.specs.Changes.{AreLeavesBelow, AreLeavesSent, SpendsLeaves, AllAreSpent, NextLeafIsOwn}
 
 -- after an entry that sends no frame by a new leaf

@@ -29,7 +29,7 @@ pub mod TransfersQuorums
 pub mod NumbersLists
 pub mod NumbersFlags
 pub mod NumbersKept
-pub mod NumbersBegun
+pub mod NumbersAssigned
 pub mod NumbersGiven
 pub mod NumbersWaiting
 pub mod Numbers
@@ -40,8 +40,8 @@ pub mod Batches
 pub mod Beginning
 pub mod Changing
 pub mod NewViews
-pub mod Claims
-pub mod ClaimsAdding
+pub mod PqSets
+pub mod PqSetsAdding
 pub mod Seeing
 pub mod Leaves
 pub mod Received

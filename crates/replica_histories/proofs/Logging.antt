@@ -14,7 +14,7 @@ use Rattle.ordering.specs.Log.{LogData}
 use Rattle.protocol.specs.System.Configuration.{Configuration, members}
 use Rattle.protocol.specs.System.Trace.{Entry, Once}
 use Rattle.protocol.specs.System.Trace.Entry.{Got, Sent}
-use Rattle.protocol.specs.Replica.Certificates.{brought, view, view_after, target, taken, change_sent, change_from, installed_at, new_view_in, new_view_from, is_later, is_active_in, checkpoint_in, checkpoints_of, is_stable, stable_at, started_at, low, is_in_marks, counts_at, batch_begun, batch_from, begun_proposal, entry_proposal, proposal, logged, prepare_from, prepare_of, commit_from, commit_of, vote_in}
+use Rattle.protocol.specs.Replica.Certificates.{brought, view, view_after, target, taken, change_sent, change_from, installed_at, new_view_in, new_view_from, is_later, is_active_in, checkpoint_in, checkpoints_of, is_stable, stable_at, started_at, low, is_in_marks, counts_at, assigned_batch, batch_from, assigned_proposal, entry_proposal, proposal, logged, prepare_from, prepare_of, commit_from, commit_of, vote_in}
 use Rattle.protocol.specs.Replica.Owed.{BeginsViewWith}
 use Rattle.protocol.proofs.Words.Options.{or_else_alone, or_else_cases, or_else_second}
 use Rattle.protocol.proofs.Words.Plain.{Plain, taken_none}
@@ -110,14 +110,14 @@ low_goes c me log new past e f q t =
 -- its own message decides what it logs
 pub proposal_quiet : (c : Configuration) (me : ℕ) (past : List Entry) (e : Entry) (v i : ℕ) → taken c past e ≡ None → proposal c me past e v i ≡ entry_proposal c me past e v i
 proposal_quiet c me past e v i none =
-    or_else_second (begun_proposal c me past e v i) (entry_proposal c me past e v i)
-    (none_chosen (is_in_marks c (low c me (e ∷ past)) i) (option_and_then (batch_begun v i) (taken c past e)) (ap (option_and_then (batch_begun v i)) none))
+    or_else_second (assigned_proposal c me past e v i) (entry_proposal c me past e v i)
+    (none_chosen (is_in_marks c (low c me (e ∷ past)) i) (option_and_then (assigned_batch v i) (taken c past e)) (ap (option_and_then (assigned_batch v i)) none))
 
 -- so no later view begins
-pub begun_quiet : (c : Configuration) (past : List Entry) (e : Entry) (most : ℕ) → taken c past e ≡ None → ((v : ℕ) (batch : List ℕ) → Once (BeginsViewWith c v batch) past → v ≤ most) → (v : ℕ) (batch : List ℕ)
+pub begins_quiet : (c : Configuration) (past : List Entry) (e : Entry) (most : ℕ) → taken c past e ≡ None → ((v : ℕ) (batch : List ℕ) → Once (BeginsViewWith c v batch) past → v ≤ most) → (v : ℕ) (batch : List ℕ)
     → Once (BeginsViewWith c v batch) (e ∷ past) → v ≤ most
-begun_quiet c past e most none before v batch (inl h) = let bad : None ≡ Some h.0 = sym none ∙ h.1 in absurd cc
-begun_quiet c past e most none before v batch (inr h) = before v batch h
+begins_quiet c past e most none before v batch (inl h) = let bad : None ≡ Some h.0 = sym none ∙ h.1 in absurd cc
+begins_quiet c past e most none before v batch (inr h) = before v batch h
 
 -- the target stays, and with it whether the replica is active
 pub active_goes : (past : List Entry) (e : Entry) (log new : LogData) → change_sent e ≡ 0 → new.view ≡ log.view → new.active ≡ log.active → nat_le (target past) log.view ≡ log.active → nat_le (target (e ∷ past)) new.view ≡ new.active
@@ -258,7 +258,7 @@ log_goes c me log new past e f r t = record {
       let none = f.above i s (subst (λ (n : ℕ). n < i) el l) outside in
       let same = same_elsewhere c me log past e log.view i r (inr outside) in
       at_view (λ v. (prepare_of c me (e ∷ past) v i s ≡ None) × (commit_of c me (e ∷ past) v i s ≡ None)) (same.prepare s ∙ none.0, same.commit s ∙ none.1);
-  begun = λ v batch h. subst (λ (x : ℕ). v ≤ x) (sym ev) (begun_quiet c past e log.view r.quiet.no_view f.begun v batch h);
+  begins = λ v batch h. subst (λ (x : ℕ). v ≤ x) (sym ev) (begins_quiet c past e log.view r.quiet.no_view f.begins v batch h);
   settled = λ is i batch l h. at_view (λ v. IsVoted c me (e ∷ past) v i batch)
       (settled i batch (subst (λ (n : ℕ). i ≤ n) el l) (sym t.stays.active ∙ is) (subst (λ (v : ℕ). logged c me (e ∷ past) v i ≡ Some batch) ev h));
   views = views_go c me log new past e f r t;

@@ -25,9 +25,9 @@ use Rattle.state_transfer.specs.Transfer.{TransferData}
 use Rattle.protocol.proofs.Words.Reacting.{proceeds_leaves}
 use Rattle.replica_histories.specs.Desk.{Desk, snapshot_of, point_of}
 use Rattle.replica_histories.specs.Logs.{FitsLog}
-use Rattle.replica_histories.specs.Transfers.{FitsOpenTransfer, TransferMayAsk, AsksNext, transfer_to, open_number}
+use Rattle.replica_histories.specs.Transfers.{FitsStateTransfer, TransferMayAsk, AsksNext, transfer_to, open_number}
 use Rattle.replica_histories.specs.Events.{after_outputs, IsOnItsWay, IsRepeatedRequest, MaySendDue, LowMarkIsReached, IsFetchedOrDue}
-use Rattle.replica_histories.specs.Views.{begun_log, start_due, NewViewsEnter, NewViewsFit, StartsMayAsk}
+use Rattle.replica_histories.specs.Views.{entered_log, start_due, NewViewsEnter, NewViewsFit, StartsMayAsk}
 use Rattle.replica_histories.proofs.Words.{given_not}
 use Rattle.replica_histories.proofs.Certified.{committed_there}
 use Rattle.replica_histories.proofs.Ending.{steps_leave}
@@ -37,8 +37,8 @@ use Rattle.replica_histories.proofs.Entering.{same_point}
 use Rattle.replica_histories.proofs.Resting.{rests}
 use Rattle.replica_histories.proofs.Transfers.{open_stays, open_above, lower_are_fetched, asks_none, start_may_ask, move_may_ask}
 use Rattle.replica_histories.proofs.TransfersQuorums.{quorums_begin, quorums_go_on, no_root}
-use Rattle.replica_histories.proofs.Batches.{begun_low}
-use Rattle.replica_histories.proofs.Beginning.{Still, still_brings, still_commit, still_committed, new_above, new_small, begun_high, logged_before, begun_fits}
+use Rattle.replica_histories.proofs.Batches.{entered_low}
+use Rattle.replica_histories.proofs.Beginning.{Still, still_brings, still_commit, still_committed, new_above, new_small, entered_high, logged_before, assigned_fits}
 
 -- a new view that the replica takes is not below the target
 targets_at_most : (c : Configuration) (past : List Entry) (e : Entry) (new : NewViewData) → taken c past e ≡ Some new → target past ≤ new.view
@@ -61,7 +61,7 @@ module _ (c : Configuration) (me : ℕ) (log : LogData) (past : List Entry) (e :
           let above = new_above c me log past e new f q t in
           still_committed c me past e q v i batch (logged_before c me log past e new f q t v i batch (omega arith) k.prepared.logged) k
 
-  module _ (desk : Desk) (opened : FitsOpenTransfer c me desk.transfer desk.state.number past) where
+  module _ (desk : Desk) (opened : FitsStateTransfer c me desk.transfer desk.state.number past) where
     is_ahead : Bool
     is_ahead = nat_lt (open_number desk.state.number desk.transfer) new.start
 
@@ -90,12 +90,12 @@ module _ (c : Configuration) (me : ℕ) (log : LogData) (past : List Entry) (e :
             absurd (omega (arith, least, newer, same))
 
     -- the low mark is reached if it was, and no batch is committed for the next number
-    begun_reached : LowMarkIsReached c me log.low desk.state.number [] past → (log.low ≤ desk.state.number → (v : ℕ) (batch : List ℕ) → Committed c me past v (suc desk.state.number) batch → ⊥)
-        → LowMarkIsReached c me (begun_log log new).low desk.state.number (start_due desk new) (e ∷ past)
-    begun_reached was next = go (nat_le (begun_log log new).low desk.state.number) refl
+    assigned_reached : LowMarkIsReached c me log.low desk.state.number [] past → (log.low ≤ desk.state.number → (v : ℕ) (batch : List ℕ) → Committed c me past v (suc desk.state.number) batch → ⊥)
+        → LowMarkIsReached c me (entered_log log new).low desk.state.number (start_due desk new) (e ∷ past)
+    assigned_reached was next = go (nat_le (entered_log log new).low desk.state.number) refl
       where
-        low_is : (begun_log log new).low ≡ max log.low new.start
-        low_is = begun_low log new f.is_log (new_small c me log past e new f q t)
+        low_is : (entered_log log new).low ≡ max log.low new.start
+        low_is = entered_low log new f.is_log (new_small c me log past e new f q t)
 
         none : LowMarkIsReached c me log.low desk.state.number [] past → (v : ℕ) (batch : List ℕ) → Committed c me (e ∷ past) v (suc desk.state.number) batch → ⊥
         none (inl l) v batch k = next l v batch (committed_before v (suc desk.state.number) batch k)
@@ -109,21 +109,21 @@ module _ (c : Configuration) (me : ℕ) (log : LogData) (past : List Entry) (e :
             at (inl l) = inl (omega arith)
             at (inr d) = absurd d
 
-        fetched : desk.state.number < (begun_log log new).low → (b : Bool) → nat_lt log.low new.start ≡ b → IsFetchedOrDue (begun_log log new).low (start_due desk new) (e ∷ past)
+        fetched : desk.state.number < (entered_log log new).low → (b : Bool) → nat_lt log.low new.start ≡ b → IsFetchedOrDue (entered_log log new).low (start_due desk new) (e ∷ past)
         fetched above true l =
             let over = ltb-true log.low new.start l in
             let is = low_is in
-            let same : new.start ≡ (begun_log log new).low = omega arith in
+            let same : new.start ≡ (entered_log log new).low = omega arith in
             subst (λ (n : ℕ). IsFetchedOrDue n (start_due desk new) (e ∷ past)) same (start_fetched (omega arith))
         fetched above false l =
             let under = ltb-false log.low new.start l in
             let is = low_is in
-            let same : log.low ≡ (begun_log log new).low = omega arith in
+            let same : log.low ≡ (entered_log log new).low = omega arith in
             subst (λ (n : ℕ). IsFetchedOrDue n (start_due desk new) (e ∷ past)) same (old (omega arith) was)
 
-        go : (b : Bool) → nat_le (begun_log log new).low desk.state.number ≡ b → LowMarkIsReached c me (begun_log log new).low desk.state.number (start_due desk new) (e ∷ past)
-        go true l = inl (leb-true (begun_log log new).low desk.state.number l)
-        go false l = inr (fetched (leb-false (begun_log log new).low desk.state.number l) (nat_lt log.low new.start) refl, none was)
+        go : (b : Bool) → nat_le (entered_log log new).low desk.state.number ≡ b → LowMarkIsReached c me (entered_log log new).low desk.state.number (start_due desk new) (e ∷ past)
+        go true l = inl (leb-true (entered_log log new).low desk.state.number l)
+        go false l = inr (fetched (leb-false (entered_log log new).low desk.state.number l) (nat_lt log.low new.start) refl, none was)
 
     -- the due fetch may be sent
     start_rightly : (states : List State) (point : Point) → point.state ≡ desk.state → (message : Message) → Has (λ x. x ≡ message) (start_due desk new) → MaySendDue c me (e ∷ past) point message
@@ -155,7 +155,7 @@ new_views_enter c me desk log past s new bytes held h t = record {
       moves = same_point old.snapshots desk.state old.state desk.waiting (waiting_after c me old bytes) (sym (ap (λ (p : Point). p.state) held.of_desk.is)) (sym (ap (λ (p : Point). p.waiting) held.of_desk.is) ∙ sym waits);
     };
     kept = ap (λ (x : ℕ). map snapshot_of (kept_states x old.snapshots)) fits.low
-        ∙ kept_on log.low (begun_log log new).low old.snapshots desk.snapshots (begun_high c me log past e new f q t) (ap (λ (x : ℕ). map snapshot_of (kept_states x old.snapshots)) (sym f.low) ∙ held.of_desk.kept);
+        ∙ kept_on log.low (entered_log log new).low old.snapshots desk.snapshots (entered_high c me log past e new f q t) (ap (λ (x : ℕ). map snapshot_of (kept_states x old.snapshots)) (sym f.low) ∙ held.of_desk.kept);
     frames = λ frame k. let g = held.of_desk.frames frame k in (inr g.0, g.1);
     replies = λ r k. absurd k;
     asked = λ k kept a. absurd (asks_nothing k kept a);
@@ -168,7 +168,7 @@ new_views_enter c me desk log past s new bytes held h t = record {
     rightly = λ message k. start_rightly c me log past e new f q t desk held.of_desk.opened old.snapshots (point_of desk old.snapshots []) refl message k;
   };
   of_log = fits;
-  low = begun_reached c me log past e new f q t desk held.of_desk.opened held.low (λ l. next);
+  low = assigned_reached c me log past e new f q t desk held.of_desk.opened held.low (λ l. next);
   once = tt;
   says = fetch_once me (record { before = past; input = e; old = old }) desk.state new.start [] (nat_lt (open_number desk.state.number desk.transfer) new.start) refl (λ k kept given. absurd given);
 }
@@ -185,8 +185,8 @@ new_views_enter c me desk log past s new bytes held h t = record {
     q : Still c me past e
     q = still_brings c me past e s (NewView new) tt h
 
-    fits : FitsLog c me (begun_log log new) (e ∷ past)
-    fits = begun_fits c me log past e new f q t (let most = targets_at_most c past e new t in omega arith) held.of_log.commits
+    fits : FitsLog c me (entered_log log new) (e ∷ past)
+    fits = assigned_fits c me log past e new f q t (let most = targets_at_most c past e new t in omega arith) held.of_log.commits
 
     waits : waiting_after c me old bytes ≡ old.waiting
     waits = ap (λ (o : Option Body). option_map_or (with_waiting old.state old.waiting) (option_and_then (call_in c) o) old.waiting) h
@@ -206,27 +206,27 @@ new_views_enter c me desk log past s new bytes held h t = record {
 -- ---- the replica sends a new view
 
 pub new_views_fit : NewViewsFit
-new_views_fit c me s desk log outputs new bytes none_due none_next primary_is t seen posted leaf f = record {
+new_views_fit c me s desk log outputs new bytes none_due none_next primary_is t seen is_outgoing leaf f = record {
   of_desk = record {
     states = f.of_desk.states;
     ran = f.of_desk.ran;
     leaves = f.of_desk.leaves;
     steps = (point, f.of_desk.steps, record { own = refl; may = may; moves = refl }, refl);
     kept = ap (λ (h : ℕ). map snapshot_of (kept_states h f.of_desk.states)) fits.low
-        ∙ kept_on log.low (begun_log log new).low f.of_desk.states desk.snapshots (begun_high c me log past e new f.of_log q t) (ap (λ (h : ℕ). map snapshot_of (kept_states h f.of_desk.states)) (sym f.of_log.low) ∙ f.of_desk.kept);
+        ∙ kept_on log.low (entered_log log new).low f.of_desk.states desk.snapshots (entered_high c me log past e new f.of_log q t) (ap (λ (h : ℕ). map snapshot_of (kept_states h f.of_desk.states)) (sym f.of_log.low) ∙ f.of_desk.kept);
     frames = λ frame h. let k = f.of_desk.frames frame h in (inr k.0, k.1);
     replies = λ r h. on_way me [] (start_due desk new) outputs e (λ x k. absurd k) (reply_of r.call.client r.kept) (f.of_desk.replies r h);
     asked = λ k kept h. on_way me [] (start_due desk new) outputs e (λ x k. absurd k) (reply_of k kept) (f.of_desk.asked k kept h);
     fetch_again = λ k index level h. on_way me [] (start_due desk new) outputs e (λ x d. absurd d) (Fetch k level index) (f.of_desk.fetch_again k index level h);
     checkpoints = λ k h multiple. checkpoints k h multiple;
-    opened = open_stays c me desk.transfer desk.state.number past e (asks_none bytes me (NewView new) posted.says refl) tt f.of_desk.opened;
-    fetches = quorums_go_on c me s desk.state.number desk.state.number [] (start_due desk new) outputs e (omega arith) (no_root c past bytes me (NewView new) desk.state.number posted.says refl)
+    opened = open_stays c me desk.transfer desk.state.number past e (asks_none bytes me (NewView new) is_outgoing.says refl) tt f.of_desk.opened;
+    fetches = quorums_go_on c me s desk.state.number desk.state.number [] (start_due desk new) outputs e (omega arith) (no_root c past bytes me (NewView new) desk.state.number is_outgoing.says refl)
         (λ k start above. start_due_then c me log past e new f.of_log q t desk f.of_desk.opened k start above) (λ x k. absurd k) f.of_desk.fetches;
     rightly = λ message k. start_rightly c me log past e new f.of_log q t desk f.of_desk.opened f.of_desk.states point refl message k;
   };
   of_log = fits;
-  low = begun_reached c me log past e new f.of_log q t desk f.of_desk.opened f.low next;
-  once = (no_proposal c me past bytes (NewView new) posted.says tt, f.once);
+  low = assigned_reached c me log past e new f.of_log q t desk f.of_desk.opened f.low next;
+  once = (no_proposal c me past bytes (NewView new) is_outgoing.says tt, f.once);
   says = fetch_once me s desk.state new.start (e ∷ outputs) (nat_lt (open_number desk.state.number desk.transfer) new.start) f.says.begins (λ k kept given. older k kept given);
 }
   where
@@ -240,16 +240,16 @@ new_views_fit c me s desk log outputs new bytes none_due none_next primary_is t 
     point = point_of desk f.of_desk.states f.of_desk.ran
 
     q : Still c me past e
-    q = still_brings c me past e me (NewView new) tt posted.says
+    q = still_brings c me past e me (NewView new) tt is_outgoing.says
 
-    fits : FitsLog c me (begun_log log new) (e ∷ past)
+    fits : FitsLog c me (entered_log log new) (e ∷ past)
     fits =
-        begun_fits c me log past e new f.of_log q t
-        (let says : change_sent e ≡ 0 = ap (λ (o : Option Body). option_map_or change_from o 0) posted.says in let most = targets_at_most c past e new t in omega arith) none_due
+        assigned_fits c me log past e new f.of_log q t
+        (let says : change_sent e ≡ 0 = ap (λ (o : Option Body). option_map_or change_from o 0) is_outgoing.says in let most = targets_at_most c past e new t in omega arith) none_due
 
     may : MaySend c me past point e bytes
-    may = signed_may_send c me past point e bytes (NewView new) refl posted seen (primary_is, inl t) leaf
-        (view_is_new c me past point new bytes (steps_leave c me s outputs point f.of_desk.leaves f.of_desk.steps) posted.says t)
+    may = signed_may_send c me past point e bytes (NewView new) refl is_outgoing seen (primary_is, inl t) leaf
+        (view_is_new c me past point new bytes (steps_leave c me s outputs point f.of_desk.leaves f.of_desk.steps) is_outgoing.says t)
 
     next : log.low ≤ desk.state.number → (v : ℕ) (batch : List ℕ) → Committed c me past v (suc desk.state.number) batch → ⊥
     next l v batch k =
@@ -258,7 +258,7 @@ new_views_fit c me s desk log outputs new bytes none_due none_next primary_is t 
 
     older : (k : ℕ) (kept : Kept) → IsSending me (reply_of k kept) e ⊎ SendsMessage me (reply_of k kept) outputs → kept.timestamp ≤ last_time desk.state k
     older k kept (inr given) = f.says.replies k kept (inr given)
-    older k kept (inl now) = absurd (no_reply (NewView new) k kept refl (saying me (NewView new) (reply_of k kept) bytes posted.says now))
+    older k kept (inl now) = absurd (no_reply (NewView new) k kept refl (saying me (NewView new) (reply_of k kept) bytes is_outgoing.says now))
 
     checkpoints : (k : ℕ) → Executes k [] e ⊎ Has (λ x. Executes k [] x) outputs → k % c.period ≡ 0
         → Has (λ st. (st.number ≡ k) × IsOnItsWay me (start_due desk new) (e ∷ outputs) (Checkpoint k (root_of st))) f.of_desk.states
@@ -278,7 +278,7 @@ starts_may_ask c me s desk log due outputs new pages once above f = go desk.tran
     wanted : IsRootWanted c history new.start new.root
     wanted = inr (once_weaker (λ past e. taken c past e ≡ Some new) (StartsAt c new.start new.root) (λ past e h. (new, h, refl, refl)) history once)
 
-    go : (o : Option TransferData) → open_number desk.state.number o < new.start → FitsOpenTransfer c me o desk.state.number history
+    go : (o : Option TransferData) → open_number desk.state.number o < new.start → FitsStateTransfer c me o desk.state.number history
         → TransferMayAsk c me (transfer_to o new.start new.root pages) desk.state.number history × AsksNext c me (transfer_to o new.start new.root pages) desk.state history
     go None l o = let most = o.0 in (start_may_ask c me desk.state.number new.start new.root pages history wanted l o, inl (omega arith))
     go (Some t) l o = let newest = o.0.newest in (move_may_ask c me desk.state.number new.start new.root t history wanted l o, inl (omega arith))

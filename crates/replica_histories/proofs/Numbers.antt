@@ -18,7 +18,7 @@ use Rattle.replica_histories.proofs.NumbersFlags.{left_unnumbered, all_numbered}
 nothing_numbered : (c : Configuration) (me v client timestamp : ℕ) → IsNumbered c me [] v client timestamp → ⊥
 unfolding logged
 nothing_numbered c me v client timestamp (batch, inl (i, there), has) = cc
-nothing_numbered c me v client timestamp (batch, inr begun, has) = begun
+nothing_numbered c me v client timestamp (batch, inr assigned, has) = assigned
 
 pub first_numbers_fit : FirstNumbersFit
 unfolding logged
@@ -69,7 +69,7 @@ next_free c me v used st history i below free =
     (lower_in_marks c (low c me history) (next_number c me history used) i free.in_marks (omega arith) next, omega (arith, next, most))
 
 pub next_is_free : NextIsFree
-next_is_free c me v used begun entries st waiting history f next = record {
+next_is_free c me v used assigned entries st waiting history f next = record {
   in_marks = next.0;
   near = next.1;
   used = λ j above below. f.full j above (omega (arith, above, below));
@@ -79,7 +79,7 @@ next_is_free c me v used begun entries st waiting history f next = record {
 -- ---- all waiting requests have a number
 
 pub numbers_are_assigned : NumbersAreAssigned
-numbers_are_assigned c me v used begun entries st waiting history f all i call has free =
+numbers_are_assigned c me v used assigned entries st waiting history f all i call has free =
     let none = all (next_free c me v used st history i (used_below c me v used st history i f.full free) free) in
     let each = each_mapped (CallHasNumber c me v history) (λ w. w.call) entries (all_numbered (CallHasNumber c me v history) (CallHasNoNumber c me v history) entries none f.rightly) in
     each_has (CallHasNumber c me v history) waiting call (subst (Each (CallHasNumber c me v history)) f.calls each) has

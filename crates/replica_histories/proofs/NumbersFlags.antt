@@ -8,7 +8,7 @@ use Rattle.protocol.specs.System.Trace.{Entry, Has, either}
 use Rattle.protocol.specs.Replica.State.{Call}
 use Rattle.protocol.specs.Replica.Owed.{IsNumbered}
 use Rattle.protocol.proofs.Words.Elements.{has_some, has_of_any, any_of_has, each_has, each_filtered}
-use Rattle.replica_histories.specs.Numbers.{Waiting, BegunCall, calls_of, unnumbered, count_unnumbered, with_numbered, is_begun, IsInNewView, CallHasNumber, CallHasNoNumber, IsRightly}
+use Rattle.replica_histories.specs.Numbers.{Waiting, AssignedCall, calls_of, unnumbered, count_unnumbered, with_numbered, is_assigned, IsInNewView, CallHasNumber, CallHasNoNumber, IsRightly}
 
 -- ---- the one or the other
 
@@ -129,22 +129,22 @@ fewer_unnumbered test (w ∷ ws) = go (test w) (fewer_unnumbered test ws)
 -- ---- the calls of a new view
 
 -- the new view has the call exactly if one of these is that call
-pub begun_is : (begun : List BegunCall) (call : Call) → is_begun begun call ≡ true → IsInNewView begun call.client call.timestamp
-begun_is begun call h = has_of_any (λ b. (b.client ≡ call.client) × (b.timestamp ≡ call.timestamp)) (λ b. (b.client == call.client) && (b.timestamp == call.timestamp)) of begun h
+pub assigned_is : (assigned : List AssignedCall) (call : Call) → is_assigned assigned call ≡ true → IsInNewView assigned call.client call.timestamp
+assigned_is assigned call h = has_of_any (λ b. (b.client ≡ call.client) × (b.timestamp ≡ call.timestamp)) (λ b. (b.client == call.client) && (b.timestamp == call.timestamp)) of assigned h
   where
-    of : (b : BegunCall) → ((b.client == call.client) && (b.timestamp == call.timestamp)) ≡ true → (b.client ≡ call.client) × (b.timestamp ≡ call.timestamp)
+    of : (b : AssignedCall) → ((b.client == call.client) && (b.timestamp == call.timestamp)) ≡ true → (b.client ≡ call.client) × (b.timestamp ≡ call.timestamp)
     of b e = let p = and_parts (b.client == call.client) (b.timestamp == call.timestamp) e in (eqb-true b.client call.client p.0, eqb-true b.timestamp call.timestamp p.1)
 
-pub is_begun_where : (begun : List BegunCall) (call : Call) → IsInNewView begun call.client call.timestamp → is_begun begun call ≡ true
-is_begun_where begun call h = any_of_has (λ b. (b.client ≡ call.client) × (b.timestamp ≡ call.timestamp)) (λ b. (b.client == call.client) && (b.timestamp == call.timestamp)) so begun h
+pub is_assigned_where : (assigned : List AssignedCall) (call : Call) → IsInNewView assigned call.client call.timestamp → is_assigned assigned call ≡ true
+is_assigned_where assigned call h = any_of_has (λ b. (b.client ≡ call.client) × (b.timestamp ≡ call.timestamp)) (λ b. (b.client == call.client) && (b.timestamp == call.timestamp)) so assigned h
   where
-    so : (b : BegunCall) → (b.client ≡ call.client) × (b.timestamp ≡ call.timestamp) → ((b.client == call.client) && (b.timestamp == call.timestamp)) ≡ true
+    so : (b : AssignedCall) → (b.client ≡ call.client) × (b.timestamp ≡ call.timestamp) → ((b.client == call.client) && (b.timestamp == call.timestamp)) ≡ true
     so b at = and_from (b.client == call.client) (b.timestamp == call.timestamp) (eq-eqb b.client call.client at.0) (eq-eqb b.timestamp call.timestamp at.1)
 
 -- and has a number
-pub begun_numbered : (c : Configuration) (me v client timestamp : ℕ) (history : List Entry) (begun : List BegunCall)
-    → Each (λ b. IsNumbered c me history v b.client b.timestamp) begun → IsInNewView begun client timestamp → IsNumbered c me history v client timestamp
-begun_numbered c me v client timestamp history begun each h =
-    let x = has_some (λ (b : BegunCall). (b.client ≡ client) × (b.timestamp ≡ timestamp)) begun h in
+pub assigned_numbered : (c : Configuration) (me v client timestamp : ℕ) (history : List Entry) (assigned : List AssignedCall)
+    → Each (λ b. IsNumbered c me history v b.client b.timestamp) assigned → IsInNewView assigned client timestamp → IsNumbered c me history v client timestamp
+assigned_numbered c me v client timestamp history assigned each h =
+    let x = has_some (λ (b : AssignedCall). (b.client ≡ client) × (b.timestamp ≡ timestamp)) assigned h in
     subst (λ (k : ℕ). IsNumbered c me history v k timestamp) x.2.0 (subst (λ (t : ℕ). IsNumbered c me history v x.0.client t) x.2.1
-    (each_has (λ (b : BegunCall). IsNumbered c me history v b.client b.timestamp) begun x.0 each x.1))
+    (each_has (λ (b : AssignedCall). IsNumbered c me history v b.client b.timestamp) assigned x.0 each x.1))

@@ -10,7 +10,7 @@ use Rattle.wire.proofs.Skipping.{none_chosen}
 use Rattle.protocol.specs.System.Configuration.{Configuration, primary}
 use Rattle.protocol.specs.System.Trace.{Entry, Has}
 use Rattle.protocol.specs.System.Trace.Entry.{Sent}
-use Rattle.protocol.specs.Replica.Certificates.{taken, low, is_in_marks, are_genuine, batch_from, batch_begun, begun_proposal, entry_proposal, proposal, logged}
+use Rattle.protocol.specs.Replica.Certificates.{taken, low, is_in_marks, are_genuine, batch_from, assigned_batch, assigned_proposal, entry_proposal, proposal, logged}
 use Rattle.protocol.specs.Replica.State.{State, Call}
 use Rattle.protocol.specs.Replica.RightReplica.{IsFree}
 use Rattle.protocol.proofs.Agreement.Marks.{low_grows}
@@ -18,7 +18,7 @@ use Rattle.protocol.specs.Replica.Owed.{IsNumbered, HasRequest, AreDifferent, Nu
 use Rattle.protocol.proofs.Words.Options.{some_injective, or_else_second}
 use Rattle.protocol.proofs.Words.Elements.{has_some, has_weaker, has_filter, has_map, has_mapped, each_has, each_weaker}
 use Rattle.protocol.proofs.Words.Pairs.{Pairs, pairs_of, all_pairs}
-use Rattle.replica_histories.specs.Numbers.{Waiting, BegunCall, calls_of, unnumbered, with_numbered, CallIsKnown, IsInNewView, CallHasNumber, CallHasNoNumber, IsRightly, FitsNumbers, AreCalls, NumbersFit}
+use Rattle.replica_histories.specs.Numbers.{Waiting, AssignedCall, calls_of, unnumbered, with_numbered, CallIsKnown, IsInNewView, CallHasNumber, CallHasNoNumber, IsRightly, FitsNumbers, AreCalls, NumbersFit}
 use Rattle.replica_histories.proofs.Words.{given_not}
 use Rattle.replica_histories.proofs.NumbersFlags.{flag_has, has_flag, lacks_flag, rightly_none, calls_numbered, each_numbered}
 use Rattle.replica_histories.proofs.NumbersLists.{each_front, each_back, has_taken, pairs_kept, pairs_mapped, pairs_unmapped, pairs_front, pairs_across, IsAt, Covers, spelled_at, call_spelled, Differ, frames_differ}
@@ -30,19 +30,19 @@ logged_here : (c : Configuration) (me v i : ℕ) (batch bytes : List ℕ) (past 
 unfolding logged
 logged_here c me v i batch bytes past own genuine says free =
     or_else_second (logged c me past v i) (proposal c me past (Sent me bytes) v i) free
-    ∙ or_else_second (begun_proposal c me past (Sent me bytes) v i) (entry_proposal c me past (Sent me bytes) v i) begun
+    ∙ or_else_second (assigned_proposal c me past (Sent me bytes) v i) (entry_proposal c me past (Sent me bytes) v i) assigned
     ∙ ap (option_and_then (batch_from c me v i)) says ∙ proposed
   where
-    begun : begun_proposal c me past (Sent me bytes) v i ≡ None
-    begun = none_chosen (is_in_marks c (low c me (Sent me bytes ∷ past)) i) (option_and_then (batch_begun v i) (taken c past (Sent me bytes)))
-        (ap (option_and_then (batch_begun v i)) (proposal_takes_none c me v i batch bytes past says))
+    assigned : assigned_proposal c me past (Sent me bytes) v i ≡ None
+    assigned = none_chosen (is_in_marks c (low c me (Sent me bytes ∷ past)) i) (option_and_then (assigned_batch v i) (taken c past (Sent me bytes)))
+        (ap (option_and_then (assigned_batch v i)) (proposal_takes_none c me v i batch bytes past says))
 
     proposed : batch_from c me v i (record { sender = me; message = PrePrepare v i batch }) ≡ Some batch
     proposed = rw (eq-eqb v v refl, eq-eqb i i refl, eq-eqb me (primary c v) (sym own), genuine) refl
 
-module _ (c : Configuration) (me v used i most : ℕ) (begun : List BegunCall) (entries : List Waiting) (st : State) (waiting : List Call) (batch bytes : List ℕ) (past : List Entry)
+module _ (c : Configuration) (me v used i most : ℕ) (assigned : List AssignedCall) (entries : List Waiting) (st : State) (waiting : List Call) (batch bytes : List ℕ) (past : List Entry)
     (own : primary c v ≡ me) (next : IsFree c me past st.number v i) (genuine : are_genuine c me batch ≡ true) (spells : AreCalls c (requests_of batch) (calls_of (take most (unnumbered entries))))
-    (says : said bytes ≡ Some (record { sender = me; message = PrePrepare v i batch })) (f : FitsNumbers c me v used begun entries st waiting past) where
+    (says : said bytes ≡ Some (record { sender = me; message = PrePrepare v i batch })) (f : FitsNumbers c me v used assigned entries st waiting past) where
   abbrev oldest : List Waiting
   oldest = take most (unnumbered entries)
 
@@ -137,7 +137,7 @@ module _ (c : Configuration) (me v used i most : ℕ) (begun : List BegunCall) (
       old : (w : Waiting) → w.numbered ≡ true → IsRightly c me v past w → IsRightly c me v now w
       old w e was = has_flag c me v now w e (stays w.call.client w.call.timestamp (flag_has c me v past w e was))
 
-  known : (client timestamp : ℕ) → Has (IsAt client timestamp) calls ⊎ IsNumbered c me past v client timestamp → CallIsKnown st waiting client timestamp ⊎ IsInNewView begun client timestamp
+  known : (client timestamp : ℕ) → Has (IsAt client timestamp) calls ⊎ IsNumbered c me past v client timestamp → CallIsKnown st waiting client timestamp ⊎ IsInNewView assigned client timestamp
   known client timestamp (inr was) = f.known client timestamp was
   known client timestamp (inl new) = inl (inr (subst (Has (Covers client timestamp)) f.calls (has_mapped (Covers client timestamp) (λ (w : Waiting). w.call) entries
       (has_filter (λ (w : Waiting). Covers client timestamp w.call) (λ w. not w.numbered) entries (has_taken (λ (w : Waiting). Covers client timestamp w.call) most (unnumbered entries)
@@ -155,7 +155,7 @@ module _ (c : Configuration) (me v used i most : ℕ) (begun : List BegunCall) (
           let other = eqb-false j i e in
           ap is_some (elsewhere j other) ∙ next.used j (omega (arith, over, more)) (omega (arith, upto, other))
 
-  pub given : NumbersOnce c me past (Sent me bytes) × FitsNumbers c me v i begun (with_numbered most entries) st waiting now
+  pub given : NumbersOnce c me past (Sent me bytes) × FitsNumbers c me v i assigned (with_numbered most entries) st waiting now
   given = (
     once,
     record {
@@ -163,11 +163,11 @@ module _ (c : Configuration) (me v used i most : ℕ) (begun : List BegunCall) (
       free = λ j higher. elsewhere j (λ e. absurd (omega (arith, e, higher))) ∙ next.unused j (omega (arith, higher));
       full = full;
       rightly = rightly;
-      numbered = each_weaker (λ b. IsNumbered c me past v b.client b.timestamp) (λ b. IsNumbered c me now v b.client b.timestamp) (λ b. stays b.client b.timestamp) begun f.numbered;
+      numbered = each_weaker (λ b. IsNumbered c me past v b.client b.timestamp) (λ b. IsNumbered c me now v b.client b.timestamp) (λ b. stays b.client b.timestamp) assigned f.numbered;
       known = λ client timestamp h. known client timestamp (numbered_back client timestamp h);
       differ = f.differ;
     },
   )
 
 pub numbers_fit : NumbersFit
-numbers_fit c me v used i most begun entries st waiting batch bytes past own next genuine spells says f = given c me v used i most begun entries st waiting batch bytes past own next genuine spells says f
+numbers_fit c me v used i most assigned entries st waiting batch bytes past own next genuine spells says f = given c me v used i most assigned entries st waiting batch bytes past own next genuine spells says f

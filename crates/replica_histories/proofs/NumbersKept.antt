@@ -9,7 +9,7 @@ use Rattle.wire.proofs.Skipping.{none_chosen}
 use Rattle.protocol.specs.System.Configuration.{Configuration, primary}
 use Rattle.protocol.specs.System.Trace.{Entry, party_of}
 use Rattle.protocol.specs.System.Trace.Entry.{Got, Sent}
-use Rattle.protocol.specs.Replica.Certificates.{brought, taken, low, is_in_marks, counts_at, batch_from, batch_begun, begun_proposal, entry_proposal, proposal, logged}
+use Rattle.protocol.specs.Replica.Certificates.{brought, taken, low, is_in_marks, counts_at, batch_from, assigned_batch, assigned_proposal, entry_proposal, proposal, logged}
 use Rattle.protocol.specs.Replica.Owed.{IsNumbered}
 use Rattle.protocol.proofs.Words.Options.{and_then_some, some_injective, or_else_second}
 use Rattle.protocol.proofs.Words.Plain.{said_plain, taken_none}
@@ -27,8 +27,8 @@ use Rattle.replica_histories.proofs.NumbersFlags.{either_weaker}
 pub proposal_said : (c : Configuration) (me v i : ℕ) (batch : List ℕ) (past : List Entry) (e : Entry) → taken c past e ≡ None → proposal c me past e v i ≡ Some batch
     → (body : Body) × (brought c e ≡ Some body) × (body.message ≡ PrePrepare v i batch) × (body.sender ≡ primary c v)
 proposal_said c me v i batch past e none h =
-    let begun = none_chosen (is_in_marks c (low c me (e ∷ past)) i) (option_and_then (batch_begun v i) (taken c past e)) (ap (option_and_then (batch_begun v i)) none) in
-    let entry : entry_proposal c me past e v i ≡ Some batch = sym (or_else_second (begun_proposal c me past e v i) (entry_proposal c me past e v i) begun) ∙ h in
+    let assigned = none_chosen (is_in_marks c (low c me (e ∷ past)) i) (option_and_then (assigned_batch v i) (taken c past e)) (ap (option_and_then (assigned_batch v i)) none) in
+    let entry : entry_proposal c me past e v i ≡ Some batch = sym (or_else_second (assigned_proposal c me past e v i) (entry_proposal c me past e v i) assigned) ∙ h in
     let p = passed (counts_at c me past e v i) (option_and_then (batch_from c me v i) (brought c e)) batch entry in
     let b = and_then_some (batch_from c me v i) (brought c e) batch p.1 in
     let s = batch_is c me v i batch b.0.sender b.0.message b.2 in
@@ -50,7 +50,7 @@ logged_same c me v i past e none = go (logged c me past v i) (proposal c me past
 -- a number stays
 pub numbered_stays : (c : Configuration) (me v client timestamp : ℕ) (past : List Entry) (e : Entry) → IsNumbered c me past v client timestamp → IsNumbered c me (e ∷ past) v client timestamp
 numbered_stays c me v client timestamp past e (batch, inl (i, there), has) = (batch, inl (i, logged_stays c me v i batch e past there), has)
-numbered_stays c me v client timestamp past e (batch, inr begun, has) = (batch, inr (inr begun), has)
+numbered_stays c me v client timestamp past e (batch, inr assigned, has) = (batch, inr (inr assigned), has)
 
 pub keeps : (c : Configuration) (me v : ℕ) (past : List Entry) (e : Entry) → taken c past e ≡ None → ((i : ℕ) → logged c me (e ∷ past) v i ≡ logged c me past v i) → KeepsNumbers c me v past e
 keeps c me v past e none same = record { batches = same; numbered = λ client timestamp. (back client timestamp, numbered_stays c me v client timestamp past e) }
@@ -61,13 +61,13 @@ keeps c me v past e none same = record { batches = same; numbered = λ client ti
     back client timestamp (batch, inr (inr before), has) = (batch, inr before, has)
 
 pub numbers_stay : NumbersStay
-numbers_stay c me v used begun entries st waiting past e k f = record {
+numbers_stay c me v used assigned entries st waiting past e k f = record {
   calls = f.calls;
   free = λ j above. k.batches j ∙ f.free j above;
   full = λ j above below. let more = low_grows c me e past in ap is_some (k.batches j) ∙ f.full j (omega (arith, above, more)) below;
   rightly = each_weaker (IsRightly c me v past) (IsRightly c me v (e ∷ past))
       (λ w. either_weaker w.numbered (k.numbered w.call.client w.call.timestamp).1 (λ none h. none ((k.numbered w.call.client w.call.timestamp).0 h))) entries f.rightly;
-  numbered = each_weaker (λ b. IsNumbered c me past v b.client b.timestamp) (λ b. IsNumbered c me (e ∷ past) v b.client b.timestamp) (λ b. (k.numbered b.client b.timestamp).1) begun f.numbered;
+  numbered = each_weaker (λ b. IsNumbered c me past v b.client b.timestamp) (λ b. IsNumbered c me (e ∷ past) v b.client b.timestamp) (λ b. (k.numbered b.client b.timestamp).1) assigned f.numbered;
   known = λ client timestamp h. f.known client timestamp ((k.numbered client timestamp).0 h);
   differ = f.differ;
 }

@@ -16,9 +16,9 @@ use Rattle.protocol.specs.Replica.RightReplica.{is_newer, with_waiting, still_wa
 use Rattle.protocol.proofs.Words.Leaving.{last_put}
 use Rattle.protocol.proofs.Words.Elements.{has_some, has_weaker, has_left, has_right, has_filtered, each_has, each_with, each_filtered, each_of_all, each_where}
 use Rattle.protocol.proofs.Words.Pairs.{pairs_of, all_pairs}
-use Rattle.replica_histories.specs.Numbers.{Waiting, BegunCall, calls_of, is_begun, arrived, CallIsKnown, IsInNewView, CallHasNumber, CallHasNoNumber, IsRightly, FitsNumbers, entries_with, RequestsFit, InputsKeepNumbers, NoneFalls, StatesFit, ExecutionsRaise, StatesLeaveNoMore}
+use Rattle.replica_histories.specs.Numbers.{Waiting, AssignedCall, calls_of, is_assigned, arrived, CallIsKnown, IsInNewView, CallHasNumber, CallHasNoNumber, IsRightly, FitsNumbers, entries_with, RequestsFit, InputsKeepNumbers, NoneFalls, StatesFit, ExecutionsRaise, StatesLeaveNoMore}
 use Rattle.replica_histories.proofs.Words.{apart}
-use Rattle.replica_histories.proofs.NumbersFlags.{begun_is, is_begun_where, begun_numbered, fewer_unnumbered}
+use Rattle.replica_histories.proofs.NumbersFlags.{assigned_is, is_assigned_where, assigned_numbered, fewer_unnumbered}
 use Rattle.replica_histories.proofs.NumbersLists.{mapped_kept, pairs_with, Differ, Covers}
 
 -- if one reason implies another, a call known for either stays known
@@ -28,8 +28,8 @@ either_known (inr h) f = inr h
 
 -- ---- a newer request
 
-module _ (c : Configuration) (me v used : ℕ) (begun : List BegunCall) (entries : List Waiting) (st : State) (history : List Entry) (call : Call)
-    (f : FitsNumbers c me v used begun entries st (calls_of entries) history)
+module _ (c : Configuration) (me v used : ℕ) (assigned : List AssignedCall) (entries : List Waiting) (st : State) (history : List Entry) (call : Call)
+    (f : FitsNumbers c me v used assigned entries st (calls_of entries) history)
     (unseen : last_time st call.client < call.timestamp) (newer : list_all (is_newer call) (calls_of entries) ≡ true) where
   abbrev all_calls : List Call
   all_calls = calls_of entries
@@ -56,19 +56,19 @@ module _ (c : Configuration) (me v used : ℕ) (begun : List BegunCall) (entries
       let above = x.2.1 in
       omega (arith, below, above)
 
-  fresh : CallHasNumber c me v history call → is_begun begun call ≡ true
+  fresh : CallHasNumber c me v history call → is_assigned assigned call ≡ true
   fresh h = go (f.known call.client call.timestamp h)
     where
-      go : CallIsKnown st all_calls call.client call.timestamp ⊎ IsInNewView begun call.client call.timestamp → is_begun begun call ≡ true
+      go : CallIsKnown st all_calls call.client call.timestamp ⊎ IsInNewView assigned call.client call.timestamp → is_assigned assigned call ≡ true
       go (inl k) = absurd (unknown k)
-      go (inr b) = is_begun_where begun call b
+      go (inr b) = is_assigned_where assigned call b
 
-  rightly : IsRightly c me v history (arrived begun call)
-  rightly = go (is_begun begun call) refl
+  rightly : IsRightly c me v history (arrived assigned call)
+  rightly = go (is_assigned assigned call) refl
     where
-      go : (b : Bool) → is_begun begun call ≡ b → either b (CallHasNumber c me v history call) (CallHasNoNumber c me v history call)
-      go true e = begun_numbered c me v call.client call.timestamp history begun f.numbered (begun_is begun call e)
-      go false e = λ h. apart (is_begun begun call) (fresh h) e
+      go : (b : Bool) → is_assigned assigned call ≡ b → either b (CallHasNumber c me v history call) (CallHasNoNumber c me v history call)
+      go true e = assigned_numbered c me v call.client call.timestamp history assigned f.numbered (assigned_is assigned call e)
+      go false e = λ h. apart (is_assigned assigned call) (fresh h) e
 
   -- known calls stay known
   known_on : (client timestamp : ℕ) → CallIsKnown st all_calls client timestamp → CallIsKnown st (filter is_other all_calls ++ call ∷ []) client timestamp
@@ -85,13 +85,13 @@ module _ (c : Configuration) (me v used : ℕ) (begun : List BegunCall) (entries
       go false e = has_left (Covers client timestamp) (filter is_other all_calls) (call ∷ [])
           (has_filtered (Covers client timestamp) is_other (λ x at. ap (λ (k : ℕ). not (k == call.client)) at.0 ∙ ap not e) all_calls waits)
 
-  pub request_waits : FitsNumbers c me v used begun (filter (λ w. is_other w.call) entries ++ arrived begun call ∷ []) st (filter is_other all_calls ++ call ∷ []) history
+  pub request_waits : FitsNumbers c me v used assigned (filter (λ w. is_other w.call) entries ++ arrived assigned call ∷ []) st (filter is_other all_calls ++ call ∷ []) history
   request_waits = record {
-    calls = map-append (λ (w : Waiting). w.call) (filter (λ w. is_other w.call) entries) (arrived begun call ∷ [])
+    calls = map-append (λ (w : Waiting). w.call) (filter (λ w. is_other w.call) entries) (arrived assigned call ∷ [])
         ∙ ap (λ (calls : List Call). calls ++ call ∷ []) (mapped_kept (λ (w : Waiting). w.call) is_other entries);
     free = f.free;
     full = f.full;
-    rightly = each_with (IsRightly c me v history) (filter (λ w. is_other w.call) entries) (arrived begun call)
+    rightly = each_with (IsRightly c me v history) (filter (λ w. is_other w.call) entries) (arrived assigned call)
         (each_filtered (IsRightly c me v history) (IsRightly c me v history) (λ w. is_other w.call) (λ w e h. h) entries f.rightly) rightly;
     numbered = f.numbered;
     known = λ client timestamp h. either_known (f.known client timestamp h) (known_on client timestamp);
@@ -103,30 +103,30 @@ module _ (c : Configuration) (me v used : ℕ) (begun : List BegunCall) (entries
   }
 
 -- if the calls are those of the waiting requests
-arrives : (c : Configuration) (me v used : ℕ) (begun : List BegunCall) (entries : List Waiting) (st : State) (history : List Entry) (call : Call)
-    → FitsNumbers c me v used begun entries st (calls_of entries) history
-    → FitsNumbers c me v used begun (entries_with begun st entries call) st (with_waiting st (calls_of entries) call) history
-arrives c me v used begun entries st history call f = go (nat_lt (last_time st call.client) call.timestamp && list_all (is_newer call) (calls_of entries)) refl
+arrives : (c : Configuration) (me v used : ℕ) (assigned : List AssignedCall) (entries : List Waiting) (st : State) (history : List Entry) (call : Call)
+    → FitsNumbers c me v used assigned entries st (calls_of entries) history
+    → FitsNumbers c me v used assigned (entries_with assigned st entries call) st (with_waiting st (calls_of entries) call) history
+arrives c me v used assigned entries st history call f = go (nat_lt (last_time st call.client) call.timestamp && list_all (is_newer call) (calls_of entries)) refl
   where
     go : (b : Bool) → (nat_lt (last_time st call.client) call.timestamp && list_all (is_newer call) (calls_of entries)) ≡ b
-        → FitsNumbers c me v used begun (cond b (filter (λ w. not (w.call.client == call.client)) entries ++ arrived begun call ∷ []) entries) st
+        → FitsNumbers c me v used assigned (cond b (filter (λ w. not (w.call.client == call.client)) entries ++ arrived assigned call ∷ []) entries) st
         (cond b (filter (λ other. not (other.client == call.client)) (calls_of entries) ++ call ∷ []) (calls_of entries)) history
     go true e =
         let p = and_parts (nat_lt (last_time st call.client) call.timestamp) (list_all (is_newer call) (calls_of entries)) e in
-        request_waits c me v used begun entries st history call f (ltb-true (last_time st call.client) call.timestamp p.0) p.1
+        request_waits c me v used assigned entries st history call f (ltb-true (last_time st call.client) call.timestamp p.0) p.1
     go false e = f
 
 pub requests_fit : RequestsFit
-requests_fit c me v used begun entries st waiting history call f =
-    subst (λ (calls : List Call). FitsNumbers c me v used begun entries st calls history → FitsNumbers c me v used begun (entries_with begun st entries call) st (with_waiting st calls call) history) f.calls
-    (arrives c me v used begun entries st history call) f
+requests_fit c me v used assigned entries st waiting history call f =
+    subst (λ (calls : List Call). FitsNumbers c me v used assigned entries st calls history → FitsNumbers c me v used assigned (entries_with assigned st entries call) st (with_waiting st calls call) history) f.calls
+    (arrives c me v used assigned entries st history call) f
 
 pub inputs_keep_numbers : InputsKeepNumbers
-inputs_keep_numbers c me v used begun entries point history bytes f = go (option_and_then (call_in c) (authentic (members c) me bytes))
+inputs_keep_numbers c me v used assigned entries point history bytes f = go (option_and_then (call_in c) (authentic (members c) me bytes))
   where
-    go : (o : Option Call) → FitsNumbers c me v used begun (option_map_or (entries_with begun point.state entries) o entries) point.state (option_map_or (with_waiting point.state point.waiting) o point.waiting) history
+    go : (o : Option Call) → FitsNumbers c me v used assigned (option_map_or (entries_with assigned point.state entries) o entries) point.state (option_map_or (with_waiting point.state point.waiting) o point.waiting) history
     go None = f
-    go (Some call) = requests_fit c me v used begun entries point.state point.waiting history call f
+    go (Some call) = requests_fit c me v used assigned entries point.state point.waiting history call f
 
 -- ---- another state
 
@@ -150,7 +150,7 @@ known_behind old new waiting client timestamp grows (inr waits) =
         inl (omega (arith, late, here))
 
 pub states_fit : StatesFit
-states_fit c me v used begun entries old new waiting history grows f = record {
+states_fit c me v used assigned entries old new waiting history grows f = record {
   calls = mapped_kept (λ (w : Waiting). w.call) (waits_on new) entries ∙ ap (still_waiting new) f.calls;
   free = f.free;
   full = f.full;

@@ -26,7 +26,7 @@ use Rattle.replica_histories.specs.Desk.{Desk}
 use Rattle.replica_histories.specs.Events.{BothFitBetweenEvents}
 use Rattle.replica_histories.specs.Fetching.{IsOther, OtherDigestsOweNone, OtherPagesOweNone, FetchesSuffice, FetchedSuffice}
 use Rattle.replica_histories.specs.Questions.{is_part, AnswersInput, OwesReadReply, AnswersWaiting, OwesViewChange}
-use Rattle.replica_histories.specs.Transfers.{FitsTransfer, FitsOpenTransfer, RestsOnState}
+use Rattle.replica_histories.specs.Transfers.{FitsTransfer, FitsStateTransfer, RestsOnState}
 use Rattle.replica_histories.specs.TransfersAnswers.{AnswersFetches}
 use Rattle.replica_histories.proofs.Questions.{parts_ask_nothing}
 use Rattle.replica_histories.proofs.Transfers.{wanted_by_history}
@@ -101,12 +101,12 @@ module _ (c : Configuration) (me : ℕ) (desk : Desk) (log : LogData) (past : Li
   state_is = ap (λ (p : Point). p.state) held.of_desk.is
 
   opened : (t : TransferData) → desk.transfer ≡ Some t → FitsTransfer c me t past
-  opened t there = (subst (λ (o : Option TransferData). FitsOpenTransfer c me o desk.state.number past) there held.of_desk.opened).0
+  opened t there = (subst (λ (o : Option TransferData). FitsStateTransfer c me o desk.state.number past) there held.of_desk.opened).0
 
   -- if no transfer is open, nothing above the executed number was asked for
   none_open : desk.transfer ≡ None → (n : ℕ) (place : Level × ℕ) → asked_last past ≡ Some (n, place) → point.state.number < n → ⊥
   none_open none n place asked above =
-      let most = (subst (λ (o : Option TransferData). FitsOpenTransfer c me o desk.state.number past) none held.of_desk.opened).0 in
+      let most = (subst (λ (o : Option TransferData). FitsStateTransfer c me o desk.state.number past) none held.of_desk.opened).0 in
       let least = asked_at_most past n place asked in
       let same = ap (λ (st : State). st.number) state_is in
       absurd (omega (arith, most, least, same, above))

@@ -6,7 +6,7 @@ use Rattle.std.proofs.lemmas.Bool.{and_parts, and_from, or_cases, or_left, leb-t
 use Rattle.std.proofs.lemmas.Slice.Eq.{bytes_eq-Decides}
 use Rattle.sha2.specs.Sha256.{sha256}
 use Rattle.wire_format.specs.Lists.{Each}
-use Rattle.wire_format.specs.Messages.{BodyData as Body, MessageData as Message, ViewChangeData, NewViewData, BatchEntryData as Claim, view_change as ViewChange}
+use Rattle.wire_format.specs.Messages.{BodyData as Body, MessageData as Message, ViewChangeData, NewViewData, BatchEntryData as PqEntry, view_change as ViewChange}
 use Rattle.ordering.specs.Log as logs
 use Rattle.ordering.specs.Log.{LogData}
 use Rattle.protocol.specs.System.Configuration.{Configuration, primary}
@@ -19,26 +19,26 @@ use Rattle.protocol.specs.Replica.Owed.{IsSending, AreKeysSpent, HasLatestChange
 use Rattle.protocol.proofs.Words.Options.{some_injective}
 use Rattle.protocol.proofs.Words.Elements.{has_weaker, has_some, has_map, has_mapped, each_weaker, each_of_all}
 use Rattle.protocol.proofs.Words.Temporal.{once_weaker}
-use Rattle.claims.specs.ClaimsView.{ClaimsData, digests_of}
+use Rattle.pq_sets.specs.PqSetsView.{PqSetsData, digests_of}
 use Rattle.view_change.specs.ReceivedData.{HeldData, held_of, held_for, pairs_for}
 use Rattle.view_change.specs.Selecting.{are_for, is_set_for, how_many_from, meets, IsPartOfSet, IsAvailable, AreFrom}
 use Rattle.view_change.proofs.Larger.{selects_by_set}
 use Rattle.replica_histories.specs.Logs.{FitsLog}
 use Rattle.replica_histories.specs.Changes.{Changes, FitsChanges}
-use Rattle.replica_histories.specs.Primaries.{IsClaimed, SelectsNothing, ClaimedSelectNothing, FewerSelectNothing, NoViewsAreLeft}
+use Rattle.replica_histories.specs.Primaries.{IsNullOrInQ, SelectsNothing, QSelectsNothing, FewerSelectNothing, NoViewsAreLeft}
 use Rattle.replica_histories.proofs.Leaves.{all_are_spent}
 use Rattle.replica_histories.proofs.SentOnce.{sends_says}
 use Rattle.replica_histories.proofs.Words.{primary_same}
 
 -- ---- one batch of each digest is enough
 
-module _ (c : Configuration) (view : ℕ) (claims : ClaimsData) (named : map sha256 claims.texts ≡ digests_of claims.logged) where
-  -- there is a text of each claimed digest
-  text_of : (digest : List ℕ) → Has (λ claim. claim.digest ≡ digest) claims.logged → (text : List ℕ) × Has (λ x. x ≡ text) claims.texts × (sha256 text ≡ digest)
+module _ (c : Configuration) (view : ℕ) (pq_sets : PqSetsData) (named : map sha256 pq_sets.texts ≡ digests_of pq_sets.logged) where
+  -- there is a text of each digest in Q
+  text_of : (digest : List ℕ) → Has (λ pq_entry. pq_entry.digest ≡ digest) pq_sets.logged → (text : List ℕ) × Has (λ x. x ≡ text) pq_sets.texts × (sha256 text ≡ digest)
   text_of digest has =
-      has_some (λ x. sha256 x ≡ digest) claims.texts
-      (has_map (λ d. d ≡ digest) sha256 claims.texts
-      (subst (λ (ds : List (List ℕ)). Has (λ d. d ≡ digest) ds) (sym named) (has_mapped (λ d. d ≡ digest) (λ (claim : Claim). claim.digest) claims.logged has)))
+      has_some (λ x. sha256 x ≡ digest) pq_sets.texts
+      (has_map (λ d. d ≡ digest) sha256 pq_sets.texts
+      (subst (λ (ds : List (List ℕ)). Has (λ d. d ≡ digest) ds) (sym named) (has_mapped (λ d. d ≡ digest) (λ (pq_entry : PqEntry). pq_entry.digest) pq_sets.logged has)))
 
   abbrev Stands : List (ℕ × ViewChangeData) → ℕ → List ℕ → Type 0
   Stands set number batch = may_stand c view set number batch ≡ true
@@ -46,16 +46,16 @@ module _ (c : Configuration) (view : ℕ) (claims : ClaimsData) (named : map sha
   -- it may stand wherever the batch may
   record Other (batch : List ℕ) : Type 0 where
     text : List ℕ
-    from : IsAvailable claims.texts text
+    from : IsAvailable pq_sets.texts text
     stands : (set : List (ℕ × ViewChangeData)) (number : ℕ) → Stands set number batch → Stands set number text
 
-  other_of : (batch : List ℕ) → IsClaimed claims batch → Other batch
+  other_of : (batch : List ℕ) → IsNullOrInQ pq_sets batch → Other batch
   other_of batch is = go (is_null batch) refl is
     where
       null_is : is_null batch ≡ true → null_batch ≡ batch
       null_is h = sym ((bytes_eq-Decides batch null_batch).0 h)
 
-      go : (b : Bool) → is_null batch ≡ b → IsClaimed claims batch → Other batch
+      go : (b : Bool) → is_null batch ≡ b → IsNullOrInQ pq_sets batch → Other batch
       go true h k = record { text = batch; from = inl (null_is h); stands = λ set number s. s }
       go false h (inl k) = absurd (let bad : true ≡ false = sym ((bytes_eq-Decides batch null_batch).1 k) ∙ h in cc)
       go false h (inr k) =
@@ -71,11 +71,11 @@ module _ (c : Configuration) (view : ℕ) (claims : ClaimsData) (named : map sha
 
   record Others (batches : List (List ℕ)) : Type 0 where
     texts : List (List ℕ)
-    from : AreFrom claims.texts texts
+    from : AreFrom pq_sets.texts texts
     long : length texts ≡ length batches
     stand : (set : List (ℕ × ViewChangeData)) (number : ℕ) → may_all_stand c view set number batches ≡ true → may_all_stand c view set number texts ≡ true
 
-  others_of : (batches : List (List ℕ)) → Each (IsClaimed claims) batches → Others batches
+  others_of : (batches : List (List ℕ)) → Each (IsNullOrInQ pq_sets) batches → Others batches
   others_of [] each = record { texts = []; from = tt; long = refl; stand = λ set number h. refl }
   others_of (batch ∷ batches) each =
       let one = other_of batch each.0 in
@@ -97,26 +97,26 @@ module _ (c : Configuration) (view : ℕ) (claims : ClaimsData) (named : map sha
       (and_from (is_start c set start root) (length o.texts == how_many_from c set start) q.0 (ap (λ (n : ℕ). n == how_many_from c set start) o.long ∙ q.1))
       (o.stand set (suc start) p.1)
 
-pub claimed_select_nothing : ClaimedSelectNothing
-claimed_select_nothing c view held claims named nothing part start root batches is order each = go (meets c view part start root batches) refl
+pub q_selects_nothing : QSelectsNothing
+q_selects_nothing c view held pq_sets named nothing part start root batches is order each = go (meets c view part start root batches) refl
   where
     go : (b : Bool) → meets c view part start root batches ≡ b → b ≡ false
     go false h = refl
     go true h =
-        let o = others_of c view claims named batches each in
-        let yes = met c view claims named part start root batches o h in
+        let o = others_of c view pq_sets named batches each in
+        let yes = met c view pq_sets named part start root batches o h in
         let no = nothing part start root o.texts is order o.from in
         absurd (let bad : true ≡ false = sym yes ∙ no in cc)
 
 pub fewer_select_nothing : FewerSelectNothing
 fewer_select_nothing c view held old new fewer nothing part start root batches is order each =
-    nothing part start root batches is order (each_weaker (IsClaimed new) (IsClaimed old) (λ batch k. was batch k) batches each)
+    nothing part start root batches is order (each_weaker (IsNullOrInQ new) (IsNullOrInQ old) (λ batch k. was batch k) batches each)
   where
-    was : (batch : List ℕ) → IsClaimed new batch → IsClaimed old batch
+    was : (batch : List ℕ) → IsNullOrInQ new batch → IsNullOrInQ old batch
     was batch (inl k) = inl k
     was batch (inr k) =
-        let it = has_some (λ claim. claim.digest ≡ sha256 batch) new.logged k in
-        inr (has_weaker (λ x. x ≡ it.0) (λ claim. claim.digest ≡ sha256 batch) (λ x same. ap (λ (claim : Claim). claim.digest) same ∙ it.2) old.logged (fewer it.0 it.1))
+        let it = has_some (λ pq_entry. pq_entry.digest ≡ sha256 batch) new.logged k in
+        inr (has_weaker (λ x. x ≡ it.0) (λ pq_entry. pq_entry.digest ≡ sha256 batch) (λ x same. ap (λ (pq_entry : PqEntry). pq_entry.digest) same ∙ it.2) old.logged (fewer it.0 it.1))
 
 -- ---- the replica has one view change of its own
 
@@ -229,7 +229,7 @@ module _ (c : Configuration) (me : ℕ) (log : LogData) (x : Changes) (history :
       (held_pair x.target x.held y.0 h.0 h.1 (ap (λ (vc : ViewChangeData). vc.view) h.2 ∙ for_view ∙ view_is))
   held_there y (inr (mine, once, at)) for_view =
       let o = f.own_change inactive in
-      let same : o.own.change ≡ y.1 = one_change c me o.own.change y.1 history point leaves (once_weaker (SendsBytes o.own.frame) (Says me o.own.change) (λ past e sends. sends_says me (ViewChange o.own.change) o.own.frame past e o.posted.says sends) history o.sent) once (f.target ∙ sym o.view) at in
+      let same : o.own.change ≡ y.1 = one_change c me o.own.change y.1 history point leaves (once_weaker (SendsBytes o.own.frame) (Says me o.own.change) (λ past e sends. sends_says me (ViewChange o.own.change) o.own.frame past e o.is_outgoing.says sends) history o.sent) once (f.target ∙ sym o.view) at in
       subst (λ (p : ℕ × ViewChangeData). Has (λ z. z ≡ p) (pairs_for x.target x.held))
       (ap₂ (λ (s : ℕ) (vc : ViewChangeData). (s, vc)) (f.received.placed me o.own o.held ∙ sym mine) same)
       (held_pair x.target x.held me o.own o.held o.view)
@@ -249,21 +249,21 @@ module _ (c : Configuration) (me : ℕ) (log : LogData) (x : Changes) (history :
       (and_parts (is_quorum c (count_in c (λ vc. true) (changes_of c new))) (ascending (changes_of c new))
       (and_parts (is_quorum c (count_in c (λ vc. true) (changes_of c new)) && ascending (changes_of c new)) (are_for new.view (changes_of c new) c) rules.0).0).1
 
-  -- its batches are claimed
-  claimed : Each (IsClaimed x.claims) new.batches
-  claimed = each_weaker (HasBatch c me history) (IsClaimed x.claims) one new.batches can.batches
+  -- its batches are in Q
+  in_q : Each (IsNullOrInQ x.pq_sets) new.batches
+  in_q = each_weaker (HasBatch c me history) (IsNullOrInQ x.pq_sets) one new.batches can.batches
     where
-      one : (batch : List ℕ) → HasBatch c me history batch → IsClaimed x.claims batch
+      one : (batch : List ℕ) → HasBatch c me history batch → IsNullOrInQ x.pq_sets batch
       one batch (inl null) = inl null
       one batch (inr (v, i, here, within)) =
-          inr (has_weaker (λ z. (z.number ≡ i) × (z.digest ≡ sha256 batch) × (v ≤ z.view)) (λ z. z.digest ≡ sha256 batch) (λ z h. h.1) x.claims.logged (f.claims.logged.all v i (sha256 batch) within (batch, here, refl)))
+          inr (has_weaker (λ z. (z.number ≡ i) × (z.digest ≡ sha256 batch) × (v ≤ z.view)) (λ z. z.digest ≡ sha256 batch) (λ z h. h.1) x.pq_sets.logged (f.pq_sets.logged.all v i (sha256 batch) within (batch, here, refl)))
 
 pub no_views_are_left : NoViewsAreLeft
 no_views_are_left c me log x history point leaves fits f none new can = go (none (inactive c me log x history point leaves fits f new can) (own c me log x history point leaves fits f new can))
   where
-    go : SelectsNothing c x.target x.held x.claims ⊎ (x.spent ≡ 64) → AreKeysSpent history
+    go : SelectsNothing c x.target x.held x.pq_sets ⊎ (x.spent ≡ 64) → AreKeysSpent history
     go (inl nothing) =
-        let no = nothing (changes_of c new) new.start new.root new.batches (part c me log x history point leaves fits f new can) (order c me log x history point leaves fits f new can) (claimed c me log x history point leaves fits f new can) in
+        let no = nothing (changes_of c new) new.start new.root new.batches (part c me log x history point leaves fits f new can) (order c me log x history point leaves fits f new can) (in_q c me log x history point leaves fits f new can) in
         let yes = (rules c me log x history point leaves fits f new can).1 in
         absurd (let bad : true ≡ false = sym (subst (λ (v : ℕ). meets c v (changes_of c new) new.start new.root new.batches ≡ true) (view_is c me log x history point leaves fits f new can) yes) ∙ no in cc)
     go (inr spent) = all_are_spent c me log x history spent f

@@ -9,7 +9,7 @@ use Rattle.protocol.specs.System.Configuration.{Configuration}
 use Rattle.protocol.specs.System.Trace.{Entry, Has}
 use Rattle.protocol.specs.Replica.Owed.{IsSending}
 use Rattle.state_transfer.specs.Transfer.{TransferData}
-use Rattle.replica_histories.specs.Transfers.{TransferMayAsk, FitsOpenTransfer, open_number}
+use Rattle.replica_histories.specs.Transfers.{TransferMayAsk, FitsStateTransfer, open_number}
 use Rattle.replica_histories.specs.Events.{IsFetchedOrDue, LowMarkIsReached}
 use Rattle.replica_histories.proofs.Words.{below_marks}
 use Rattle.replica_histories.proofs.Certified.{Same, committed_back}
@@ -43,7 +43,7 @@ pub reached_goes : (c : Configuration) (me number : ℕ) (due rest : List Messag
 reached_goes c me number due rest log past e r paid h = reached_by c me log.low number due rest past e (λ v below. same_elsewhere c me log past e v (suc number) r (inr (below_marks log (suc number) below))) paid h
 
 -- if no message is due, the open transfer is not below it
-pub reached_open : (c : Configuration) (me mark number : ℕ) (open_one : Option TransferData) (history : List Entry) → LowMarkIsReached c me mark number [] history → FitsOpenTransfer c me open_one number history → mark ≤ open_number number open_one
+pub reached_open : (c : Configuration) (me mark number : ℕ) (open_one : Option TransferData) (history : List Entry) → LowMarkIsReached c me mark number [] history → FitsStateTransfer c me open_one number history → mark ≤ open_number number open_one
 reached_open c me mark number open_one history (inl l) f = let least = open_above c me open_one number history f in omega arith
 reached_open c me mark number open_one history (inr h) f = go h.0
   where

@@ -16,12 +16,12 @@ use Rattle.protocol.specs.System.Trace.Entry.{Invoke, Got, Tick, Executed, Insta
 use Rattle.protocol.specs.Replica.Certificates.{view, target, low, is_in_marks, logged, prepare_of, commit_of}
 use Rattle.protocol.specs.Replica.State.{State, Call, call_in, last_time}
 use Rattle.protocol.specs.Replica.RightReplica.{Point, HistoryReaches, IsStep, is_newer, with_waiting, waiting_after, still_waiting, executed_point}
-use Rattle.protocol.specs.Replica.Owed.{IsSending, SendsMessage, IsBegunBelow, SendsRow, SendsView, SendsAgain}
+use Rattle.protocol.specs.Replica.Owed.{IsSending, SendsMessage, IsAssignedBelow, SendsRow, SendsView, SendsAgain}
 use Rattle.protocol.proofs.Words.Elements.{has_weaker, has_either, has_filter, has_reversed}
 use Rattle.replica_histories.specs.Desk.{Desk}
 use Rattle.replica_histories.specs.Logs.{FitsLog}
 use Rattle.replica_histories.specs.Events.{BothFitBetweenEvents}
-use Rattle.replica_histories.specs.Changes.{Changes, FitsChanges, IsBegunUpTo}
+use Rattle.replica_histories.specs.Changes.{Changes, FitsChanges, IsAssignedUpTo}
 use Rattle.replica_histories.specs.Questions.{ordered_from}
 use Rattle.replica_histories.specs.Resending.{FrameGoes, RowGoes, ViewGoes, AllGoes, ResendingSuffices, WaitingAreNew}
 use Rattle.replica_histories.proofs.Words.{marks_are, primary_same}
@@ -68,15 +68,15 @@ module _ (c : Configuration) (me : ℕ) (desk : Desk) (log : LogData) (past outp
     where
       go : (log.view ≡ 0) ⊎ ((frame : List ℕ) × (x.new_view ≡ Some frame)) → (new : NewViewData) × (new.view ≡ v) × SendsMessage me (NewView new) outputs
       go (inl zero) = absurd (omega (arith, at, zero, later))
-      go (inr (frame, is)) = let o = fits.own_view frame is in (o.new, o.view ∙ sym at, frame_says (NewView o.new) frame o.posted.says (goes.new_view frame is))
+      go (inr (frame, is)) = let o = fits.own_view frame is in (o.new, o.view ∙ sym at, frame_says (NewView o.new) frame o.is_outgoing.says (goes.new_view frame is))
 
   inside_log : (i : ℕ) → is_in_marks c (low c me past) i ≡ true → logs.is_in_marks log i ≡ true
   inside_log i inside = sym (marks_are c me log past i f) ∙ inside
 
-  begun_below : (v i : ℕ) → v ≡ log.view → is_in_marks c (low c me past) i ≡ true → IsBegunBelow c v i past → x.begun < i
-  begun_below v i at inside below = go fits.begun_by
+  assigned_below : (v i : ℕ) → v ≡ log.view → is_in_marks c (low c me past) i ≡ true → IsAssignedBelow c v i past → x.assigned < i
+  assigned_below v i at inside below = go fits.assigned_by
     where
-      go : (x.begun ≡ 0) ⊎ IsBegunUpTo c log.view x.begun past → x.begun < i
+      go : (x.assigned ≡ 0) ⊎ IsAssignedUpTo c log.view x.assigned past → x.assigned < i
       go (inl zero) = let over = above_low log i (inside_log i inside) in omega (arith, zero, over)
       go (inr (new, once, view_is, is)) = let most = below new once (view_is ∙ sym at) in omega (arith, is, most)
 
@@ -84,10 +84,10 @@ module _ (c : Configuration) (me : ℕ) (desk : Desk) (log : LogData) (past outp
   at_most i k = leb-true i (log.low + log.span)
       (and_parts (nat_lt log.low i) (nat_le i (log.low + log.span)) (and_parts (nat_lt log.low i && nat_le i (log.low + log.span)) (nat_lt i (2 ^ 48)) k).0).1
 
-  row : (v i : ℕ) → v ≡ log.view → is_in_marks c (low c me past) i ≡ true → RowGoes me log x.begun i outputs → SendsRow c me past v i outputs
+  row : (v i : ℕ) → v ≡ log.view → is_in_marks c (low c me past) i ≡ true → RowGoes me log x.assigned i outputs → SendsRow c me past v i outputs
   row v i at inside r = record {
     batch = λ batch own below is. subst (λ (w : ℕ). SendsMessage me (PrePrepare w i batch) outputs) (sym at)
-        (r.batch batch (primary_same c log log.view f.faults ∙ ap (primary c) (sym at) ∙ own) (begun_below v i at inside below)
+        (r.batch batch (primary_same c log log.view f.faults ∙ ap (primary c) (sym at) ∙ own) (assigned_below v i at inside below)
         (sym (f.batches i (inside_log i inside)) ∙ subst (λ (w : ℕ). logged c me past w i ≡ Some batch) at is));
     prepare = λ digest is. subst (λ (w : ℕ). SendsMessage me (Prepare w i digest) outputs) (sym at)
         (r.prepare digest (sym (f.prepares i me (inside_log i inside)) ∙ subst (λ (w : ℕ). prepare_of c me past w i me ≡ Some digest) at is));
@@ -109,7 +109,7 @@ module _ (c : Configuration) (me : ℕ) (desk : Desk) (log : LogData) (past outp
       absurd (omega (arith, below, most, at))
   left below false is =
       let o = fits.own_change is in
-      (o.own.change, o.view ∙ sym fits.target, frame_says (ViewChange o.own.change) o.own.frame o.posted.says (all.inactive is o.own o.held))
+      (o.own.change, o.view ∙ sym fits.target, frame_says (ViewChange o.own.change) o.own.frame o.is_outgoing.says (all.inactive is o.own o.held))
 
   pub sends : SendsAgain c me past held.of_desk.point.state.number outputs
   sends = record {

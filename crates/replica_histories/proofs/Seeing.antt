@@ -7,7 +7,7 @@ use Rattle.wire_format.specs.Words.{requests_of, requests_of_all, carried}
 use Rattle.protocol.specs.System.Configuration.{Configuration, primary}
 use Rattle.protocol.specs.System.Trace.{Entry, Once, Has}
 use Rattle.protocol.specs.System.Trace.Entry.{Got, Sent}
-use Rattle.protocol.specs.Replica.Certificates.{brought, taken, new_view_from, low, is_in_marks, are_genuine, batch_from, batch_begun, begun_proposal, entry_proposal, proposal, logged}
+use Rattle.protocol.specs.Replica.Certificates.{brought, taken, new_view_from, low, is_in_marks, are_genuine, batch_from, assigned_batch, assigned_proposal, entry_proposal, proposal, logged}
 use Rattle.protocol.specs.Replica.RightReplica.{HasSeen}
 use Rattle.protocol.proofs.Words.Options.{or_else_cases, and_then_some, then_some_gives, given_once}
 use Rattle.protocol.proofs.Words.Temporal.{once_weaker}
@@ -15,7 +15,7 @@ use Rattle.protocol.proofs.Words.Elements.{has_left, has_right, each_where}
 use Rattle.protocol.proofs.Words.Linking.{heard_said}
 use Rattle.protocol.proofs.Agreement.Marks.{takes, begins}
 use Rattle.protocol.proofs.Agreement.Offers.{entry_batch}
-use Rattle.replica_histories.specs.Claims.{LoggedAreSeen}
+use Rattle.replica_histories.specs.PqSets.{LoggedAreSeen}
 use Rattle.replica_histories.proofs.Words.{passed}
 
 -- an entry carries what it brings
@@ -41,13 +41,13 @@ among (batch ∷ batches) zero text frame h has =
 among (batch ∷ batches) (suc k) text frame h has = has_right (λ x. x ≡ frame) (requests_of batch) (requests_of_all batches) (among batches k text frame h has)
 
 proposed_seen : (c : Configuration) (me v i : ℕ) (text frame : List ℕ) (past : List Entry) (e : Entry) → Has (λ x. x ≡ frame) (requests_of text) → proposal c me past e v i ≡ Some text → HasSeen frame past e
-proposed_seen c me v i text frame past e has h = go (or_else_cases (begun_proposal c me past e v i) (entry_proposal c me past e v i) text h)
+proposed_seen c me v i text frame past e has h = go (or_else_cases (assigned_proposal c me past e v i) (entry_proposal c me past e v i) text h)
   where
-    go : (begun_proposal c me past e v i ≡ Some text) ⊎ (entry_proposal c me past e v i ≡ Some text) → HasSeen frame past e
+    go : (assigned_proposal c me past e v i ≡ Some text) ⊎ (entry_proposal c me past e v i ≡ Some text) → HasSeen frame past e
     go (inr k) = let b = (entry_batch c me v i text past e k).1 in brought_seen c b.0 frame past e b.1 (batch_carried c me v i text frame b.0.sender b.0.message b.2 has)
     go (inl k) =
-        let p = passed (is_in_marks c (low c me (e ∷ past)) i) (option_and_then (batch_begun v i) (taken c past e)) text k in
-        let n = and_then_some (batch_begun v i) (taken c past e) text p.1 in
+        let p = passed (is_in_marks c (low c me (e ∷ past)) i) (option_and_then (assigned_batch v i) (taken c past e)) text k in
+        let n = and_then_some (assigned_batch v i) (taken c past e) text p.1 in
         let r = and_then_some (new_view_from c) (brought c e) n.0 (takes c me past e n.0 n.1).brought in
         let b = passed ((n.0.view == v) && nat_lt n.0.start i) (slice_get n.0.batches (i - n.0.start - 1)) text n.2 in
         brought_seen c r.0 frame past e r.1

@@ -127,7 +127,7 @@ fetch_is_new c me past point k level index bytes says may h = go level says may.
     go levels.Page is (inl next) = asked levels.Page is next.0
     go l is (inr again) = asked l is again.1
 
--- a new view that the replica takes as it sends it was not sent before: it would have begun its view
+-- a new view that the replica takes as it sends it was not sent before: its view would have begun before
 pub view_is_new : (c : Configuration) (me : ℕ) (past : List Entry) (point : Point) (new : NewViewData) (bytes : List ℕ) → HistoryReaches c me past point → said bytes ≡ Some (record { sender = me; message = NewView new })
     → taken c past (Sent me bytes) ≡ Some new → SentInEvent bytes past → ⊥
 view_is_new c me past point new bytes leaves says t h =
@@ -136,8 +136,8 @@ view_is_new c me past point new bytes leaves says t h =
     absurd (omega arith)
   where
     -- if it was sent before, its view began
-    begun : (x : List Entry) (e : Entry) → RightAt c me x e → SendsBytes bytes x e → new.view ≤ view c (e ∷ x)
-    begun x (Sent p sent) r same = pick allowed.1
+    assigned : (x : List Entry) (e : Entry) → RightAt c me x e → SendsBytes bytes x e → new.view ≤ view c (e ∷ x)
+    assigned x (Sent p sent) r same = pick allowed.1
       where
         spoken : said sent ≡ Some (record { sender = me; message = NewView new })
         spoken = subst (λ (ys : List ℕ). said ys ≡ Some (record { sender = me; message = NewView new })) (sym same) says
@@ -151,12 +151,12 @@ view_is_new c me past point new bytes leaves says t h =
             let is = eqb-true (view c x) new.view (and_parts (view c x == new.view) (nat_le (target x) new.view) k.0).0 in
             let grows = view_grows c (Sent p sent) x in
             omega arith
-    begun x _ r same = absurd same
+    assigned x _ r same = absurd same
 
     there : new.view ≤ view c past
     there =
         once_stays_from (λ x. new.view ≤ view c x) (λ e x k. let grows = view_grows c e x in omega arith) past
-        (once_weaker (λ x e. RightAt c me x e × SendsBytes bytes x e × Always (RightAt c me) x) (λ x e. new.view ≤ view c (e ∷ x)) (λ x e k. begun x e k.0 k.1) past
+        (once_weaker (λ x e. RightAt c me x e × SendsBytes bytes x e × Always (RightAt c me) x) (λ x e. new.view ≤ view c (e ∷ x)) (λ x e k. assigned x e k.0 k.1) past
         (once_always (RightAt c me) (SendsBytes bytes) past (right_always c me past point leaves) (sent_before bytes past h)))
 
 -- ---- due messages

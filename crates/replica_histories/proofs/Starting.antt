@@ -72,7 +72,7 @@ module _ (c : Configuration) (me : ℕ) (some : 1 ≤ c.faults) (few : c.faults 
     commits = λ i s k. sym (no_reading (λ r. voted_digest r.commits s) refl i);
     within = λ v i batch h. absurd cc;
     above = λ i s l out. (refl, refl);
-    begun = λ v batch h. absurd h;
+    begins = λ v batch h. absurd h;
     settled = λ is_active i batch l h. absurd cc;
     views = first_views;
     checkpoints = λ s. ap (checkpoints_above 0) (sym (no_checkpoints (3 * c.faults + 1) s));

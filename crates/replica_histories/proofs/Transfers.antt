@@ -29,7 +29,7 @@ use Rattle.protocol.proofs.Words.Options.{some_injective, and_then_some, or_else
 use Rattle.protocol.proofs.Words.Linking.{heard_said}
 use Rattle.state_transfer.specs.declared.place.Place.{Place}
 use Rattle.state_transfer.specs.Transfer.{TransferData, none_told, new_transfer, moved_to, asking, fitting_children, digest_of_part, pages_of_part, digest_of_page, wanted_at, with_part_digests, with_page_digests, with_digests, with_page}
-use Rattle.replica_histories.specs.Transfers.{known_below, TransferAims, FitsTransfer, TransferMayAsk, FitsOpenTransfer, AreTaken, open_number, place_sent, WantedByHistory, DigestsCount, PagesCount, AimsStay, AskedStays, OpenStays, OpenExecutes, DigestsTaken, DigestsOpen, DigestsMayAsk, PagesMayAsk, TicksMayAsk, PagesGiveBack, PagesRested, QuorumsWant, TransfersStart, TransfersMove, QuorumsOpen, LowerAreFetched, MayAskAny, TransfersMayFetch, TransfersAsk}
+use Rattle.replica_histories.specs.Transfers.{known_below, TransferAims, FitsTransfer, TransferMayAsk, FitsStateTransfer, AreTaken, open_number, place_sent, WantedByHistory, DigestsCount, PagesCount, AimsStay, AskedStays, OpenStays, OpenExecutes, DigestsTaken, DigestsOpen, DigestsMayAsk, PagesMayAsk, TicksMayAsk, PagesGiveBack, PagesRested, QuorumsWant, TransfersStart, TransfersMove, QuorumsOpen, LowerAreFetched, MayAskAny, TransfersMayFetch, TransfersAsk}
 use Rattle.replica_histories.proofs.TransfersTaking.{newer_takes_nothing, newer_taken, took_stays, started_taken, rested_taken, page_taken, meta_taken, tick_taken, fetch_taken, execution_leaves, execution_ends, all_default}
 use Rattle.replica_histories.proofs.TransfersTaking as Taking
 use Rattle.replica_histories.proofs.Words.{passed}
@@ -135,7 +135,7 @@ pub open_executes : OpenExecutes
 open_executes c me None number later past batch grows f = let most = f.0 in (omega arith, execution_ends c me later None batch past (omega arith))
 open_executes c me (Some t) number later past batch grows f = go (nat_lt later t.number) refl
   where
-    go : (b : Bool) → nat_lt later t.number ≡ b → FitsOpenTransfer c me (then_some b t) later (Executed me later batch ∷ past)
+    go : (b : Bool) → nat_lt later t.number ≡ b → FitsStateTransfer c me (then_some b t) later (Executed me later batch ∷ past)
     go true e =
         let above = ltb-true later t.number e in
         let newest = f.0.newest in (
@@ -284,7 +284,7 @@ pages_give_back t index text = ap (λ (xs : List Bool). let new : TransferData =
 pub pages_rested : PagesRested
 pages_rested c me pages old new number history r = (open_one, ask)
   where
-    open_one : FitsOpenTransfer c me (Some old) number history → FitsOpenTransfer c me (Some new) number history
+    open_one : FitsStateTransfer c me (Some old) number history → FitsStateTransfer c me (Some new) number history
     open_one f = subst (λ (x : TransferData). FitsTransfer c me x history × (number < x.number)) (sym r.same) (
       record {
         aims = record { root_wanted = f.0.aims.root_wanted; inner = f.0.aims.inner; parts = f.0.aims.parts };
@@ -329,7 +329,7 @@ pub transfers_move : TransfersMove
 transfers_move c me k root t history w a = record { root_wanted = w; inner = λ digests is. absurd cc; parts = a.parts }
 
 -- above all that was fetched a transfer may start, and the open one may move
-pub start_may_ask : (c : Configuration) (me number k : ℕ) (root : List ℕ) (pages : List (List ℕ)) (history : List Entry) → IsRootWanted c history k root → number < k → FitsOpenTransfer c me None number history → TransferMayAsk c me (new_transfer k root pages) number history
+pub start_may_ask : (c : Configuration) (me number k : ℕ) (root : List ℕ) (pages : List (List ℕ)) (history : List Entry) → IsRootWanted c history k root → number < k → FitsStateTransfer c me None number history → TransferMayAsk c me (new_transfer k root pages) number history
 start_may_ask c me number k root pages history w above f = let most = f.0 in record {
   aims = transfers_start c me k root pages history w;
   newest = omega arith;
@@ -337,7 +337,7 @@ start_may_ask c me number k root pages history w above f = let most = f.0 in rec
   taken = started_taken c me k (Some k) root pages history (λ i within. newer_takes_nothing c me k i history (omega arith) ∙ f.1 i within);
 }
 
-pub move_may_ask : (c : Configuration) (me number k : ℕ) (root : List ℕ) (t : TransferData) (history : List Entry) → IsRootWanted c history k root → t.number < k → FitsOpenTransfer c me (Some t) number history → TransferMayAsk c me (moved_to t k root) number history
+pub move_may_ask : (c : Configuration) (me number k : ℕ) (root : List ℕ) (t : TransferData) (history : List Entry) → IsRootWanted c history k root → t.number < k → FitsStateTransfer c me (Some t) number history → TransferMayAsk c me (moved_to t k root) number history
 move_may_ask c me number k root t history w above f = let newest = f.0.newest in let own = f.1 in record {
   aims = transfers_move c me k root t history w f.0.aims;
   newest = omega arith;
@@ -381,12 +381,12 @@ transfers_ask c me t number past bytes says m = (
 -- ---- the number of the open transfer
 
 -- is at least the executed one
-pub open_above : (c : Configuration) (me : ℕ) (open_one : Option TransferData) (number : ℕ) (history : List Entry) → FitsOpenTransfer c me open_one number history → number ≤ open_number number open_one
+pub open_above : (c : Configuration) (me : ℕ) (open_one : Option TransferData) (number : ℕ) (history : List Entry) → FitsStateTransfer c me open_one number history → number ≤ open_number number open_one
 open_above c me None number history f = omega arith
 open_above c me (Some t) number history f = let above = f.1 in omega arith
 
 -- and nothing above it was fetched
-pub fetched_most : (c : Configuration) (me : ℕ) (open_one : Option TransferData) (number : ℕ) (history : List Entry) → FitsOpenTransfer c me open_one number history → fetching history ≤ open_number number open_one
+pub fetched_most : (c : Configuration) (me : ℕ) (open_one : Option TransferData) (number : ℕ) (history : List Entry) → FitsStateTransfer c me open_one number history → fetching history ≤ open_number number open_one
 fetched_most c me None number history f = f.0
 fetched_most c me (Some t) number history f = let newest = f.0.newest in omega arith
 

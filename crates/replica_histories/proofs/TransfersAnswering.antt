@@ -180,10 +180,10 @@ answers_may_go c me past point e bytes s k index level pages h asked =
     (may_say c me past point e bytes s k index level pages h asked, is_for c me past s k level index pages asked, none_carried pages k level index)
 
 pub outgoing_to_one : OutgoingToOne
-outgoing_to_one c me s message bytes posted =
-    let w = (says_what_is_spelled bytes (record { sender = me; message = message })).0 posted.says in
+outgoing_to_one c me s message bytes is_outgoing =
+    let w = (says_what_is_spelled bytes (record { sender = me; message = message })).0 is_outgoing.says in
     let is : frame_of bytes ≡ Some w.0 = (reads_frames bytes w.0).1 w.1 in
-    (posted.says, ap (λ (o : Option Frame). option_map_or (λ (frame : Frame). receivers_of frame.authenticator) o []) is ∙ (posted.is_sealed w.0 is).1)
+    (is_outgoing.says, ap (λ (o : Option Frame). option_map_or (λ (frame : Frame). receivers_of frame.authenticator) o []) is ∙ (is_outgoing.is_sealed w.0 is).1)
 
 -- ---- what the replica owes
 

@@ -1,7 +1,7 @@
 -- A replica's view-change data, and how entries change them (Castro and Liskov, TOCS 2002, on view changes).
 use Rattle.std.specs.Prelude.{◌≡◌, ◌≢◌, ℕ, suc, ◌+◌, ◌≤◌, ◌<◌, ◌⊎◌, true, false, List, [], ◌∷◌, length, replicate, if◌then◌else◌, Option, Some, None, ⊤}
 use Rattle.std.specs.Option.{ForSome}
-use Rattle.wire_format.specs.Messages.{BodyData as Body, MessageData as Message, BatchEntryData as Claim, ViewChangeData, NewViewData, CheckpointEntryData as CheckpointEntry, pre_prepare as PrePrepare, commit as Commit, checkpoint as Checkpoint, view_change as ViewChange, new_view as NewView}
+use Rattle.wire_format.specs.Messages.{BodyData as Body, MessageData as Message, BatchEntryData as PqEntry, ViewChangeData, NewViewData, CheckpointEntryData as CheckpointEntry, pre_prepare as PrePrepare, commit as Commit, checkpoint as Checkpoint, view_change as ViewChange, new_view as NewView}
 use Rattle.wire_format.specs.Spelling.{is_signed}
 use Rattle.wire_format.specs.Words.{said}
 use Rattle.wire_format.specs.Lists.{Each}
@@ -16,25 +16,25 @@ use Rattle.protocol.specs.Replica.Selection.{signed_change}
 use Rattle.protocol.specs.Replica.Certificates.{brought, view, target, taken, logged, commit_of, latest_change}
 use Rattle.protocol.specs.Replica.RightReplica.{Point, HistoryReaches, SendsBytes, SentBefore, HasOwnLeaf, MayCheckpoint}
 use Rattle.protocol.specs.Replica.Owed.{AreKeysSpent, latest_checkpoint}
-use Rattle.claims.specs.ClaimsView.{ClaimsData, no_claims, claim_of, IsAmongTexts}
-use Rattle.claims.specs.Recording.{with_prepared, with_logged, with_all, above_mark}
+use Rattle.pq_sets.specs.PqSetsView.{PqSetsData, empty_pq_sets, pq_entry_of, IsAmongTexts}
+use Rattle.pq_sets.specs.Recording.{with_prepared, with_logged, with_all, above_mark}
 use Rattle.view_change.specs.ReceivedData.{HeldData, held_of, view_change_refusal, with_held}
 use Rattle.replica_histories.specs.Desk.{Desk}
 use Rattle.replica_histories.specs.Logs.{FitsLog}
 use Rattle.replica_histories.specs.Events.{Start, after_outputs, BothFitWithinEvent, BothFitBetweenEvents, start_at}
-use Rattle.replica_histories.specs.Claims.{FitsClaims}
+use Rattle.replica_histories.specs.PqSets.{FitsPqSets}
 use Rattle.replica_histories.specs.Received.{FitsReceived}
-use Rattle.replica_histories.specs.Views.{begun_log}
+use Rattle.replica_histories.specs.Views.{entered_log}
 
--- target: the greatest view that the replica sent a view change for. begun: the greatest number that the current view's
--- new view assigned, 0 if there is none. new_view: the frame of that new view, if the replica made it. claims: the sets
--- P and Q. held: the stored view changes, one place for each replica. Then the last checkpoint that the replica sent,
--- and the number of leaves that have signed.
+-- target: the greatest view that the replica sent a view change for. assigned: the greatest number that the current
+-- view's new view assigned, 0 if there is none. new_view: the frame of that new view, if the replica made it. pq_sets:
+-- the sets P and Q. held: the stored view changes, one place for each replica. Then the last checkpoint that the
+-- replica sent, and the number of leaves that have signed.
 pub record Changes : Type 0 where
   pub target : ℕ
-  pub begun : ℕ
+  pub assigned : ℕ
   pub new_view : Option (List ℕ)
-  pub claims : ClaimsData
+  pub pq_sets : PqSetsData
   pub held : List (Option HeldData)
   pub last_checkpoint : Option CheckpointEntry
   pub spent : ℕ
@@ -42,9 +42,9 @@ pub record Changes : Type 0 where
 abbrev pub first_changes : Configuration → Changes
 first_changes c = record {
   target = 0;
-  begun = 0;
+  assigned = 0;
   new_view = None;
-  claims = no_claims;
+  pq_sets = empty_pq_sets;
   held = replicate (replicas c) None;
   last_checkpoint = None;
   spent = 0;
@@ -78,7 +78,7 @@ pub record HasOwnChange (c : Configuration) (me : ℕ) (x : Changes) (history : 
   pub held : held_of x.held me ≡ Some own
   pub view : own.change.view ≡ x.target
   pub sent : SentBefore own.frame history
-  pub posted : IsOutgoing c me (ViewChange own.change) [] own.frame
+  pub is_outgoing : IsOutgoing c me (ViewChange own.change) [] own.frame
 
 -- the replica sent this frame of its own new view of the view
 pub record IsOwnView (c : Configuration) (me v : ℕ) (history : List Entry) (frame : List ℕ) : Type 0 where
@@ -86,25 +86,25 @@ pub record IsOwnView (c : Configuration) (me v : ℕ) (history : List Entry) (fr
   pub view : new.view ≡ v
   pub primary : primary c new.view ≡ me
   pub sent : SentBefore frame history
-  pub posted : IsOutgoing c me (NewView new) [] frame
+  pub is_outgoing : IsOutgoing c me (NewView new) [] frame
 
 -- a new view began the view, with batches up to the number
-abbrev pub IsBegunUpTo : Configuration → ℕ → ℕ → List Entry → Type 0
-IsBegunUpTo c v i history =
+abbrev pub IsAssignedUpTo : Configuration → ℕ → ℕ → List Entry → Type 0
+IsAssignedUpTo c v i history =
     (new : NewViewData) × Once (λ past e. taken c past e ≡ Some new) history × (new.view ≡ v)
     × (i ≡ new.start + length new.batches)
 
--- The data are those of the history: the target; the claims; the view changes of others; how far the new view of the
+-- The data are those of the history: the target; P and Q; the view changes of others; how far the new view of the
 -- log's view goes; the latest checkpoint; and the number of spent leaves. An inactive replica has its own view change,
 -- which is never for a view above the target. The primary of a view that a new view began has that new view.
 pub record FitsChanges (c : Configuration) (me : ℕ) (log : LogData) (x : Changes) (history : List Entry) : Type 0 where
   pub target : target history ≡ x.target
-  pub claims : FitsClaims c me history x.claims
+  pub pq_sets : FitsPqSets c me history x.pq_sets
   pub received : FitsReceived c me history x.held
   pub places : length x.held ≡ replicas c
-  pub begun : (new : NewViewData) → Once (λ past e. taken c past e ≡ Some new) history → new.view ≡ log.view
-      → new.start + length new.batches ≤ x.begun
-  pub begun_by : (x.begun ≡ 0) ⊎ IsBegunUpTo c log.view x.begun history
+  pub assigned : (new : NewViewData) → Once (λ past e. taken c past e ≡ Some new) history → new.view ≡ log.view
+      → new.start + length new.batches ≤ x.assigned
+  pub assigned_by : (x.assigned ≡ 0) ⊎ IsAssignedUpTo c log.view x.assigned history
   pub own_change : log.active ≡ false → HasOwnChange c me x history
   pub own_latest : (own : HeldData) → held_of x.held me ≡ Some own → own.change.view ≤ x.target
   pub own_view : ForSome x.new_view (IsOwnView c me log.view history)
@@ -231,26 +231,26 @@ OwnAreSigned =
     (c : Configuration) (me : ℕ) (vc : ViewChangeData) (bytes : List ℕ)
     → me < replicas c → IsOutgoing c me (ViewChange vc) [] bytes → signed_change c bytes ≡ Some (me, vc)
 
--- ---- claims
+-- ---- the sets P and Q
 
--- the claims above the low mark
-pub record CutsClaims (low : ℕ) (old new : ClaimsData) : Type 0 where
+-- the entries above the low mark
+pub record CutsPqSets (low : ℕ) (old new : PqSetsData) : Type 0 where
   pub prepared : new.prepared ≡ above_mark low old.prepared
   pub logged : new.logged ≡ above_mark low old.logged
   pub texts : Each (IsAmongTexts old.texts) new.texts
 
 -- one more logged batch
-pub record AddsLogged (number view : ℕ) (text : List ℕ) (old new : ClaimsData) : Type 0 where
+pub record AddsLogged (number view : ℕ) (text : List ℕ) (old new : PqSetsData) : Type 0 where
   pub prepared : new.prepared ≡ old.prepared
-  pub logged : new.logged ≡ with_logged (claim_of number view text) old.logged
+  pub logged : new.logged ≡ with_logged (pq_entry_of number view text) old.logged
   pub texts : Each (IsAmongTexts (text ∷ old.texts)) new.texts
 
--- the claims of batches from a number on, as far as they are within the log's marks
-abbrev pub claims_from : LogData → ℕ → ℕ → List (List ℕ) → List Claim
-claims_from log view i [] = []
-claims_from log view i (batch ∷ batches) =
-    if logs.is_in_marks log i then claim_of i view batch ∷ claims_from log view (suc i) batches else
-    claims_from log view (suc i) batches
+-- the entries of batches from a number on, as far as they are within the log's marks
+abbrev pub pq_entries_from : LogData → ℕ → ℕ → List (List ℕ) → List PqEntry
+pq_entries_from log view i [] = []
+pq_entries_from log view i (batch ∷ batches) =
+    if logs.is_in_marks log i then pq_entry_of i view batch ∷ pq_entries_from log view (suc i) batches else
+    pq_entries_from log view (suc i) batches
 
 -- and their texts
 abbrev pub texts_in_marks : LogData → ℕ → List (List ℕ) → List (List ℕ)
@@ -258,25 +258,25 @@ texts_in_marks log i [] = []
 texts_in_marks log i (batch ∷ batches) =
     if logs.is_in_marks log i then batch ∷ texts_in_marks log (suc i) batches else texts_in_marks log (suc i) batches
 
--- the claims with these batches
-pub record AddsBatches (log : LogData) (view first : ℕ) (batches : List (List ℕ)) (old new : ClaimsData) : Type 0 where
+-- Q with these batches
+pub record AddsBatches (log : LogData) (view first : ℕ) (batches : List (List ℕ)) (old new : PqSetsData) : Type 0 where
   pub prepared : new.prepared ≡ old.prepared
-  pub logged : new.logged ≡ with_all with_logged (claims_from log view first batches) old.logged
+  pub logged : new.logged ≡ with_all with_logged (pq_entries_from log view first batches) old.logged
   pub texts : Each (λ text. IsAmongTexts old.texts text
       ⊎ IsAmongTexts (texts_in_marks log first batches) text) new.texts
 
--- the claims when a new view begins: those above the new low mark, and its batches
-pub record BeginsClaims (log : LogData) (new : NewViewData) (old after : ClaimsData) : Type 0 where
-  pub mid : ClaimsData
-  pub cuts : CutsClaims (logs.cut_to (logs.entered log new.view) new.start).low old mid
+-- P and Q when a new view begins: the entries above the new low mark, and its batches
+pub record BeginsPqSets (log : LogData) (new : NewViewData) (old after : PqSetsData) : Type 0 where
+  pub mid : PqSetsData
+  pub cuts : CutsPqSets (logs.cut_to (logs.entered log new.view) new.start).low old mid
   pub adds : AddsBatches (logs.cut_to (logs.entered log new.view) new.start) new.view (suc new.start) new.batches mid
       after
 
--- All claims that fit are above the low mark.
-abbrev pub ClaimsAreAbove : Type 0
-ClaimsAreAbove =
-    (c : Configuration) (me : ℕ) (log : LogData) (history : List Entry) (claims : ClaimsData)
-    → FitsLog c me log history → FitsClaims c me history claims → CutsClaims log.low claims claims
+-- All entries of P and Q that fit are above the low mark.
+abbrev pub PqSetsAreAbove : Type 0
+PqSetsAreAbove =
+    (c : Configuration) (me : ℕ) (log : LogData) (history : List Entry) (pq_sets : PqSetsData)
+    → FitsLog c me log history → FitsPqSets c me history pq_sets → CutsPqSets log.low pq_sets pq_sets
 
 -- ---- laws
 
@@ -284,25 +284,25 @@ abbrev pub ChangesBegin : Type 0
 ChangesBegin =
     (c : Configuration) (me : ℕ) → FitsChanges c me (logs.new_log me c.faults (span c)) (first_changes c) []
 
--- An entry that changes nothing leaves the data. If the low mark moves, the claims up to it are dropped.
+-- An entry that changes nothing leaves the data. If the low mark moves, the entries up to it are dropped.
 abbrev pub ChangesStay : Type 0
 ChangesStay =
     (c : Configuration) (me : ℕ) (past : List Entry) (e : Entry) (log after : LogData) (x : Changes)
-    (claims : ClaimsData)
+    (pq_sets : PqSetsData)
     → LogPassesEntry c me past e log after → IsSameView log after → KeepsChanges c me past e
-    → CutsClaims after.low x.claims claims → FitsChanges c me log x past
-    → FitsChanges c me after (record x { claims = claims }) (e ∷ past)
+    → CutsPqSets after.low x.pq_sets pq_sets → FitsChanges c me log x past
+    → FitsChanges c me after (record x { pq_sets = pq_sets }) (e ∷ past)
 
 -- If the replica sends a checkpoint that is its latest then, the data note it.
 abbrev pub CheckpointsAreNoted : Type 0
 CheckpointsAreNoted =
-    (c : Configuration) (me : ℕ) (past : List Entry) (log after : LogData) (x : Changes) (claims : ClaimsData)
+    (c : Configuration) (me : ℕ) (past : List Entry) (log after : LogData) (x : Changes) (pq_sets : PqSetsData)
     (entry : CheckpointEntry) (bytes : List ℕ)
     → LogPassesEntry c me past (Sent me bytes) log after → IsSameView log after
     → said bytes ≡ Some (record { sender = me; message = Checkpoint entry.number entry.digest })
     → latest_checkpoint c me (Sent me bytes ∷ past) ≡ Some entry
-    → CutsClaims after.low x.claims claims → FitsChanges c me log x past
-    → FitsChanges c me after (record x { claims = claims; last_checkpoint = Some entry }) (Sent me bytes ∷ past)
+    → CutsPqSets after.low x.pq_sets pq_sets → FitsChanges c me log x past
+    → FitsChanges c me after (record x { pq_sets = pq_sets; last_checkpoint = Some entry }) (Sent me bytes ∷ past)
 
 -- The checkpoint of the executed state is the latest once the replica sends it.
 abbrev pub CheckpointsAreLatest : Type 0
@@ -313,30 +313,30 @@ CheckpointsAreLatest =
     → said bytes ≡ Some (record { sender = me; message = Checkpoint entry.number entry.digest })
     → latest_checkpoint c me (Sent me bytes ∷ past) ≡ Some entry
 
--- The commit that the log asks for is claimed.
-abbrev pub CommitsAreClaimed : Type 0
-CommitsAreClaimed =
+-- The batch whose commit the log asks for enters P.
+abbrev pub CommitsEnterP : Type 0
+CommitsEnterP =
     (c : Configuration) (me : ℕ) (past : List Entry) (log after : LogData) (x : Changes) (i : ℕ) (digest bytes : List ℕ)
     → LogPassesEntry c me past (Sent me bytes) log after → IsSameView log after → after.low ≡ log.low
     → logs.due_commit log i ≡ Some digest
     → said bytes ≡ Some (record { sender = me; message = Commit log.view i digest })
     → FitsChanges c me log x past
     → FitsChanges c me after (record x {
-      claims = record x.claims {
-        prepared = with_prepared (record { number = i; digest = digest; view = log.view }) x.claims.prepared;
+      pq_sets = record x.pq_sets {
+        prepared = with_prepared (record { number = i; digest = digest; view = log.view }) x.pq_sets.prepared;
       };
     }) (Sent me bytes ∷ past)
 
--- The batch of a sent or taken pre-prepare is claimed.
-abbrev pub BatchesAreClaimed : Type 0
-BatchesAreClaimed =
-    (c : Configuration) (me : ℕ) (past : List Entry) (e : Entry) (log : LogData) (x : Changes) (claims : ClaimsData)
+-- The batch of a sent or taken pre-prepare enters Q.
+abbrev pub BatchesEnterQ : Type 0
+BatchesEnterQ =
+    (c : Configuration) (me : ℕ) (past : List Entry) (e : Entry) (log : LogData) (x : Changes) (pq_sets : PqSetsData)
     (s i : ℕ) (text : List ℕ)
     → LogPassesEntry c me past e log (logs.with_batch log i text) → logs.is_in_marks log i ≡ true
     → logs.logged_batch log i ≡ None
     → brought c e ≡ Some (record { sender = s; message = PrePrepare log.view i text })
-    → AddsLogged i log.view text x.claims claims → FitsChanges c me log x past
-    → FitsChanges c me (logs.with_batch log i text) (record x { claims = claims }) (e ∷ past)
+    → AddsLogged i log.view text x.pq_sets pq_sets → FitsChanges c me log x past
+    → FitsChanges c me (logs.with_batch log i text) (record x { pq_sets = pq_sets }) (e ∷ past)
 
 -- The replica stores its own view change once it sends it.
 abbrev pub ChangesAreSent : Type 0
@@ -367,16 +367,17 @@ IsOwnFrame c me e new (Some frame) =
     (e ≡ Sent me frame) × (primary c new.view ≡ me) × IsOutgoing c me (NewView new) [] frame
 
 -- A new view that the replica takes or sends begins its view.
-abbrev pub ViewsAreBegun : Type 0
-ViewsAreBegun =
+abbrev pub ChangesFollowNewViews : Type 0
+ChangesFollowNewViews =
     (c : Configuration) (me : ℕ) (past : List Entry) (e : Entry) (log : LogData) (x : Changes) (new : NewViewData)
-    (frame : Option (List ℕ)) (claims : ClaimsData) (s spent : ℕ)
-    → LogPassesEntry c me past e log (begun_log log new) → taken c past e ≡ Some new
+    (frame : Option (List ℕ)) (pq_sets : PqSetsData) (s spent : ℕ)
+    → LogPassesEntry c me past e log (entered_log log new) → taken c past e ≡ Some new
     → brought c e ≡ Some (record { sender = s; message = NewView new })
-    → BeginsClaims log new x.claims claims → IsOwnFrame c me e new frame → SpendsLeaves x.spent spent past e
+    → BeginsPqSets log new x.pq_sets pq_sets → IsOwnFrame c me e new frame → SpendsLeaves x.spent spent past e
     → FitsChanges c me log x past
-    → FitsChanges c me (begun_log log new)
-    (record x { begun = new.start + length new.batches; new_view = frame; claims = claims; spent = spent }) (e ∷ past)
+    → FitsChanges c me (entered_log log new)
+    (record x { assigned = new.start + length new.batches; new_view = frame; pq_sets = pq_sets; spent = spent })
+    (e ∷ past)
 
 -- If 64 leaves are spent, the keys are spent.
 abbrev pub AllAreSpent : Type 0

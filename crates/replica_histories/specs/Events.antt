@@ -20,7 +20,7 @@ use Rattle.protocol.specs.Replica.Transfers.{fetching, asked_last}
 use Rattle.protocol.specs.Replica.Owed.{IsNumbered, NumbersOnce, Counts, AreKeysSpent, CanBeginView, HistoryIsPrompt}
 use Rattle.replica_histories.specs.Desk.{Desk, snapshot_of, point_of, desk_from}
 use Rattle.replica_histories.specs.Logs.{FitsLog}
-use Rattle.replica_histories.specs.Transfers.{FitsOpenTransfer}
+use Rattle.replica_histories.specs.Transfers.{FitsStateTransfer}
 use Rattle.replica_histories.specs.Questions.{AnswersInput}
 use Rattle.replica_histories.specs.TransfersQuorums.{QuorumsFetched, FetchesQuorums}
 pub use Rattle.replica_histories.specs.Running.{Start, after_outputs, Steps, AtEach, IsOnItsWay}
@@ -89,7 +89,7 @@ pub record DeskFitsWithinEvent (c : Configuration) (me : ℕ) (s : Start) (desk 
   pub asked : (k : ℕ) (kept : Kept) → IsRepeatedRequest c me s k kept → IsOnItsWay me due outputs (reply_of k kept)
   pub checkpoints : (k : ℕ) → Has (λ e. Executes k [] e) outputs → k % c.period ≡ 0
       → Has (λ st. (st.number ≡ k) × IsOnItsWay me due outputs (Checkpoint k (root_of st))) states
-  pub opened : FitsOpenTransfer c me desk.transfer desk.state.number (after_outputs s outputs)
+  pub opened : FitsStateTransfer c me desk.transfer desk.state.number (after_outputs s outputs)
   pub fetches : FetchesQuorums c me s desk.state.number due outputs
   pub fetch_again : (k index : ℕ) (level : Level) → IsAskedOpen s k level index
       → IsOnItsWay me due outputs (Fetch k level index)
@@ -154,7 +154,7 @@ pub record DeskFitsBetweenEvents (c : Configuration) (me : ℕ) (desk : Desk) (h
   pub is : point ≡ point_of desk point.snapshots point.ran
   pub kept : FitsSnapshots c me desk point.snapshots history
   pub frames : FitsFrames c me desk history
-  pub opened : FitsOpenTransfer c me desk.transfer desk.state.number history
+  pub opened : FitsStateTransfer c me desk.transfer desk.state.number history
   pub fetches : QuorumsFetched c desk.state.number history
 
 -- The log fits the same history, and asks for no vote. It knows no point and no state.

@@ -20,7 +20,7 @@ use Rattle.state_transfer.specs.declared.place.Place.{Place}
 use Rattle.state_transfer.specs.Places.{page_place}
 use Rattle.state_transfer.specs.Transfer.{TransferData, wanted, with_digests, with_page}
 use Rattle.replica_histories.specs.Desk.{Desk}
-use Rattle.replica_histories.specs.Transfers.{TransferMayAsk, AsksNext, FitsOpenTransfer, RestsOnState, transfer_to, open_number}
+use Rattle.replica_histories.specs.Transfers.{TransferMayAsk, AsksNext, FitsStateTransfer, RestsOnState, transfer_to, open_number}
 use Rattle.replica_histories.specs.Questions.{is_part, AnswersInput}
 use Rattle.replica_histories.specs.Events.{Start, after_outputs, BothFitWithinEvent, BothFitBetweenEvents, start_at}
 use Rattle.replica_histories.specs.Inputs.{fetch_due}
@@ -169,6 +169,6 @@ abbrev pub TransfersChange : Type 0
 TransfersChange =
     (c : Configuration) (me : ℕ) (s : Start) (desk : Desk) (log : LogData) (due : List Message) (outputs : List Entry)
     (open_one : Option TransferData)
-    → FitsOpenTransfer c me open_one desk.state.number (after_outputs s outputs)
+    → FitsStateTransfer c me open_one desk.state.number (after_outputs s outputs)
     → BothFitWithinEvent c me s desk log due outputs
     → BothFitWithinEvent c me s (record desk { transfer = open_one }) log due outputs

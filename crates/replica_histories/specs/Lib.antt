@@ -14,7 +14,7 @@ pub mod Answering
 pub mod Numbers
 pub mod Histories
 pub mod Views
-pub mod Claims
+pub mod PqSets
 pub mod Received
 pub mod Changes
 pub mod Primaries

@@ -80,7 +80,7 @@ pub record FitsLog (c : Configuration) (me : ℕ) (log : LogData) (history : Lis
   pub within : (v i : ℕ) (batch : List ℕ) → logged c me history v i ≡ Some batch → MayBeLogged log v i
   pub above : (i s : ℕ) → log.low < i → logs.is_in_marks log i ≡ false
       → (prepare_of c me history log.view i s ≡ None) × (commit_of c me history log.view i s ≡ None)
-  pub begun : (v : ℕ) (batch : List ℕ) → Once (BeginsViewWith c v batch) history → v ≤ log.view
+  pub begins : (v : ℕ) (batch : List ℕ) → Once (BeginsViewWith c v batch) history → v ≤ log.view
   pub settled : log.active ≡ true → (i : ℕ) (batch : List ℕ) → i ≤ log.low
       → logged c me history log.view i ≡ Some batch → IsVoted c me history log.view i batch
   pub views : FitsViews c me log history

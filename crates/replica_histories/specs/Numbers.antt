@@ -46,23 +46,23 @@ with_numbered (suc count) (w ∷ entries) =
 -- ---- the requests of a new view
 
 -- a request in the new view with which a view began
-pub record BegunCall : Type 0 where
+pub record AssignedCall : Type 0 where
   pub client : ℕ
   pub timestamp : ℕ
 
 -- those in its batches
-abbrev pub begun_in : Configuration → List (List ℕ) → List BegunCall
-begun_in c batches =
+abbrev pub assigned_in : Configuration → List (List ℕ) → List AssignedCall
+assigned_in c batches =
     map (λ call. record { client = call.client; timestamp = call.timestamp })
     (filter_map (call_of c) (flat_map requests_of batches))
 
 -- the call is one of them
-abbrev pub is_begun : List BegunCall → Call → Bool
-is_begun begun call = list_any (λ b. (b.client == call.client) && (b.timestamp == call.timestamp)) begun
+abbrev pub is_assigned : List AssignedCall → Call → Bool
+is_assigned assigned call = list_any (λ b. (b.client == call.client) && (b.timestamp == call.timestamp)) assigned
 
 -- so a call waits, if the view assigned it no number but by these
-abbrev pub arrived : List BegunCall → Call → Waiting
-arrived begun call = record { call = call; numbered = is_begun begun call }
+abbrev pub arrived : List AssignedCall → Call → Waiting
+arrived assigned call = record { call = call; numbered = is_assigned assigned call }
 
 -- ---- data that fit
 
@@ -72,8 +72,8 @@ CallIsKnown st waiting client timestamp =
     (timestamp ≤ last_time st client) ⊎ Has (λ call. (call.client ≡ client) × (timestamp ≤ call.timestamp)) waiting
 
 -- the call of this client and timestamp is in the new view
-abbrev pub IsInNewView : List BegunCall → ℕ → ℕ → Type 0
-IsInNewView begun client timestamp = Has (λ b. (b.client ≡ client) × (b.timestamp ≡ timestamp)) begun
+abbrev pub IsInNewView : List AssignedCall → ℕ → ℕ → Type 0
+IsInNewView assigned client timestamp = Has (λ b. (b.client ≡ client) × (b.timestamp ≡ timestamp)) assigned
 
 -- the call has a number in the view v, or has none
 abbrev pub CallHasNumber : Configuration → ℕ → ℕ → List Entry → Call → Type 0
@@ -90,15 +90,15 @@ IsRightly c me v history w = either w.numbered (CallHasNumber c me v history w.c
 -- In the view v each number above the low mark has a batch, up to the greatest assigned one, and none above has one.
 -- The waiting requests are of different clients, and each has the right flag. The calls that began the view have
 -- numbers. Any other call that has one is known, so a newer one has none.
-pub record FitsNumbers (c : Configuration) (me v used : ℕ) (begun : List BegunCall) (entries : List Waiting)
+pub record FitsNumbers (c : Configuration) (me v used : ℕ) (assigned : List AssignedCall) (entries : List Waiting)
     (st : State) (waiting : List Call) (history : List Entry) : Type 0 where
   pub calls : calls_of entries ≡ waiting
   pub free : (j : ℕ) → used < j → logged c me history v j ≡ None
   pub full : (j : ℕ) → low c me history < j → j ≤ used → is_some (logged c me history v j) ≡ true
   pub rightly : Each (IsRightly c me v history) entries
-  pub numbered : Each (λ b. IsNumbered c me history v b.client b.timestamp) begun
+  pub numbered : Each (λ b. IsNumbered c me history v b.client b.timestamp) assigned
   pub known : (client timestamp : ℕ) → IsNumbered c me history v client timestamp
-      → CallIsKnown st waiting client timestamp ⊎ IsInNewView begun client timestamp
+      → CallIsKnown st waiting client timestamp ⊎ IsInNewView assigned client timestamp
   pub differ : AllPairs (λ call twin. call.client ≢ twin.client) waiting
 
 -- Before the first entry no request has a number.
@@ -110,7 +110,7 @@ FirstNumbersFit = (c : Configuration) (me v : ℕ) (st : State) → FitsNumbers 
 -- No batch is logged in a view above the current one, and no new view with a batch began one.
 pub record AreOfNoLaterView (c : Configuration) (me : ℕ) (history : List Entry) : Type 0 where
   pub logged : (v i : ℕ) (batch : List ℕ) → logged c me history v i ≡ Some batch → v ≤ view c history
-  pub begun : (v : ℕ) (batch : List ℕ) → Once (BeginsViewWith c v batch) history → v ≤ view c history
+  pub begins : (v : ℕ) (batch : List ℕ) → Once (BeginsViewWith c v batch) history → v ≤ view c history
 
 -- The same if a log fits.
 abbrev pub LogsAreOfNoLaterView : Type 0
@@ -131,8 +131,8 @@ ViewsBegin =
     (c : Configuration) (me : ℕ) (st : State) (waiting : List Call) (past : List Entry) (e : Entry) (new : NewViewData)
     → taken c past e ≡ Some new → AreOfNoLaterView c me past
     → AllPairs (λ call twin. call.client ≢ twin.client) waiting
-    → FitsNumbers c me new.view (new.start + length new.batches) (begun_in c new.batches)
-    (map (arrived (begun_in c new.batches)) waiting) st waiting (e ∷ past)
+    → FitsNumbers c me new.view (new.start + length new.batches) (assigned_in c new.batches)
+    (map (arrived (assigned_in c new.batches)) waiting) st waiting (e ∷ past)
 
 -- ---- entries that assign no number
 
@@ -145,10 +145,10 @@ pub record KeepsNumbers (c : Configuration) (me v : ℕ) (past : List Entry) (e 
 -- Data that fit still fit after such an entry.
 abbrev pub NumbersStay : Type 0
 NumbersStay =
-    (c : Configuration) (me v used : ℕ) (begun : List BegunCall) (entries : List Waiting) (st : State)
+    (c : Configuration) (me v used : ℕ) (assigned : List AssignedCall) (entries : List Waiting) (st : State)
     (waiting : List Call) (past : List Entry) (e : Entry)
-    → KeepsNumbers c me v past e → FitsNumbers c me v used begun entries st waiting past
-    → FitsNumbers c me v used begun entries st waiting (e ∷ past)
+    → KeepsNumbers c me v past e → FitsNumbers c me v used assigned entries st waiting past
+    → FitsNumbers c me v used assigned entries st waiting (e ∷ past)
 
 -- the message is a pre-prepare
 abbrev pub is_pre_prepare : Message → Bool
@@ -182,42 +182,43 @@ AreCalls c frames calls = map (call_of c) frames ≡ map Some calls
 -- The oldest requests without a number, up to the given count, get the next one.
 abbrev pub NumbersFit : Type 0
 NumbersFit =
-    (c : Configuration) (me v used i most : ℕ) (begun : List BegunCall) (entries : List Waiting) (st : State)
+    (c : Configuration) (me v used i most : ℕ) (assigned : List AssignedCall) (entries : List Waiting) (st : State)
     (waiting : List Call) (batch bytes : List ℕ) (past : List Entry)
     → primary c v ≡ me → IsFree c me past st.number v i → are_genuine c me batch ≡ true
     → AreCalls c (requests_of batch) (calls_of (take most (unnumbered entries)))
     → said bytes ≡ Some (record { sender = me; message = PrePrepare v i batch })
-    → FitsNumbers c me v used begun entries st waiting past
+    → FitsNumbers c me v used assigned entries st waiting past
     → NumbersOnce c me past (Sent me bytes)
-    × FitsNumbers c me v i begun (with_numbered most entries) st waiting (Sent me bytes ∷ past)
+    × FitsNumbers c me v i assigned (with_numbered most entries) st waiting (Sent me bytes ∷ past)
 
 -- ---- the waiting requests change
 
 -- the waiting requests after the call arrived, which replaces its client's older one
-abbrev pub entries_with : List BegunCall → State → List Waiting → Call → List Waiting
-entries_with begun st entries call =
+abbrev pub entries_with : List AssignedCall → State → List Waiting → Call → List Waiting
+entries_with assigned st entries call =
     if nat_lt (last_time st call.client) call.timestamp && list_all (is_newer call) (calls_of entries)
-    then filter (λ w. not (w.call.client == call.client)) entries ++ arrived begun call ∷ [] else entries
+    then filter (λ w. not (w.call.client == call.client)) entries ++ arrived assigned call ∷ [] else entries
 
 -- A received request waits, if it is newer.
 abbrev pub RequestsFit : Type 0
 RequestsFit =
-    (c : Configuration) (me v used : ℕ) (begun : List BegunCall) (entries : List Waiting) (st : State)
+    (c : Configuration) (me v used : ℕ) (assigned : List AssignedCall) (entries : List Waiting) (st : State)
     (waiting : List Call) (history : List Entry) (call : Call)
-    → FitsNumbers c me v used begun entries st waiting history
-    → FitsNumbers c me v used begun (entries_with begun st entries call) st (with_waiting st waiting call) history
+    → FitsNumbers c me v used assigned entries st waiting history
+    → FitsNumbers c me v used assigned (entries_with assigned st entries call) st (with_waiting st waiting call) history
 
 -- the same of received bytes, which may be a request
-abbrev pub entries_after : Configuration → ℕ → List BegunCall → State → List Waiting → List ℕ → List Waiting
-entries_after c me begun st entries bytes =
-    option_map_or (entries_with begun st entries) (option_and_then (call_in c) (authentic (members c) me bytes)) entries
+abbrev pub entries_after : Configuration → ℕ → List AssignedCall → State → List Waiting → List ℕ → List Waiting
+entries_after c me assigned st entries bytes =
+    option_map_or (entries_with assigned st entries) (option_and_then (call_in c) (authentic (members c) me bytes))
+    entries
 
 abbrev pub InputsKeepNumbers : Type 0
 InputsKeepNumbers =
-    (c : Configuration) (me v used : ℕ) (begun : List BegunCall) (entries : List Waiting) (point : Point)
+    (c : Configuration) (me v used : ℕ) (assigned : List AssignedCall) (entries : List Waiting) (point : Point)
     (history : List Entry) (bytes : List ℕ)
-    → FitsNumbers c me v used begun entries point.state point.waiting history
-    → FitsNumbers c me v used begun (entries_after c me begun point.state entries bytes) point.state
+    → FitsNumbers c me v used assigned entries point.state point.waiting history
+    → FitsNumbers c me v used assigned (entries_after c me assigned point.state entries bytes) point.state
     (waiting_after c me point bytes) history
 
 -- no client's last timestamp falls
@@ -231,10 +232,10 @@ still_entries st entries = filter (λ w. nat_lt (last_time st w.call.client) w.c
 -- Another state replaces the executed one: the requests that it has run wait no more.
 abbrev pub StatesFit : Type 0
 StatesFit =
-    (c : Configuration) (me v used : ℕ) (begun : List BegunCall) (entries : List Waiting) (old new : State)
+    (c : Configuration) (me v used : ℕ) (assigned : List AssignedCall) (entries : List Waiting) (old new : State)
     (waiting : List Call) (history : List Entry)
-    → NoneFalls old new → FitsNumbers c me v used begun entries old waiting history
-    → FitsNumbers c me v used begun (still_entries new entries) new (still_waiting new waiting) history
+    → NoneFalls old new → FitsNumbers c me v used assigned entries old waiting history
+    → FitsNumbers c me v used assigned (still_entries new entries) new (still_waiting new waiting) history
 
 -- The execution of a batch is such a change.
 abbrev pub ExecutionsRaise : Type 0
@@ -267,17 +268,17 @@ IsNextFree c me history used executed =
 -- Then it is free.
 abbrev pub NextIsFree : Type 0
 NextIsFree =
-    (c : Configuration) (me v used : ℕ) (begun : List BegunCall) (entries : List Waiting) (st : State)
+    (c : Configuration) (me v used : ℕ) (assigned : List AssignedCall) (entries : List Waiting) (st : State)
     (waiting : List Call) (history : List Entry)
-    → FitsNumbers c me v used begun entries st waiting history → IsNextFree c me history used st.number
+    → FitsNumbers c me v used assigned entries st waiting history → IsNextFree c me history used st.number
     → IsFree c me history st.number v (next_number c me history used)
 
 -- If the next number may not be assigned, or all waiting requests have one, the replica owes no number.
 abbrev pub NumbersAreAssigned : Type 0
 NumbersAreAssigned =
-    (c : Configuration) (me v used : ℕ) (begun : List BegunCall) (entries : List Waiting) (st : State)
+    (c : Configuration) (me v used : ℕ) (assigned : List AssignedCall) (entries : List Waiting) (st : State)
     (waiting : List Call) (history : List Entry)
-    → FitsNumbers c me v used begun entries st waiting history
+    → FitsNumbers c me v used assigned entries st waiting history
     → (IsNextFree c me history used st.number → count_unnumbered entries ≡ 0)
     → (i : ℕ) (call : Call) → Has (λ x. x ≡ call) waiting → IsFree c me history st.number v i
     → IsNumbered c me history v call.client call.timestamp

@@ -17,7 +17,7 @@ use Rattle.protocol.specs.System.Trace.{Entry, Once, Has}
 use Rattle.protocol.specs.System.Trace.Entry.{Executed, Installed, Sent}
 use Rattle.protocol.specs.Replica.State.{State, IsReplicatedState, Ran, last_time, execute, ran_in, root_of, pages_of}
 use Rattle.protocol.specs.Replica.RightReplica.{others, IsFree, reply_of, still_waiting}
-use Rattle.protocol.specs.Replica.Owed.{IsSending, SendsMessage, HasRequest, IsNumbered, AreDifferent, IsBegunBelow}
+use Rattle.protocol.specs.Replica.Owed.{IsSending, SendsMessage, HasRequest, IsNumbered, AreDifferent, IsAssignedBelow}
 use Rattle.state_transfer.specs.Transfer.{TransferData}
 use Rattle.replica_histories.specs.Desk.{Desk, Snapshot, snapshot_of, kept_from, desk_from}
 use Rattle.replica_histories.specs.Marks.{checked_log}
@@ -192,7 +192,7 @@ BatchesGoAgain =
     (c : Configuration) (me : ℕ) (s : Start) (desk : Desk) (log : LogData) (due : List Message) (outputs : List Entry)
     (i : ℕ) (batch bytes : List ℕ)
     → log.active ≡ true → logs.primary log log.view ≡ me → logs.logged_batch log i ≡ Some batch
-    → IsBegunBelow c log.view i (after_outputs s outputs)
+    → IsAssignedBelow c log.view i (after_outputs s outputs)
     → (SendsMessage me (PrePrepare log.view i batch) outputs → ⊥)
     → IsOutgoing c me (PrePrepare log.view i batch) (others c me) bytes
     → BothFitWithinEvent c me s desk log due outputs → BothFitWithinEvent c me s desk log due (Sent me bytes ∷ outputs)

@@ -21,8 +21,8 @@ FrameGoes me frame outputs = Has (λ e. e ≡ Sent me frame) outputs
 
 -- The replica sends the log's own prepare and commit of a number, and the primary's batch, if it is above those of the
 -- new view.
-pub record RowGoes (me : ℕ) (log : LogData) (begun i : ℕ) (outputs : List Entry) : Type 0 where
-  pub batch : (batch : List ℕ) → logs.primary log log.view ≡ me → begun < i → logs.logged_batch log i ≡ Some batch
+pub record RowGoes (me : ℕ) (log : LogData) (assigned i : ℕ) (outputs : List Entry) : Type 0 where
+  pub batch : (batch : List ℕ) → logs.primary log log.view ≡ me → assigned < i → logs.logged_batch log i ≡ Some batch
       → SendsMessage me (PrePrepare log.view i batch) outputs
   pub prepare : (digest : List ℕ) → logs.prepare_of log i me ≡ Some digest
       → SendsMessage me (Prepare log.view i digest) outputs
@@ -32,7 +32,7 @@ pub record RowGoes (me : ℕ) (log : LogData) (begun i : ℕ) (outputs : List En
 -- It does so for the numbers above the executed one, and sends its own new view and its last checkpoint.
 pub record ViewGoes (me : ℕ) (log : LogData) (x : Changes) (executed : ℕ) (outputs : List Entry) : Type 0 where
   pub new_view : (frame : List ℕ) → x.new_view ≡ Some frame → FrameGoes me frame outputs
-  pub rows : (i : ℕ) → executed < i → i ≤ log.low + log.span → RowGoes me log x.begun i outputs
+  pub rows : (i : ℕ) → executed < i → i ≤ log.low + log.span → RowGoes me log x.assigned i outputs
   pub checkpoint : (m : CheckpointEntry) → x.last_checkpoint ≡ Some m
       → SendsMessage me (Checkpoint m.number m.digest) outputs
 

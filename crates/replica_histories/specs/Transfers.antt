@@ -86,9 +86,9 @@ IsTold t = (digests : List (List ℕ)) × (t.part_digests ≡ Some digests)
 
 -- The transfer that is open at a replica of this executed number is above that number. If none is open, nothing above
 -- the number was fetched, and no page is taken.
-abbrev pub FitsOpenTransfer : Configuration → ℕ → Option TransferData → ℕ → List Entry → Type 0
-FitsOpenTransfer c me None number history = (fetching history ≤ number) × NoneTaken c me None history
-FitsOpenTransfer c me (Some t) number history = FitsTransfer c me t history × (number < t.number)
+abbrev pub FitsStateTransfer : Configuration → ℕ → Option TransferData → ℕ → List Entry → Type 0
+FitsStateTransfer c me None number history = (fetching history ≤ number) × NoneTaken c me None history
+FitsStateTransfer c me (Some t) number history = FitsTransfer c me t history × (number < t.number)
 
 -- The pages that were not fetched are the state's.
 abbrev pub RestsOnState : TransferData → State → Type 0
@@ -130,7 +130,7 @@ DigestsCount =
     (c : Configuration) (me : ℕ) (t : TransferData) (history : List Entry) (point : Point) (bytes : List ℕ) (s : ℕ)
     (place : Place) (digests : List (List ℕ))
     → t.asked ≡ place → wanted t place ≡ Some (digest_of_children digests)
-    → FitsOpenTransfer c me (Some t) point.state.number history
+    → FitsStateTransfer c me (Some t) point.state.number history
     → Counts c me history point bytes s (Meta t.number place.level place.index digests)
 
 abbrev pub PagesCount : Type 0
@@ -138,7 +138,7 @@ PagesCount =
     (c : Configuration) (me : ℕ) (t : TransferData) (history : List Entry) (point : Point) (bytes : List ℕ)
     (s index : ℕ) (text : List ℕ)
     → t.asked ≡ page_place index → wanted t (page_place index) ≡ Some (sha256 text)
-    → FitsOpenTransfer c me (Some t) point.state.number history
+    → FitsStateTransfer c me (Some t) point.state.number history
     → Counts c me history point bytes s (Page t.number index text)
 
 -- ---- laws: from one entry to the next
@@ -163,16 +163,16 @@ LeavesState e = elim e [ Executed r n batch ↦ ⊥ | Installed r n root ↦ ⊥
 abbrev pub OpenStays : Type 0
 OpenStays =
     (c : Configuration) (me : ℕ) (open_one : Option TransferData) (number : ℕ) (past : List Entry) (e : Entry)
-    → place_sent e ≡ None → LeavesState e → FitsOpenTransfer c me open_one number past
-    → FitsOpenTransfer c me open_one number (e ∷ past)
+    → place_sent e ≡ None → LeavesState e → FitsStateTransfer c me open_one number past
+    → FitsStateTransfer c me open_one number (e ∷ past)
 
 -- An execution ends a transfer up to its number, and leaves one above it.
 abbrev pub OpenExecutes : Type 0
 OpenExecutes =
     (c : Configuration) (me : ℕ) (open_one : Option TransferData) (number later : ℕ) (past : List Entry)
     (batch : List ℕ)
-    → number ≤ later → FitsOpenTransfer c me open_one number past
-    → FitsOpenTransfer c me (still_open later open_one) later (Executed me later batch ∷ past)
+    → number ≤ later → FitsStateTransfer c me open_one number past
+    → FitsStateTransfer c me (still_open later open_one) later (Executed me later batch ∷ past)
 
 -- ---- laws: the parts that a transfer takes
 
@@ -194,8 +194,8 @@ DigestsOpen =
     → authentic (members c) me bytes
     ≡ Some (record { sender = s; message = Meta n place.level place.index digests })
     → wanted t place ≡ Some (digest_of_children digests)
-    → FitsOpenTransfer c me (Some t) number past
-    → FitsOpenTransfer c me (Some (with_digests t place digests)) number (Got me bytes ∷ past)
+    → FitsStateTransfer c me (Some t) number past
+    → FitsStateTransfer c me (Some (with_digests t place digests)) number (Got me bytes ∷ past)
 
 -- After them the transfer may ask for any place, since no page arrived.
 abbrev pub DigestsMayAsk : Type 0
@@ -205,7 +205,7 @@ DigestsMayAsk =
     → authentic (members c) me bytes
     ≡ Some (record { sender = s; message = Meta n place.level place.index digests })
     → wanted t place ≡ Some (digest_of_children digests)
-    → FitsOpenTransfer c me (Some t) number past
+    → FitsStateTransfer c me (Some t) number past
     → TransferMayAsk c me (with_digests t place digests) number (Got me bytes ∷ past)
 
 -- A received page that was asked for last is taken by an event that goes on.
@@ -215,14 +215,14 @@ PagesMayAsk =
     (s index : ℕ) (text : List ℕ)
     → authentic (members c) me bytes ≡ Some (record { sender = s; message = Page t.number index text })
     → t.asked ≡ page_place index → length t.held ≡ PAGES → length t.fetched ≡ PAGES
-    → FitsOpenTransfer c me (Some t) number past
+    → FitsStateTransfer c me (Some t) number past
     → TransferMayAsk c me (with_page t index text) number (Got me bytes ∷ past)
 
 -- After a tick the open transfer may ask again.
 abbrev pub TicksMayAsk : Type 0
 TicksMayAsk =
     (c : Configuration) (me : ℕ) (t : TransferData) (number : ℕ) (st : State) (past : List Entry)
-    → FitsOpenTransfer c me (Some t) number past
+    → FitsStateTransfer c me (Some t) number past
     → TransferMayAsk c me t number (Tick me ∷ past) × AsksNext c me t st (Tick me ∷ past)
 
 -- A page that is given back leaves the transfer as it was.
@@ -237,7 +237,7 @@ PagesRested =
     (c : Configuration) (me : ℕ) (pages : List (List ℕ)) (old new : TransferData) (number : ℕ)
     (history : List Entry)
     → IsRested old pages new
-    → (FitsOpenTransfer c me (Some old) number history → FitsOpenTransfer c me (Some new) number history)
+    → (FitsStateTransfer c me (Some old) number history → FitsStateTransfer c me (Some new) number history)
     × (TransferMayAsk c me old number history → TransferMayAsk c me new number history)
 
 -- ---- laws: a transfer starts, moves, and asks
@@ -264,14 +264,14 @@ abbrev pub QuorumsOpen : Type 0
 QuorumsOpen =
     (c : Configuration) (me : ℕ) (open_one : Option TransferData) (number k : ℕ) (root : List ℕ)
     (pages : List (List ℕ)) (st : State) (history : List Entry)
-    → HasQuorum c history k root → open_number number open_one < k → FitsOpenTransfer c me open_one number history
+    → HasQuorum c history k root → open_number number open_one < k → FitsStateTransfer c me open_one number history
     → TransferMayAsk c me (transfer_to open_one k root pages) number history
     × AsksNext c me (transfer_to open_one k root pages) st history
 
 abbrev pub LowerAreFetched : Type 0
 LowerAreFetched =
     (c : Configuration) (me : ℕ) (open_one : Option TransferData) (number k : ℕ) (history : List Entry)
-    → number < k → k ≤ open_number number open_one → FitsOpenTransfer c me open_one number history
+    → number < k → k ≤ open_number number open_one → FitsStateTransfer c me open_one number history
     → k ≤ fetching history
 
 -- A transfer that may ask may ask for any place.
@@ -300,7 +300,7 @@ abbrev pub TransfersAsk : Type 0
 TransfersAsk =
     (c : Configuration) (me : ℕ) (t : TransferData) (number : ℕ) (past : List Entry) (bytes : List ℕ)
     → said bytes ≡ Some (record { sender = me; message = Fetch t.number t.asked.level t.asked.index })
-    → TransferMayAsk c me t number past → FitsOpenTransfer c me (Some t) number (Sent me bytes ∷ past)
+    → TransferMayAsk c me t number past → FitsStateTransfer c me (Some t) number (Sent me bytes ∷ past)
 
 -- ---- laws: the pages that are not fetched are the state's
 
@@ -335,4 +335,4 @@ TransfersInstall =
     → TransferMayAsk c me t point.state.number past → RestsOnState t point.state → root_of_pages t.held ≡ t.root
     → IsReplicatedState st → st.number ≡ t.number → pages_of st ≡ t.held
     → IsStep c me past point (Installed me t.number t.root) (installed_point point st)
-    × FitsOpenTransfer c me None st.number (Installed me t.number t.root ∷ past)
+    × FitsStateTransfer c me None st.number (Installed me t.number t.root ∷ past)

@@ -17,8 +17,8 @@ use Rattle.protocol.specs.Replica.Selection.{is_within}
 use Rattle.protocol.specs.Replica.Certificates.{view, target, taken, latest_change}
 use Rattle.protocol.specs.Replica.RightReplica.{Point, HasSeen, SentBefore, HasOwnLeaf, IsPreparedList, IsPrePreparedList, TimesOut, JoinsOthers, sought_view, HistoryReaches, IsNewViewChange, kept_states}
 use Rattle.protocol.specs.Replica.Owed.{SendsMessage, Counts}
-use Rattle.claims.specs.ClaimsView.{ClaimsData}
-use Rattle.replica_histories.specs.Claims.{FitsClaims}
+use Rattle.pq_sets.specs.PqSetsView.{PqSetsData}
+use Rattle.replica_histories.specs.PqSets.{FitsPqSets}
 use Rattle.replica_histories.specs.Desk.{Desk, Snapshot, desk_from, snapshot_of}
 use Rattle.replica_histories.specs.Logs.{FitsLog}
 use Rattle.replica_histories.specs.Transfers.{TransferMayAsk, AsksNext, transfer_to, open_number}
@@ -68,17 +68,17 @@ ViewChangesFit =
 abbrev pub NewChangesAreOne : Type 0
 NewChangesAreOne =
     (c : Configuration) (me : ℕ) (desk : Desk) (log : LogData) (history : List Entry) (point now : Point)
-    (claims : ClaimsData) (sender : ℕ) (vc : ViewChangeData) (bytes : List ℕ)
+    (pq_sets : PqSetsData) (sender : ℕ) (vc : ViewChangeData) (bytes : List ℕ)
     → FitsLog c me log history → HistoryReaches c me history now → ((i : ℕ) → logs.due_commit log i ≡ None)
-    → map snapshot_of (kept_states log.low point.snapshots) ≡ desk.snapshots → FitsClaims c me history claims
+    → map snapshot_of (kept_states log.low point.snapshots) ≡ desk.snapshots → FitsPqSets c me history pq_sets
     → IsNewViewChange c me history point vc
     → said bytes ≡ Some (record { sender = sender; message = ViewChange vc })
     → vc ≡ record {
       view = vc.view;
       low = log.low;
       checkpoints = entries_of desk.snapshots;
-      prepared = claims.prepared;
-      pre_prepared = claims.logged;
+      prepared = pq_sets.prepared;
+      pre_prepared = pq_sets.logged;
     }
 
 -- An inactive replica may send its last view change again, if the event has not sent it.
@@ -100,8 +100,8 @@ with_batches log i (batch ∷ batches) =
     with_batches (if logs.is_in_marks log i then logs.with_batch log i batch else log) (suc i) batches
 
 -- the log when a new view begins: in its view, cut at its start, with its batches
-abbrev pub begun_log : LogData → NewViewData → LogData
-begun_log log new = with_batches (logs.cut_to (logs.entered log new.view) new.start) (suc new.start) new.batches
+abbrev pub entered_log : LogData → NewViewData → LogData
+entered_log log new = with_batches (logs.cut_to (logs.entered log new.view) new.start) (suc new.start) new.batches
 
 -- The fetch of the state at its start is due, if that is above the executed state and the open transfer.
 abbrev pub start_due : Desk → NewViewData → List Message
@@ -115,8 +115,8 @@ NewViewsEnter =
     (bytes : List ℕ) (held : BothFitBetweenEvents c me desk log past)
     → authentic (members c) me bytes ≡ Some (record { sender = s; message = NewView new })
     → taken c past (Got me bytes) ≡ Some new
-    → BothFitWithinEvent c me (start_at c me desk log past held (Got me bytes)) (desk_from (begun_log log new).low desk)
-    (begun_log log new) (start_due desk new) []
+    → BothFitWithinEvent c me (start_at c me desk log past held (Got me bytes))
+    (desk_from (entered_log log new).low desk) (entered_log log new) (start_due desk new) []
 
 -- The primary of a view may send a new view that it would take if it received it. The new view is over view changes and
 -- requests that it has seen, and has a leaf of its own. Nothing is due, the log asks for no commit, and no batch is
@@ -131,7 +131,7 @@ NewViewsFit =
     → Each (λ frame. Once (HasSeen frame) (after_outputs s outputs)) (carried (NewView new))
     → IsOutgoing c me (NewView new) [] bytes → HasOwnLeaf bytes (after_outputs s outputs)
     → BothFitWithinEvent c me s desk log [] outputs
-    → BothFitWithinEvent c me s (desk_from (begun_log log new).low desk) (begun_log log new) (start_due desk new)
+    → BothFitWithinEvent c me s (desk_from (entered_log log new).low desk) (entered_log log new) (start_due desk new)
     (Sent me bytes ∷ outputs)
 
 -- It may send it again while it is active in its view, if the event has not sent it.

@@ -1,7 +1,7 @@
 //! Laws of a replica's view-change data.
 
-ghost use Rattle.replica_histories.specs.Changes.{ChangesBegin, ChangesStay, CheckpointsAreNoted, CheckpointsAreLatest, CommitsAreClaimed, BatchesAreClaimed, ChangesAreSent, ChangesAreTaken, ViewsAreBegun, SentKeep, SilentKeep, GotKeep, ReceivedKeep, OthersBringNone, ReceivedAreSigned, OwnAreSigned, ClaimsAreAbove, OutputsPass, InputsEnter, AllAreSpent, NextLeafIsOwn};
-ghost use Rattle.replica_histories.specs.Primaries.{ClaimedSelectNothing, FewerSelectNothing, NoViewsAreLeft};
+ghost use Rattle.replica_histories.specs.Changes.{ChangesBegin, ChangesStay, CheckpointsAreNoted, CheckpointsAreLatest, CommitsEnterP, BatchesEnterQ, ChangesAreSent, ChangesAreTaken, ChangesFollowNewViews, SentKeep, SilentKeep, GotKeep, ReceivedKeep, OthersBringNone, ReceivedAreSigned, OwnAreSigned, PqSetsAreAbove, OutputsPass, InputsEnter, AllAreSpent, NextLeafIsOwn};
+ghost use Rattle.replica_histories.specs.Primaries.{QSelectsNothing, FewerSelectNothing, NoViewsAreLeft};
 
 /// The logs fit the histories before and after each entry.
 pub fn entries_pass()
@@ -22,14 +22,14 @@ pub fn entries_keep_changes()
     ensures own { OwnAreSigned }
 {}
 
-/// A replica's view-change data fit its history from entry to entry. They stay if an entry changes nothing, and claim
-/// each batch that is logged or committed (Castro and Liskov, TOCS 2002, on view changes).
+/// A replica's view-change data fit its history from entry to entry. They stay if an entry changes nothing. Each
+/// batch that is logged or committed enters Q or P (Castro and Liskov, TOCS 2002, on view changes).
 pub fn changes_stay()
     ensures begin { ChangesBegin }
     ensures stay { ChangesStay }
-    ensures above { ClaimsAreAbove }
-    ensures commits { CommitsAreClaimed }
-    ensures batches { BatchesAreClaimed }
+    ensures above { PqSetsAreAbove }
+    ensures commits { CommitsEnterP }
+    ensures batches { BatchesEnterQ }
 {}
 
 /// The checkpoint of the executed state is the replica's latest once it is sent, and the data note it.
@@ -42,7 +42,7 @@ pub fn checkpoints_are_noted()
 pub fn changes_are_made()
     ensures sent { ChangesAreSent }
     ensures taken { ChangesAreTaken }
-    ensures begun { ViewsAreBegun }
+    ensures entered { ChangesFollowNewViews }
 {}
 
 /// Leaves sign in their order: the next one has signed no sent frame, and each one before it has signed one. So the
@@ -53,9 +53,9 @@ pub fn leaves_are_spent()
 {}
 
 /// A primary may select nothing over its stored view changes for the view that it moves to, with a batch of each
-/// claimed digest. Then it has no new view left to send by its history (Castro and Liskov, TOCS 2002, on view changes).
+/// digest in Q. Then it has no new view left to send by its history (Castro and Liskov, TOCS 2002, on view changes).
 pub fn no_views_are_left()
-    ensures claimed { ClaimedSelectNothing }
+    ensures in_q { QSelectsNothing }
     ensures fewer { FewerSelectNothing }
     ensures none { NoViewsAreLeft }
 {}

@@ -168,7 +168,7 @@ pub fn kept_are_one()
 pub fn fetches_are_answered()
     ensures counts { FetchesCount }
     ensures may { AnswersMayGo }
-    ensures posted { OutgoingToOne }
+    ensures is_outgoing { OutgoingToOne }
     ensures suffice { AnswersSuffice }
     ensures unkept { NoneIsOwed }
     ensures stay { AnswersStay }

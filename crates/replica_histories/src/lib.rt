@@ -27,18 +27,16 @@
 //! of a kept state, of which no two have one number, gets it ([`parts_fit`], [`kept_are_one`],
 //! [`fetches_are_answered`]).
 //!
-//! Such a replica owes all but one part of what the crate `protocol` asks of a correct replica ([`owed_in_parts`]):
-//! reads are the other.
-//!
 //! A replica leaves its view by a view change that the history determines ([`views_change`]), and enters a later one by
 //! a new view that it takes, or sends as the primary ([`views_begin`]). The log then has the new view's batches, and
 //! the batches that were committed in earlier views. For its own view changes it keeps the batches that it logged and
-//! those that it committed ([`claims_are_kept`]), and of each other replica it stores the latest view change that
+//! those that it committed ([`pq_sets_are_kept`]), and of each other replica it stores the latest view change that
 //! counted ([`changes_are_held`]).
 //!
 //! Its view-change data go from entry to entry ([`entries_pass`]). They stay if an entry changes nothing
-//! ([`entries_keep_changes`]), and claim the batches that are logged and committed ([`changes_stay`]). They have the
-//! view changes that the replica sends and takes, and the new view that begins the view ([`changes_are_made`]).
+//! ([`entries_keep_changes`]). The batches that are logged and committed enter Q and P ([`changes_stay`]). The data
+//! have the view changes that the replica sends and takes, and the new view that begins the view
+//! ([`changes_are_made`]).
 //!
 //! The replica has one view change to send ([`views_change`]), and others move it to a view exactly if the history says
 //! so ([`changes_are_held`]). Each spent key signed a sent frame. If the replica selects nothing over its data, it has
@@ -51,7 +49,7 @@
 //! - Rows up to the low mark, whose own votes were sent, are forgotten, and so are checkpoints up to it. Those above
 //!   the mark are the same in log and history. So the history tells which waiting requests have numbers
 //!   (`FitsNumbers`).
-//! - A transfer on the desk is the plain data of `state_transfer`, and `FitsOpenTransfer` ties it to the history. Its
+//! - A transfer on the desk is the plain data of `state_transfer`, and `FitsStateTransfer` ties it to the history. Its
 //!   place was asked for last, for the greatest number of all. The log may count a quorum of checkpoints above the
 //!   executed state and the open transfer. Then the fetch of its root is due in that event (`fetch_due`,
 //!   `FetchesQuorums`). So between events each such quorum was fetched (`QuorumsFetched`). The transfer that the fetch
@@ -80,4 +78,4 @@ pub use laws::{
     parts_fit, quorums_are_fetched, reads_fit, transfers_ask, transfers_begin, transfers_install,
     transfers_stay, waiting_keeps_numbers,
 };
-pub use views::{changes_are_held, claims_are_kept, views_begin, views_change};
+pub use views::{changes_are_held, pq_sets_are_kept, views_begin, views_change};

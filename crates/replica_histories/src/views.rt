@@ -1,6 +1,6 @@
 //! Laws of views: how a replica leaves its view and begins a later one.
 
-ghost use Rattle.replica_histories.specs.Claims.{ClaimsBegin, ClaimsGrow, ClaimsAreLists, NoBatchAdds, NoCommitAdds, BatchAdds, CommitAdds, LoggedAreSeen};
+ghost use Rattle.replica_histories.specs.PqSets.{PqSetsBegin, PqSetsGrow, PqSetsAreLists, NoBatchAdds, NoCommitAdds, BatchAdds, CommitAdds, LoggedAreSeen};
 ghost use Rattle.replica_histories.specs.Received.{ReceivedBegin, ReceivedStays, SentBringNone, UnsignedBringNone, RefusedBringNone, ReceivedTakes, ReceivedOwn, HeldAreJoined, AheadAreHeld};
 ghost use Rattle.replica_histories.specs.Views.{TicksAreReasons, ViewChangesFit, NewChangesAreOne, ViewChangesGoAgain, NewViewsEnter, NewViewsFit, NewViewsGoAgain, StartsMayAsk, ViewChangesCount};
 
@@ -30,10 +30,10 @@ pub fn views_begin()
 /// For its view changes a replica keeps the batches that it logged and those that it committed, and each entry adds its
 /// batches and own commits. If the log asks for no commit, these are the lists of a view change. The requests of logged
 /// batches were seen (Castro and Liskov, TOCS 2002, on the sets P and Q of view changes).
-pub fn claims_are_kept()
-    ensures begin { ClaimsBegin }
-    ensures grow { ClaimsGrow }
-    ensures lists { ClaimsAreLists }
+pub fn pq_sets_are_kept()
+    ensures begin { PqSetsBegin }
+    ensures grow { PqSetsGrow }
+    ensures lists { PqSetsAreLists }
     ensures no_batch { NoBatchAdds }
     ensures no_commit { NoCommitAdds }
     ensures batch { BatchAdds }

@@ -1,7 +1,7 @@
 //! The frames of a run of requests, `out (n)` of client n - 1 at the number n, and of checkpoints and transfers of
 //! its states and views. They are written by docs/formats.md without the code that reads them.
 
-use crate::signed::{Begun, Change, change_frame, new_view_frame};
+use crate::signed::{Change, NewViewCase, change_frame, new_view_frame};
 use crate::states::{At, PAGE, State, put_children, put_page, put_root};
 use std::alloc::Global;
 use test_bytes::{
@@ -34,7 +34,7 @@ pub enum Sent {
     /// The part of this state, from a replica to another one.
     Part(u8, State, At, u8, u8),
     ViewChange(&'static Change),
-    NewView(&'static Begun),
+    NewView(&'static NewViewCase),
     /// No frame: time goes by.
     Nothing,
 }
@@ -215,7 +215,7 @@ fn sealed_frame(alloc: Global, sent: Sent) -> Buffer {
 pub fn frame_of(alloc: Global, sent: Sent) -> Buffer {
     match sent {
         Sent::ViewChange(change) => change_frame(alloc, change),
-        Sent::NewView(begun) => new_view_frame(alloc, begun),
+        Sent::NewView(case) => new_view_frame(alloc, case),
         _ => sealed_frame(alloc, sent),
     }
 }
@@ -256,7 +256,7 @@ pub fn receivers_of(sent: Sent) -> &'static [u16] {
         Sent::Reply(number, _) => only(&CLIENTS, client_of(number)),
         Sent::Part(_, _, _, _, to) => only(&REPLICAS, to),
         Sent::ViewChange(change) => others_of(change.sender),
-        Sent::NewView(begun) => others_of(begun.sender),
+        Sent::NewView(case) => others_of(case.sender),
         Sent::Nothing => &[],
     }
 }

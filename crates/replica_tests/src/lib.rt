@@ -8,8 +8,6 @@ mod answers;
 #[cfg(test)]
 mod checkpoints;
 #[cfg(test)]
-mod claims_in_views;
-#[cfg(test)]
 mod desks;
 #[cfg(test)]
 mod dropped;
@@ -17,6 +15,8 @@ mod dropped;
 mod frames;
 #[cfg(test)]
 mod phases;
+#[cfg(test)]
+mod pq_sets_in_views;
 #[cfg(test)]
 mod refused;
 #[cfg(test)]

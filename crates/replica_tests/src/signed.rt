@@ -9,7 +9,7 @@ use terms::{Party, ReplicaId};
 use test_bytes::{Buffer, FRAME_SEED};
 
 /// A number and a view: the run's batch of this number was prepared, or logged, in this view.
-pub type Claim = (u8, u8);
+pub type PqEntry = (u8, u8);
 
 /// A view change.
 #[derive(Clone, Copy)]
@@ -21,15 +21,15 @@ pub struct Change {
     pub low: u8,
     /// Of the numbers of these states it keeps the checkpoints.
     pub kept: &'static [u8],
-    pub prepared: &'static [Claim],
-    pub logged: &'static [Claim],
+    pub prepared: &'static [PqEntry],
+    pub logged: &'static [PqEntry],
     /// Whether its signature is wrong.
     pub is_forged: bool,
 }
 
 /// A new view.
 #[derive(Clone, Copy)]
-pub struct Begun {
+pub struct NewViewCase {
     pub sender: u8,
     pub leaf: u8,
     pub view: u8,
@@ -78,17 +78,17 @@ pub fn put_count(count: usize, out: &mut Buffer) {
     out.put_byte((count & 0xff) as u8);
 }
 
-fn put_claim(alloc: Global, (number, view): Claim, out: &mut Buffer) {
+fn put_pq_entry(alloc: Global, (number, view): PqEntry, out: &mut Buffer) {
     out.put_number(u64::from(number));
     put_digest(alloc, number, out);
     out.put_number(u64::from(view));
 }
 
-fn put_claims(alloc: Global, claims: &[Claim], out: &mut Buffer) {
+fn put_pq_set(alloc: Global, pq_sets: &[PqEntry], out: &mut Buffer) {
     out.put_byte(0);
-    put_count(claims.len(), out);
-    for claim in claims {
-        put_claim(alloc, *claim, out);
+    put_count(pq_sets.len(), out);
+    for pq_entry in pq_sets {
+        put_pq_entry(alloc, *pq_entry, out);
     }
 }
 
@@ -108,8 +108,8 @@ fn put_change(alloc: Global, change: &Change, out: &mut Buffer) {
     put_front(0x46, change.sender, change.view, out);
     out.put_number(u64::from(change.low));
     put_checkpoints(alloc, change.kept, out);
-    put_claims(alloc, change.prepared, out);
-    put_claims(alloc, change.logged, out);
+    put_pq_set(alloc, change.prepared, out);
+    put_pq_set(alloc, change.logged, out);
 }
 
 /// The frame of a view change.
@@ -141,16 +141,16 @@ fn put_batches(alloc: Global, batches: &[u8], out: &mut Buffer) {
     }
 }
 
-fn put_new_view(alloc: Global, begun: &Begun, out: &mut Buffer) {
-    put_front(0x47, begun.sender, begun.view, out);
-    put_changes(alloc, begun.changes, out);
-    put_checkpoint(alloc, begun.start, out);
-    put_batches(alloc, begun.batches, out);
+fn put_new_view(alloc: Global, case: &NewViewCase, out: &mut Buffer) {
+    put_front(0x47, case.sender, case.view, out);
+    put_changes(alloc, case.changes, out);
+    put_checkpoint(alloc, case.start, out);
+    put_batches(alloc, case.batches, out);
 }
 
 /// The frame of a new view.
-pub fn new_view_frame(alloc: Global, begun: &Begun) -> Buffer {
+pub fn new_view_frame(alloc: Global, case: &NewViewCase) -> Buffer {
     let mut body = Buffer::new(alloc);
-    put_new_view(alloc, begun, &mut body);
-    signed_by(alloc, (begun.sender, begun.leaf), &body, begun.is_forged)
+    put_new_view(alloc, case, &mut body);
+    signed_by(alloc, (case.sender, case.leaf), &body, case.is_forged)
 }

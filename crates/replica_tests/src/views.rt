@@ -3,7 +3,7 @@
 use crate::answers::holds;
 use crate::frames::Sent;
 use crate::replicas::{Given, Row, runs};
-use crate::signed::{Begun, Change};
+use crate::signed::{Change, NewViewCase};
 use crate::states::ROOT;
 
 /// The first view change, to view 1, of a replica that has ordered nothing.
@@ -100,7 +100,7 @@ const OF_3: Change = Change {
     ..NOTHING
 };
 
-const VIEW_2: Begun = Begun {
+const VIEW_2: NewViewCase = NewViewCase {
     sender: 2,
     leaf: 1,
     view: 2,
@@ -178,7 +178,7 @@ const FORGED: Change = Change {
     ..PREPARED_2
 };
 
-const RIGHT: Begun = Begun {
+const RIGHT: NewViewCase = NewViewCase {
     sender: 1,
     leaf: 0,
     view: 1,
@@ -193,67 +193,67 @@ const RIGHT: Begun = Begun {
 // with none, and with one more; from a state that nobody lists; with a wrong signature, and over a view change that
 // has one.
 static WRONG: [Row<'static>; 12] = [
-    (Sent::NewView(&Begun { sender: 2, ..RIGHT }), &[]),
-    (Sent::NewView(&Begun { view: 2, ..RIGHT }), &[]),
+    (Sent::NewView(&NewViewCase { sender: 2, ..RIGHT }), &[]),
+    (Sent::NewView(&NewViewCase { view: 2, ..RIGHT }), &[]),
     (
-        Sent::NewView(&Begun {
+        Sent::NewView(&NewViewCase {
             changes: &[PREPARED_0, PREPARED_1],
             ..RIGHT
         }),
         &[],
     ),
     (
-        Sent::NewView(&Begun {
+        Sent::NewView(&NewViewCase {
             changes: &[PREPARED_0, PREPARED_1, ELSEWHERE],
             ..RIGHT
         }),
         &[],
     ),
     (
-        Sent::NewView(&Begun {
+        Sent::NewView(&NewViewCase {
             changes: &[PREPARED_0, PREPARED_1, PREPARED_1],
             ..RIGHT
         }),
         &[],
     ),
     (
-        Sent::NewView(&Begun {
+        Sent::NewView(&NewViewCase {
             batches: &[0],
             ..RIGHT
         }),
         &[],
     ),
     (
-        Sent::NewView(&Begun {
+        Sent::NewView(&NewViewCase {
             batches: &[2],
             ..RIGHT
         }),
         &[],
     ),
     (
-        Sent::NewView(&Begun {
+        Sent::NewView(&NewViewCase {
             batches: &[],
             ..RIGHT
         }),
         &[],
     ),
     (
-        Sent::NewView(&Begun {
+        Sent::NewView(&NewViewCase {
             batches: &[1, 0],
             ..RIGHT
         }),
         &[],
     ),
-    (Sent::NewView(&Begun { start: 1, ..RIGHT }), &[]),
+    (Sent::NewView(&NewViewCase { start: 1, ..RIGHT }), &[]),
     (
-        Sent::NewView(&Begun {
+        Sent::NewView(&NewViewCase {
             is_forged: true,
             ..RIGHT
         }),
         &[],
     ),
     (
-        Sent::NewView(&Begun {
+        Sent::NewView(&NewViewCase {
             changes: &[PREPARED_0, PREPARED_1, FORGED],
             ..RIGHT
         }),
@@ -332,7 +332,7 @@ const AHEAD_2: Change = Change {
     ..AHEAD_0
 };
 
-const AHEAD: Begun = Begun {
+const AHEAD: NewViewCase = NewViewCase {
     sender: 1,
     leaf: 1,
     view: 1,

@@ -22,8 +22,8 @@ use Rattle.client_cert.specs.Fits as client_fits
 use Rattle.client_cert.specs.Steps as client_steps
 use Rattle.client_cert.specs.declared.client.Event.{Event as ClientEvent}
 use Rattle.client_cert.specs.declared.client.Event.TheVariants as client_events
-use Rattle.schedule_world.specs.declared.stage.Seat.{Seat}
-use Rattle.schedule_world.specs.Stages.{PartiesFitTrace, FitsReplica, FitsSeat}
+use Rattle.schedule_world.specs.declared.stage.StageClient.{StageClient}
+use Rattle.schedule_world.specs.Stages.{PartiesFitTrace, FitsReplica, FitsStageClient}
 use Rattle.schedule_world.specs.Moving.{AreOf, MovesReplica, MovesClient, ClientCalls}
 use Rattle.schedule_world.proofs.Projecting.{own_entry, other_entry, own_entries, other_entries}
 
@@ -47,19 +47,19 @@ replica_input p replica_events.Timeout = (refl, refl)
 abbrev pub AreNumbered : Configuration → List ReplicaData → Type 0
 AreNumbered c rs = (length rs ≡ replicas c) × ((p : ℕ) (d : ReplicaData) → p < length rs → replica_fits.me_of (get_or rs p d) ≡ p)
 
-pub are_replicas : (c : Configuration) (trace : List Entry) (rs : List ReplicaData) (seats : List Seat) (d : ReplicaData) → AreNumbered c rs → PartiesFitTrace c trace rs seats
+pub are_replicas : (c : Configuration) (trace : List Entry) (rs : List ReplicaData) (stage_clients : List StageClient) (d : ReplicaData) → AreNumbered c rs → PartiesFitTrace c trace rs stage_clients
     → (q : ℕ) → is_correct_replica c q ≡ true → IsReplica c q (history_of q trace)
-are_replicas c trace rs seats d numbered attend q correct =
+are_replicas c trace rs stage_clients d numbered attend q correct =
     let below = replica_below c q correct in
     subst (λ n. IsReplica c n (history_of q trace)) (numbered.1 q d (omega (arith, numbered.0, below))) (attend.replicas q d correct).0.0.right
 
-pub attend_replica : (c : Configuration) (trace : List Entry) (rs new : List ReplicaData) (seats : List Seat) (p : ℕ) (event : ReplicaEvent) (outs : List Output)
-    → IsConfiguration c → AreNumbered c rs → PartiesFitTrace c trace rs seats → is_correct_replica c p ≡ true → MovesReplica rs p event outs new → AreOf p (map (entry_of p) outs)
-    → PartiesFitTrace c (after_entries (map (entry_of p) outs) (replica_inputs.input_of p event ∷ trace)) new seats
-attend_replica c trace rs new seats p event outs valid numbered attend correct m of =
+pub attend_replica : (c : Configuration) (trace : List Entry) (rs new : List ReplicaData) (stage_clients : List StageClient) (p : ℕ) (event : ReplicaEvent) (outs : List Output)
+    → IsConfiguration c → AreNumbered c rs → PartiesFitTrace c trace rs stage_clients → is_correct_replica c p ≡ true → MovesReplica rs p event outs new → AreOf p (map (entry_of p) outs)
+    → PartiesFitTrace c (after_entries (map (entry_of p) outs) (replica_inputs.input_of p event ∷ trace)) new stage_clients
+attend_replica c trace rs new stage_clients p event outs valid numbered attend correct m of =
     record {
       replicas = λ q e h. fits q e h (q == p) refl;
-      clients = λ k d h. subst (FitsSeat c (get_or seats k d)) (sym (others (256 + k) (λ e. omega (arith, e, below, most)))) (attend.clients k d h);
+      clients = λ k d h. subst (FitsStageClient c (get_or stage_clients k d)) (sym (others (256 + k) (λ e. omega (arith, e, below, most)))) (attend.clients k d h);
     }
   where
     input : Entry
@@ -126,11 +126,11 @@ pub client_input : (p : ℕ) (event : ClientEvent) → IsBesideCalls p (client_s
 client_input p (client_events.Got bytes) = (refl, refl, λ h. refl)
 client_input p client_events.Retry = (refl, refl, λ h. refl)
 
--- if one client's seat fits the longer history, all attend
-attend_seat : (c : Configuration) (trace : List Entry) (rs : List ReplicaData) (seats new : List Seat) (k : ℕ) (input : Entry) (entries : List Entry) (after : Seat)
-    → IsConfiguration c → PartiesFitTrace c trace rs seats → k < length seats → new ≡ set seats k after → party_of input ≡ 256 + k → AreOf (256 + k) entries
-    → FitsSeat c after (after_entries entries (input ∷ history_of (256 + k) trace)) → PartiesFitTrace c (after_entries entries (input ∷ trace)) rs new
-attend_seat c trace rs seats new k input entries after valid attend within becomes at of fit =
+-- if one client's state fits the longer history, all attend
+attend_stage_client : (c : Configuration) (trace : List Entry) (rs : List ReplicaData) (stage_clients new : List StageClient) (k : ℕ) (input : Entry) (entries : List Entry) (after : StageClient)
+    → IsConfiguration c → PartiesFitTrace c trace rs stage_clients → k < length stage_clients → new ≡ set stage_clients k after → party_of input ≡ 256 + k → AreOf (256 + k) entries
+    → FitsStageClient c after (after_entries entries (input ∷ history_of (256 + k) trace)) → PartiesFitTrace c (after_entries entries (input ∷ trace)) rs new
+attend_stage_client c trace rs stage_clients new k input entries after valid attend within becomes at of fit =
     record {
       replicas = λ q e h.
           let below = replica_below c q h in
@@ -145,22 +145,22 @@ attend_seat c trace rs seats new k input entries after valid attend within becom
     others : (q : ℕ) → (256 + k) ≢ q → history_of q (after_entries entries (input ∷ trace)) ≡ history_of q trace
     others q apart = other_entries (256 + k) q entries (input ∷ trace) apart of ∙ other_entry q input trace (λ e. apart (sym at ∙ e))
 
-    fits : (j : ℕ) (d : Seat) → is_correct_client c (256 + j) ≡ true → (b : Bool) → (j == k) ≡ b → FitsSeat c (get_or new j d) (history_of (256 + j) (after_entries entries (input ∷ trace)))
+    fits : (j : ℕ) (d : StageClient) → is_correct_client c (256 + j) ≡ true → (b : Bool) → (j == k) ≡ b → FitsStageClient c (get_or new j d) (history_of (256 + j) (after_entries entries (input ∷ trace)))
     fits j d h true same =
-        let got : get_or new k d ≡ after = ap (λ xs. get_or xs k d) becomes ∙ get_or-set_same seats k after d within in
-        let there : FitsSeat c (get_or new k d) (history_of (256 + k) (after_entries entries (input ∷ trace))) = rw (got, mine) fit in
-        subst (λ n. FitsSeat c (get_or new n d) (history_of (256 + n) (after_entries entries (input ∷ trace)))) (sym (eqb-true j k same)) there
+        let got : get_or new k d ≡ after = ap (λ xs. get_or xs k d) becomes ∙ get_or-set_same stage_clients k after d within in
+        let there : FitsStageClient c (get_or new k d) (history_of (256 + k) (after_entries entries (input ∷ trace))) = rw (got, mine) fit in
+        subst (λ n. FitsStageClient c (get_or new n d) (history_of (256 + n) (after_entries entries (input ∷ trace)))) (sym (eqb-true j k same)) there
     fits j d h false same =
         let apart : j ≢ k = apart_from k j same in
-        let kept : get_or new j d ≡ get_or seats j d = ap (λ xs. get_or xs j d) becomes ∙ get_or-set_other seats k j after d apart in
+        let kept : get_or new j d ≡ get_or stage_clients j d = ap (λ xs. get_or xs j d) becomes ∙ get_or-set_other stage_clients k j after d apart in
         rw (kept, others (256 + j) (λ z. apart (omega (arith, z)))) (attend.clients j d h)
 
-pub attend_client : (c : Configuration) (trace : List Entry) (rs : List ReplicaData) (seats new : List Seat) (k : ℕ) (event : ClientEvent) (outs : List Output)
-    → IsConfiguration c → PartiesFitTrace c trace rs seats → k < length seats → ((d : Seat) → (get_or seats k d).client.number ≡ k) → is_correct_client c (256 + k) ≡ true
-    → MovesClient seats k event outs new → AreOf (256 + k) (map (entry_of (256 + k)) outs)
+pub attend_client : (c : Configuration) (trace : List Entry) (rs : List ReplicaData) (stage_clients new : List StageClient) (k : ℕ) (event : ClientEvent) (outs : List Output)
+    → IsConfiguration c → PartiesFitTrace c trace rs stage_clients → k < length stage_clients → ((d : StageClient) → (get_or stage_clients k d).client.number ≡ k) → is_correct_client c (256 + k) ≡ true
+    → MovesClient stage_clients k event outs new → AreOf (256 + k) (map (entry_of (256 + k)) outs)
     → PartiesFitTrace c (after_entries (map (entry_of (256 + k)) outs) (client_steps.input_of (256 + k) event ∷ trace)) rs new
-attend_client c trace rs seats new k event outs valid attend within numbers correct m of =
-    attend_seat c trace rs seats new k (client_steps.input_of (256 + k) event) (map (entry_of (256 + k)) outs) m.after valid attend within m.becomes is.0 of
+attend_client c trace rs stage_clients new k event outs valid attend within numbers correct m of =
+    attend_stage_client c trace rs stage_clients new k (client_steps.input_of (256 + k) event) (map (entry_of (256 + k)) outs) m.after valid attend within m.becomes is.0 of
     (led, last_behind (256 + k) outs (client_steps.input_of (256 + k) event ∷ history) ∙ is.2 history ∙ fit.1 ∙ sym m.calls, silent)
   where
     is : IsBesideCalls (256 + k) (client_steps.input_of (256 + k) event)
@@ -170,10 +170,10 @@ attend_client c trace rs seats new k event outs valid attend within numbers corr
     history = history_of (256 + k) trace
 
     number : m.before.client.number ≡ k
-    number = ap (λ (s : Seat). s.client.number) (sym (m.was m.before)) ∙ numbers m.before
+    number = ap (λ (s : StageClient). s.client.number) (sym (m.was m.before)) ∙ numbers m.before
 
-    fit : FitsSeat c m.before history
-    fit = subst (λ (s : Seat). FitsSeat c s history) (m.was m.before) (attend.clients k m.before correct)
+    fit : FitsStageClient c m.before history
+    fit = subst (λ (s : StageClient). FitsStageClient c s history) (m.was m.before) (attend.clients k m.before correct)
 
     silent : m.after.client.stopped ≡ true → GaveNothingLast (after_entries (map (entry_of (256 + k)) outs) (client_steps.input_of (256 + k) event ∷ history))
     silent stopped =
@@ -186,22 +186,22 @@ closed : {A : Type 0} (o : Option A) → o ≡ None → is_some o ≡ false
 closed None e = refl
 closed (Some x) e = absurd cc
 
-pub attend_call : (c : Configuration) (trace : List Entry) (rs : List ReplicaData) (seats new : List Seat) (k : ℕ) (op : Operation) (timestamp : ℕ) (outs : List Output)
-    → IsConfiguration c → PartiesFitTrace c trace rs seats → k < length seats → ((d : Seat) → (get_or seats k d).client.number ≡ k) → is_correct_client c (256 + k) ≡ true
-    → open_call (history_of (256 + k) trace) ≡ None → ClientCalls seats k op timestamp outs new → AreOf (256 + k) (map (entry_of (256 + k)) outs)
+pub attend_call : (c : Configuration) (trace : List Entry) (rs : List ReplicaData) (stage_clients new : List StageClient) (k : ℕ) (op : Operation) (timestamp : ℕ) (outs : List Output)
+    → IsConfiguration c → PartiesFitTrace c trace rs stage_clients → k < length stage_clients → ((d : StageClient) → (get_or stage_clients k d).client.number ≡ k) → is_correct_client c (256 + k) ≡ true
+    → open_call (history_of (256 + k) trace) ≡ None → ClientCalls stage_clients k op timestamp outs new → AreOf (256 + k) (map (entry_of (256 + k)) outs)
     → PartiesFitTrace c (after_entries (map (entry_of (256 + k)) outs) (Invoke k timestamp op ∷ trace)) rs new
-attend_call c trace rs seats new k op timestamp outs valid attend within numbers correct none m of =
-    attend_seat c trace rs seats new k (Invoke k timestamp op) (map (entry_of (256 + k)) outs) m.after valid attend within m.becomes refl of
+attend_call c trace rs stage_clients new k op timestamp outs valid attend within numbers correct none m of =
+    attend_stage_client c trace rs stage_clients new k (Invoke k timestamp op) (map (entry_of (256 + k)) outs) m.after valid attend within m.becomes refl of
     (led, last_behind (256 + k) outs (Invoke k timestamp op ∷ history) ∙ sym m.calls, silent)
   where
     history : List Entry
     history = history_of (256 + k) trace
 
     number : m.before.client.number ≡ k
-    number = ap (λ (s : Seat). s.client.number) (sym (m.was m.before)) ∙ numbers m.before
+    number = ap (λ (s : StageClient). s.client.number) (sym (m.was m.before)) ∙ numbers m.before
 
-    fit : FitsSeat c m.before history
-    fit = subst (λ (s : Seat). FitsSeat c s history) (m.was m.before) (attend.clients k m.before correct)
+    fit : FitsStageClient c m.before history
+    fit = subst (λ (s : StageClient). FitsStageClient c s history) (m.was m.before) (attend.clients k m.before correct)
 
     is_closed : is_some m.before.client.call ≡ false
     is_closed = sym fit.0.open_is ∙ closed (open_call history) none
@@ -219,19 +219,19 @@ attend_call c trace rs seats new k op timestamp outs valid attend within numbers
 
 -- ---- to whom outputs go
 
-pub replica_meant : (c : Configuration) (trace : List Entry) (rs new : List ReplicaData) (seats : List Seat) (p : ℕ) (event : ReplicaEvent) (outs : List Output)
-    → AreNumbered c rs → PartiesFitTrace c trace rs seats → is_correct_replica c p ≡ true → MovesReplica rs p event outs new → AreSentAsMeant c p outs
-replica_meant c trace rs new seats p event outs numbered attend correct m =
+pub replica_meant : (c : Configuration) (trace : List Entry) (rs new : List ReplicaData) (stage_clients : List StageClient) (p : ℕ) (event : ReplicaEvent) (outs : List Output)
+    → AreNumbered c rs → PartiesFitTrace c trace rs stage_clients → is_correct_replica c p ≡ true → MovesReplica rs p event outs new → AreSentAsMeant c p outs
+replica_meant c trace rs new stage_clients p event outs numbered attend correct m =
     let below = replica_below c p correct in
     let within : p < length rs = omega (arith, numbered.0, below) in
     let number : replica_fits.me_of m.before ≡ p = ap replica_fits.me_of (sym (m.was m.before)) ∙ numbered.1 p m.before within in
     let fit : replica_fits.Fits c m.before (history_of p trace) = subst (λ r. replica_fits.Fits c r (history_of p trace)) (m.was m.before) (attend.replicas p m.before correct).0 in
     subst (λ n. AreSentAsMeant c n outs) number (m.meant c (history_of p trace) fit)
 
-pub client_meant : (c : Configuration) (trace : List Entry) (rs : List ReplicaData) (seats : List Seat) (k : ℕ) (before : Seat) (outs : List Output)
-    → PartiesFitTrace c trace rs seats → ((d : Seat) → (get_or seats k d).client.number ≡ k) → is_correct_client c (256 + k) ≡ true
-    → ((d : Seat) → get_or seats k d ≡ before) → client_steps.SendsAsMeant before.client outs → AreSentAsMeant c (256 + k) outs
-client_meant c trace rs seats k before outs attend numbers correct was meant =
-    let number : before.client.number ≡ k = ap (λ (s : Seat). s.client.number) (sym (was before)) ∙ numbers before in
-    let fit : FitsSeat c before (history_of (256 + k) trace) = subst (λ (s : Seat). FitsSeat c s (history_of (256 + k) trace)) (was before) (attend.clients k before correct) in
+pub client_meant : (c : Configuration) (trace : List Entry) (rs : List ReplicaData) (stage_clients : List StageClient) (k : ℕ) (before : StageClient) (outs : List Output)
+    → PartiesFitTrace c trace rs stage_clients → ((d : StageClient) → (get_or stage_clients k d).client.number ≡ k) → is_correct_client c (256 + k) ≡ true
+    → ((d : StageClient) → get_or stage_clients k d ≡ before) → client_steps.SendsAsMeant before.client outs → AreSentAsMeant c (256 + k) outs
+client_meant c trace rs stage_clients k before outs attend numbers correct was meant =
+    let number : before.client.number ≡ k = ap (λ (s : StageClient). s.client.number) (sym (was before)) ∙ numbers before in
+    let fit : FitsStageClient c before (history_of (256 + k) trace) = subst (λ (s : StageClient). FitsStageClient c s (history_of (256 + k) trace)) (was before) (attend.clients k before correct) in
     subst (λ n. AreSentAsMeant c (256 + n) outs) number (meant c fit.0.members_are)

@@ -15,9 +15,9 @@ use Rattle.points.specs.PointView.{items_of}
 use Rattle.schedule_text.specs.declared.step.Step.{Step}
 use Rattle.schedule_text.specs.StepView.{step_of}
 use Rattle.schedule_world.specs.declared.report.Report.{Report}
-use Rattle.schedule_world.specs.declared.stage.Seat.{Seat}
+use Rattle.schedule_world.specs.declared.stage.StageClient.{StageClient}
 use Rattle.schedule_world.specs.declared.stage.Stage.{Stage}
-use Rattle.schedule_world.specs.Stages.{IsSeated, StageIsAt, StageIsAfterSteps, acceptance_of}
+use Rattle.schedule_world.specs.Stages.{PartiesArePlaced, StageIsAt, StageIsAfterSteps, acceptance_of}
 use Rattle.schedule_world.specs.Reporting.{IsReportOf}
 use Rattle.schedule_world.specs.Reports.{ReportIsRight, StopsHere}
 use Rattle.schedule_world.proofs.Attending.{are_replicas, replica_below}
@@ -26,12 +26,12 @@ use Rattle.schedule_world.proofs.Reached.{reaches_end}
 use Rattle.schedule_world.proofs.Stopping.{only_these, parties_ascend}
 use Rattle.schedule_world.proofs.Taking.{one_of_them}
 
-module _ (c : Configuration) (s : Stage) (seated : IsSeated c s) (w : World) (st : StageIsAt c w s) where
+module _ (c : Configuration) (s : Stage) (placed : PartiesArePlaced c s) (w : World) (st : StageIsAt c w s) where
   client : (k : ℕ) → is_correct_client c (256 + k) ≡ true → IsClient c (256 + k) (history_of (256 + k) w.past)
   client k h =
-      let within = client_within c s k seated h in
-      let d : Seat = one_of_them s.seats.items k within in
-      subst (λ n. IsClient c (256 + n) (history_of (256 + k) w.past)) (seated.client_numbers k d within) (st.attend.clients k d h).0.right
+      let within = client_within c s k placed h in
+      let d : StageClient = one_of_them s.stage_clients.items k within in
+      subst (λ n. IsClient c (256 + n) (history_of (256 + k) w.past)) (placed.client_numbers k d within) (st.attend.clients k d h).0.right
 
   clients : (p : ℕ) → is_correct_client c p ≡ true → IsClient c p (history_of p w.past)
   clients p h =
@@ -41,8 +41,8 @@ module _ (c : Configuration) (s : Stage) (seated : IsSeated c s) (w : World) (st
   replicas : (p : ℕ) → is_correct_replica c p ≡ true → IsReplica c p (history_of p w.past)
   replicas p h =
       let below = replica_below c p h in
-      let d = one_of_them s.replicas.items p (omega (arith, below, seated.replicas)) in
-      are_replicas c w.past s.replicas.items s.seats.items d (seated.replicas, seated.numbers) st.attend p h
+      let d = one_of_them s.replicas.items p (omega (arith, below, placed.replicas)) in
+      are_replicas c w.past s.replicas.items s.stage_clients.items d (placed.replicas, placed.numbers) st.attend p h
 
   pub is_run : IsRun c w.past
   is_run = record {
@@ -55,27 +55,27 @@ module _ (c : Configuration) (s : Stage) (seated : IsSeated c s) (w : World) (st
 shown : (c : Configuration) (s : Stage) (w : World) (report : Report) → StageIsAt c w s → IsReportOf c s report → reverse report.trace.items ≡ w.past
 shown c s w report st of = ap (λ v. reverse v.items) of.trace ∙ st.shows.past
 
-pub tells : (c : Configuration) (steps : List Step) (s : Stage) (report : Report) → IsSeated c s → StageIsAfterSteps c (map step_of steps) [] s → IsReportOf c s report → ReportIsRight c steps report
-tells c steps s report seated at of =
+pub tells : (c : Configuration) (steps : List Step) (s : Stage) (report : Report) → PartiesArePlaced c s → StageIsAfterSteps c (map step_of steps) [] s → IsReportOf c s report → ReportIsRight c steps report
+tells c steps s report placed at of =
     let same : reverse report.trace.items ≡ at.world.past = shown c s at.world report at.stands of in
-    let run : IsRun c at.world.past = is_run c s seated at.world at.stands in
+    let run : IsRun c at.world.past = is_run c s placed at.world at.stands in
     let are : items_of report.points.items ≡ points c at.world.past = of.points ∙ ap (points c) at.stands.shows.past in
     record {
       feeds = rw same (at.world, reaches_end c (map step_of steps) at.world at.reaches);
       run = rw same run;
-      stopped = rw (same, of.stopped) (only_these c s seated at.world at.stands);
-      ascend = rw of.stopped (parties_ascend c s seated.valid);
+      stopped = rw (same, of.stopped) (only_these c s placed at.world at.stands);
+      ascend = rw of.stopped (parties_ascend c s placed.valid);
       accepted = rw same (ap (λ v. map acceptance_of v.items) of.accepted ∙ at.stands.shows.accepted);
       points = rw same are;
-      linear = rw (same, are) (λ unforged apart. points_are_linear c seated.valid at.world.past run unforged apart);
+      linear = rw (same, are) (λ unforged apart. points_are_linear c placed.valid at.world.past run unforged apart);
     }
 
-pub stops_here : (c : Configuration) (steps : List Step) (n : ℕ) (s : Stage) (step : Step) (report : Report) → IsSeated c s → StageIsAfterSteps c (map step_of (take n steps)) [] s → slice_get steps n ≡ Some step
+pub stops_here : (c : Configuration) (steps : List Step) (n : ℕ) (s : Stage) (step : Step) (report : Report) → PartiesArePlaced c s → StageIsAfterSteps c (map step_of (take n steps)) [] s → slice_get steps n ≡ Some step
     → ((w : World) → StageIsAt c w s → IsAllowed c w (step_of step) → ⊥) → IsReportOf c s report → StopsHere c steps n report
-stops_here c steps n s step report seated at is refused of =
+stops_here c steps n s step report placed at is refused of =
     let same : reverse report.trace.items ≡ at.world.past = shown c s at.world report at.stands of in
     record {
-      tells = tells c (take n steps) s report seated at of;
+      tells = tells c (take n steps) s report placed at of;
       world = at.world;
       goes = rw same (reaches_end c (map step_of (take n steps)) at.world at.reaches);
       step = step;

@@ -19,8 +19,8 @@ use Rattle.schedule_world.proofs.Reached.{within_output, reaches_within, within_
 
 -- the frame was delivered to the party in mid
 pub delivers : (c : Configuration) (old mid new : Stage) (frame p : ℕ) (bytes : List ℕ) → HasBytes old.pool frame bytes → mid.pool ≡ noted old.pool frame p
-    → mid.trace ≡ old.trace → mid.accepted ≡ old.accepted → mid.replicas ≡ old.replicas → mid.seats ≡ old.seats → InputComes c (Got p bytes) mid new → FrameIsDelivered c frame p old new
-delivers c old mid new frame p bytes has forgets trace accepted rs seats comes w st = (
+    → mid.trace ≡ old.trace → mid.accepted ≡ old.accepted → mid.replicas ≡ old.replicas → mid.stage_clients ≡ old.stage_clients → InputComes c (Got p bytes) mid new → FrameIsDelivered c frame p old new
+delivers c old mid new frame p bytes has forgets trace accepted rs stage_clients comes w st = (
   made.0,
   made.1,
   subst (λ (b : List ℕ). StageIsBehind c (record (with_entry c w (Got p b)) { delivered = (frame, p) ∷ w.delivered }) new) (sym made.2) (comes v stands),
@@ -39,7 +39,7 @@ delivers c old mid new frame p bytes has forgets trace accepted rs seats comes w
         frames = pool_forgets c w old.pool mid.pool frame p bytes has forgets st.shows.frames;
         accepted = ap (λ (x : _). map acceptance_of x.items) accepted ∙ st.shows.accepted;
       };
-      attend = rw (rs, seats) st.attend;
+      attend = rw (rs, stage_clients) st.attend;
       orderly = st.orderly;
     }
 

@@ -7,7 +7,7 @@ pub mod Moved
 pub mod Attending
 pub mod Showing
 pub mod Standing
-pub mod Begun
+pub mod FirstStage
 pub mod Flushed
 pub mod Taking
 pub mod Stopping

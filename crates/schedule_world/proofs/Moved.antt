@@ -10,7 +10,7 @@ use Rattle.replica.specs.Fits as replica_fits
 use Rattle.replica.specs.declared.replica.Event.{Event as ReplicaEvent}
 use Rattle.client_cert.specs.Steps as client_steps
 use Rattle.client_cert.specs.declared.client.Event.{Event as ClientEvent}
-use Rattle.schedule_world.specs.declared.stage.Seat.{Seat}
+use Rattle.schedule_world.specs.declared.stage.StageClient.{StageClient}
 use Rattle.schedule_world.specs.Moving.{MovesReplica, MovesClient, ClientCalls}
 
 was : {X : Type 0} (xs : List X) (i p : ℕ) (x : X) → i ≡ p → p < length xs → x ≡ get_or xs i x → (d : X) → get_or xs p d ≡ x
@@ -30,14 +30,14 @@ moves rs i p before after event outs same within is number leads meant silent = 
   silent = silent;
 }
 
-pub moves_client : (seats : List Seat) (i k : ℕ) (before after : Seat) (event : ClientEvent) (outs : List Output) → i ≡ k → k < length seats → before ≡ get_or seats i before
+pub moves_client : (stage_clients : List StageClient) (i k : ℕ) (before after : StageClient) (event : ClientEvent) (outs : List Output) → i ≡ k → k < length stage_clients → before ≡ get_or stage_clients i before
     → after.client.number ≡ before.client.number → after.calls ≡ before.calls → client_steps.EventLeads before.client event outs after.client
-    → client_steps.SendsAsMeant before.client outs → (after.client.stopped ≡ true → outs ≡ []) → MovesClient seats k event outs (set seats i after)
-moves_client seats i k before after event outs same within is number calls leads meant silent = record {
+    → client_steps.SendsAsMeant before.client outs → (after.client.stopped ≡ true → outs ≡ []) → MovesClient stage_clients k event outs (set stage_clients i after)
+moves_client stage_clients i k before after event outs same within is number calls leads meant silent = record {
   before = before;
   after = after;
-  was = was seats i k before same within is;
-  becomes = ap (λ j. set seats j after) same;
+  was = was stage_clients i k before same within is;
+  becomes = ap (λ j. set stage_clients j after) same;
   number = number;
   calls = calls;
   leads = leads;
@@ -45,16 +45,16 @@ moves_client seats i k before after event outs same within is number calls leads
   silent = silent;
 }
 
-pub makes_call : (seats : List Seat) (i k : ℕ) (before after : Seat) (op : Operation) (timestamp : ℕ) (outs : List Output) → i ≡ k → k < length seats → before ≡ get_or seats i before
+pub makes_call : (stage_clients : List StageClient) (i k : ℕ) (before after : StageClient) (op : Operation) (timestamp : ℕ) (outs : List Output) → i ≡ k → k < length stage_clients → before ≡ get_or stage_clients i before
     → after.client.number ≡ before.client.number → timestamp ≡ suc before.calls → after.calls ≡ timestamp
     → (is_some before.client.call ≡ false → client_steps.HistoryStaysRight before.client (Invoke before.client.number (suc before.client.calls) op) outs after.client)
     → client_steps.SendsAsMeant before.client outs → (is_some before.client.call ≡ false → after.client.stopped ≡ true → outs ≡ [])
-    → ClientCalls seats k op timestamp outs (set seats i after)
-makes_call seats i k before after op timestamp outs same within is number next calls leads meant silent = record {
+    → ClientCalls stage_clients k op timestamp outs (set stage_clients i after)
+makes_call stage_clients i k before after op timestamp outs same within is number next calls leads meant silent = record {
   before = before;
   after = after;
-  was = was seats i k before same within is;
-  becomes = ap (λ j. set seats j after) same;
+  was = was stage_clients i k before same within is;
+  becomes = ap (λ j. set stage_clients j after) same;
   number = number;
   timestamp_is = next;
   calls = calls;

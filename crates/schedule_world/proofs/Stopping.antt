@@ -17,9 +17,9 @@ use Rattle.protocol.specs.Replica.Owed.{IsPromptReplica}
 use Rattle.protocol.proofs.Words.Elements.{each_append}
 use Rattle.replica.specs.State.{ReplicaData, has_stopped}
 use Rattle.replica.proofs.Prompt.{replicas_are_prompt}
-use Rattle.schedule_world.specs.declared.stage.Seat.{Seat}
+use Rattle.schedule_world.specs.declared.stage.StageClient.{StageClient}
 use Rattle.schedule_world.specs.declared.stage.Stage.{Stage}
-use Rattle.schedule_world.specs.Stages.{IsSeated, StageIsAt}
+use Rattle.schedule_world.specs.Stages.{PartiesArePlaced, StageIsAt}
 use Rattle.schedule_world.specs.Stopped.{is_stopped_replica, is_stopped_client, stopped_replicas, stopped_clients, stopped_parties}
 use Rattle.schedule_world.proofs.Attending.{replica_below}
 use Rattle.schedule_world.proofs.Meant.{pairs_from}
@@ -132,14 +132,14 @@ pub parties_ascend : (c : Configuration) (s : Stage) → IsConfiguration c → A
 parties_ascend c s valid =
     pairs_from (stopped_parties c s)
     (ascends_append (stopped_replicas c s) (stopped_clients c s) (ascends_range (is_stopped_replica c s.replicas.items) 0 (replicas c))
-    (ascends_range (is_stopped_client c s.seats.items) 256 c.clients)
+    (ascends_range (is_stopped_client c s.stage_clients.items) 256 c.clients)
     (each_passes (is_stopped_replica c s.replicas.items) _ low (range_with_len 0 (replicas c))))
   where
     low : (p : ℕ) → is_stopped_replica c s.replicas.items p ≡ true → leads nat_lt p (stopped_clients c s) ≡ true
     low p h =
         let below = replica_below c p (and_parts (is_correct_replica c p) (option_map_or has_stopped (slice_get s.replicas.items p) false) h).0 in
         let most = valid.most in
-        leads_range (is_stopped_client c s.seats.items) p 256 c.clients (omega (arith, below, most))
+        leads_range (is_stopped_client c s.stage_clients.items) p 256 c.clients (omega (arith, below, most))
 
 -- ---- the program's tests
 
@@ -158,15 +158,15 @@ at_place test xs i d within =
 
 -- ---- no others have stopped
 
-module _ (c : Configuration) (s : Stage) (seated : IsSeated c s) (w : World) (st : StageIsAt c w s) where
+module _ (c : Configuration) (s : Stage) (placed : PartiesArePlaced c s) (w : World) (st : StageIsAt c w s) where
   abbrev rs : List ReplicaData
   rs = s.replicas.items
 
-  abbrev seats : List Seat
-  seats = s.seats.items
+  abbrev stage_clients : List StageClient
+  stage_clients = s.stage_clients.items
 
-  abbrev client_stopped : Seat → Bool
-  client_stopped seat = seat.client.stopped
+  abbrev client_stopped : StageClient → Bool
+  client_stopped stage_client = stage_client.client.stopped
 
   -- replicas
 
@@ -181,9 +181,9 @@ module _ (c : Configuration) (s : Stage) (seated : IsSeated c s) (w : World) (st
   replica_prompt : (p : ℕ) → is_correct_replica c p ≡ true → member (stopped_parties c s) p ≡ false → IsPromptReplica c p (history_of p w.past)
   replica_prompt p h out =
       let below = replica_below c p h in
-      let within : p < length rs = omega (arith, below, seated.replicas) in
+      let within : p < length rs = omega (arith, below, placed.replicas) in
       let d = one_of_them rs p within in
-      subst (λ n. IsPromptReplica c n (history_of p w.past)) (seated.numbers p d within)
+      subst (λ n. IsPromptReplica c n (history_of p w.past)) (placed.numbers p d within)
       (replicas_are_prompt c (get_or rs p d) (history_of p w.past) (st.attend.replicas p d h).0 (runs d within (has_stopped (get_or rs p d)) refl))
     where
       runs : (d : ReplicaData) → p < length rs → (b : Bool) → has_stopped (get_or rs p d) ≡ b → has_stopped (get_or rs p d) ≡ false
@@ -203,35 +203,35 @@ module _ (c : Configuration) (s : Stage) (seated : IsSeated c s) (w : World) (st
   less : (k : ℕ) → 256 + k - 256 ≡ k
   less k = omega arith
 
-  client_listed : (k : ℕ) (d : Seat) → is_correct_client c (256 + k) ≡ true → k < length seats → client_stopped (get_or seats k d) ≡ true → member (stopped_parties c s) (256 + k) ≡ true
+  client_listed : (k : ℕ) (d : StageClient) → is_correct_client c (256 + k) ≡ true → k < length stage_clients → client_stopped (get_or stage_clients k d) ≡ true → member (stopped_parties c s) (256 + k) ≡ true
   client_listed k d h within stopped =
       let below = client_below c k h in
       member_right (stopped_replicas c s) (stopped_clients c s) (256 + k)
-      (member_range (is_stopped_client c seats) (256 + k) 256 c.clients
-      (and_from (is_correct_client c (256 + k)) (option_map_or client_stopped (slice_get seats (256 + k - 256)) false) h
-      (ap (λ i. option_map_or client_stopped (slice_get seats i) false) (less k) ∙ at_place client_stopped seats k d within ∙ stopped))
+      (member_range (is_stopped_client c stage_clients) (256 + k) 256 c.clients
+      (and_from (is_correct_client c (256 + k)) (option_map_or client_stopped (slice_get stage_clients (256 + k - 256)) false) h
+      (ap (λ i. option_map_or client_stopped (slice_get stage_clients i) false) (less k) ∙ at_place client_stopped stage_clients k d within ∙ stopped))
       (omega arith) (omega (arith, below)))
 
   client_prompt : (k : ℕ) → is_correct_client c (256 + k) ≡ true → member (stopped_parties c s) (256 + k) ≡ false → IsPromptClient c (256 + k) (history_of (256 + k) w.past)
   client_prompt k h out =
-      let within = client_within c s k seated h in
-      let d = one_of_them seats k within in
-      subst (λ n. IsPromptClient c (256 + n) (history_of (256 + k) w.past)) (seated.client_numbers k d within)
-      ((st.attend.clients k d h).0.running (runs d within (client_stopped (get_or seats k d)) refl)).gave
+      let within = client_within c s k placed h in
+      let d = one_of_them stage_clients k within in
+      subst (λ n. IsPromptClient c (256 + n) (history_of (256 + k) w.past)) (placed.client_numbers k d within)
+      ((st.attend.clients k d h).0.running (runs d within (client_stopped (get_or stage_clients k d)) refl)).gave
     where
-      runs : (d : Seat) → k < length seats → (b : Bool) → client_stopped (get_or seats k d) ≡ b → client_stopped (get_or seats k d) ≡ false
+      runs : (d : StageClient) → k < length stage_clients → (b : Bool) → client_stopped (get_or stage_clients k d) ≡ b → client_stopped (get_or stage_clients k d) ≡ false
       runs d within true is = let bad : false ≡ true = sym out ∙ client_listed k d h within is in absurd cc
       runs d within false is = is
 
-  client_silent : (p : ℕ) → is_stopped_client c seats p ≡ true → (is_correct c p ≡ true) × GaveNothingLast (history_of p w.past)
+  client_silent : (p : ℕ) → is_stopped_client c stage_clients p ≡ true → (is_correct c p ≡ true) × GaveNothingLast (history_of p w.past)
   client_silent p h =
-      let parts = and_parts (is_correct_client c p) (option_map_or client_stopped (slice_get seats (p - 256)) false) h in
+      let parts = and_parts (is_correct_client c p) (option_map_or client_stopped (slice_get stage_clients (p - 256)) false) h in
       let k = client_of c p parts.0 in
       let at : p - 256 ≡ k.0 = ap (λ q. q - 256) k.1 ∙ less k.0 in
-      let seat = read_place client_stopped seats k.0 (ap (λ i. option_map_or client_stopped (slice_get seats i) false) (sym at) ∙ parts.1) in (
+      let stage_client = read_place client_stopped stage_clients k.0 (ap (λ i. option_map_or client_stopped (slice_get stage_clients i) false) (sym at) ∙ parts.1) in (
         or_right (is_correct_replica c p) (is_correct_client c p) parts.0,
         subst (λ q. GaveNothingLast (history_of q w.past)) (sym k.1)
-            ((st.attend.clients k.0 seat.0 k.2).2 (ap client_stopped (get_or_from_slice_get seats k.0 seat.0 seat.0 seat.1) ∙ seat.2)),
+            ((st.attend.clients k.0 stage_client.0 k.2).2 (ap client_stopped (get_or_from_slice_get stage_clients k.0 stage_client.0 stage_client.0 stage_client.1) ∙ stage_client.2)),
       )
 
   pub only_these : OnlyTheseStopped c (stopped_parties c s) w.past
@@ -243,5 +243,5 @@ module _ (c : Configuration) (s : Stage) (seated : IsSeated c s) (w : World) (st
         (client_prompt k.0 k.2 (ap (member (stopped_parties c s)) (sym k.1) ∙ out));
     silent = each_append (λ p. (is_correct c p ≡ true) × GaveNothingLast (history_of p w.past)) (stopped_replicas c s) (stopped_clients c s)
         (each_passes (is_stopped_replica c rs) _ replica_silent (range_with_len 0 (replicas c)))
-        (each_passes (is_stopped_client c seats) _ client_silent (range_with_len 256 c.clients));
+        (each_passes (is_stopped_client c stage_clients) _ client_silent (range_with_len 256 c.clients));
   }

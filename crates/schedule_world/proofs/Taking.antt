@@ -10,9 +10,9 @@ use Rattle.protocol.specs.System.Trace.Entry.{Invoke, Got, Tick}
 use Rattle.protocol.specs.System.Schedule.{World, with_entry, with_frame, sealed_bytes, signed_bytes, IsAllowed}
 use Rattle.protocol.specs.System.Schedule.Step.{calls, deliver, feed, seal, sign, ticks}
 use Rattle.protocol.specs.Client.RightClient.{open_call}
-use Rattle.schedule_world.specs.declared.stage.Seat.{Seat}
+use Rattle.schedule_world.specs.declared.stage.StageClient.{StageClient}
 use Rattle.schedule_world.specs.declared.stage.Stage.{Stage}
-use Rattle.schedule_world.specs.Stages.{IsSeated, StageIsAt}
+use Rattle.schedule_world.specs.Stages.{PartiesArePlaced, StageIsAt}
 use Rattle.schedule_world.specs.Moving.{InputComes, CallComes, FrameIsDelivered, FrameIsMade, LeadsBy}
 use Rattle.schedule_world.proofs.Pools.{pool_length}
 use Rattle.schedule_world.proofs.Reached.{within_call, within_delivery, within_bytes, within_tick, reaches_sealed, reaches_signed}
@@ -63,19 +63,19 @@ is_open : {A : Type 0} (o : Option A) → is_some o ≡ true → o ≡ None → 
 is_open None e n = absurd cc
 is_open (Some x) e n = cc
 
-open_is : (c : Configuration) (s : Stage) (w : World) (k : ℕ) → IsSeated c s → is_correct_client c (256 + k) ≡ true → (b : Bool) → ((d : Seat) → b ≡ is_some (get_or s.seats.items k d).client.call)
+open_is : (c : Configuration) (s : Stage) (w : World) (k : ℕ) → PartiesArePlaced c s → is_correct_client c (256 + k) ≡ true → (b : Bool) → ((d : StageClient) → b ≡ is_some (get_or s.stage_clients.items k d).client.call)
     → StageIsAt c w s → is_some (open_call (history_of (256 + k) w.past)) ≡ b
-open_is c s w k seated correct b closed st =
-    let d = one_of_them s.seats.items k (client_within c s k seated correct) in
+open_is c s w k placed correct b closed st =
+    let d = one_of_them s.stage_clients.items k (client_within c s k placed correct) in
     (st.attend.clients k d correct).0.open_is ∙ sym (closed d)
 
-pub call_may : (c : Configuration) (s : Stage) (k : ℕ) (op : Operation) → IsSeated c s → is_correct_client c (256 + k) ≡ true → ((d : Seat) → false ≡ is_some (get_or s.seats.items k d).client.call)
+pub call_may : (c : Configuration) (s : Stage) (k : ℕ) (op : Operation) → PartiesArePlaced c s → is_correct_client c (256 + k) ≡ true → ((d : StageClient) → false ≡ is_some (get_or s.stage_clients.items k d).client.call)
     → IsOperation op → (w : World) → StageIsAt c w s → IsAllowed c w (calls k op)
-call_may c s k op seated correct closed right w st = (correct, is_none (open_call (history_of (256 + k) w.past)) (open_is c s w k seated correct false closed st), right)
+call_may c s k op placed correct closed right w st = (correct, is_none (open_call (history_of (256 + k) w.past)) (open_is c s w k placed correct false closed st), right)
 
-pub call_may_not : (c : Configuration) (s : Stage) (k : ℕ) (op : Operation) → IsSeated c s → is_correct_client c (256 + k) ≡ true → ((d : Seat) → true ≡ is_some (get_or s.seats.items k d).client.call)
+pub call_may_not : (c : Configuration) (s : Stage) (k : ℕ) (op : Operation) → PartiesArePlaced c s → is_correct_client c (256 + k) ≡ true → ((d : StageClient) → true ≡ is_some (get_or s.stage_clients.items k d).client.call)
     → (w : World) → StageIsAt c w s → IsAllowed c w (calls k op) → ⊥
-call_may_not c s k op seated correct closed w st may = is_open (open_call (history_of (256 + k) w.past)) (open_is c s w k seated correct true closed st) may.1
+call_may_not c s k op placed correct closed w st may = is_open (open_call (history_of (256 + k) w.past)) (open_is c s w k placed correct true closed st) may.1
 
 pub leads_call : (c : Configuration) (old new : Stage) (k : ℕ) (op : Operation) → ((w : World) → StageIsAt c w old → IsAllowed c w (calls k op)) → CallComes c k op old new → LeadsBy c (calls k op) old new
 leads_call c old new k op allowed comes done at =

@@ -22,7 +22,7 @@ use Rattle.replica.specs.declared.replica.Event.{Event as ReplicaEvent}
 use Rattle.client_cert.specs.Steps as client_steps
 use Rattle.client_cert.specs.declared.client.Event.{Event as ClientEvent}
 use Rattle.wire_format.specs.Lists.{Each}
-use Rattle.schedule_world.specs.declared.stage.Seat.{Seat}
+use Rattle.schedule_world.specs.declared.stage.StageClient.{StageClient}
 use Rattle.schedule_world.specs.declared.stage.Stage.{Stage}
 use Rattle.schedule_world.specs.Pooled.{Frame, IsFirstWaiting}
 use Rattle.schedule_world.specs.Stages.{StageShowsWorld, StageIsAt, StageIsAfterSteps, with_entries}
@@ -32,7 +32,7 @@ use Rattle.schedule_world.specs.Stages.{StageShowsWorld, StageIsAt, StageIsAfter
 -- the parties stay the same
 pub record KeepsParties (old new : Stage) : Type 0 where
   pub replicas : new.replicas ≡ old.replicas
-  pub seats : new.seats ≡ old.seats
+  pub stage_clients : new.stage_clients ≡ old.stage_clients
 
 -- trace, frames and acceptances stay the same
 pub record KeepsRecords (old new : Stage) : Type 0 where
@@ -105,11 +105,11 @@ pub record MovesReplica (old : List ReplicaData) (p : ℕ) (event : ReplicaEvent
   pub silent : has_stopped after ≡ true → outs ≡ []
 
 -- client k takes the event and gives the outputs, and no other client moves
-pub record MovesClient (old : List Seat) (k : ℕ) (event : ClientEvent) (outs : List Output)
-    (new : List Seat) : Type 0 where
-  pub before : Seat
-  pub after : Seat
-  pub was : (d : Seat) → slice_index_or old k d ≡ before
+pub record MovesClient (old : List StageClient) (k : ℕ) (event : ClientEvent) (outs : List Output)
+    (new : List StageClient) : Type 0 where
+  pub before : StageClient
+  pub after : StageClient
+  pub was : (d : StageClient) → slice_index_or old k d ≡ before
   pub becomes : new ≡ slice_set old k after
   pub number : after.client.number ≡ before.client.number
   pub calls : after.calls ≡ before.calls
@@ -118,11 +118,11 @@ pub record MovesClient (old : List Seat) (k : ℕ) (event : ClientEvent) (outs :
   pub silent : after.client.stopped ≡ true → outs ≡ []
 
 -- client k calls the operation, with this timestamp, and gives the outputs, and no other client moves
-pub record ClientCalls (old : List Seat) (k : ℕ) (op : Operation) (timestamp : ℕ) (outs : List Output)
-    (new : List Seat) : Type 0 where
-  pub before : Seat
-  pub after : Seat
-  pub was : (d : Seat) → slice_index_or old k d ≡ before
+pub record ClientCalls (old : List StageClient) (k : ℕ) (op : Operation) (timestamp : ℕ) (outs : List Output)
+    (new : List StageClient) : Type 0 where
+  pub before : StageClient
+  pub after : StageClient
+  pub was : (d : StageClient) → slice_index_or old k d ≡ before
   pub becomes : new ≡ slice_set old k after
   pub number : after.client.number ≡ before.client.number
   pub timestamp_is : timestamp ≡ suc before.calls
@@ -138,10 +138,11 @@ abbrev pub StepsReplica : Stage → ℕ → ReplicaEvent → List Output → Sta
 StepsReplica old p event outs new = MovesReplica old.replicas.items p event outs new.replicas.items
 
 abbrev pub StepsClient : Stage → ℕ → ClientEvent → List Output → Stage → Type 0
-StepsClient old k event outs new = MovesClient old.seats.items k event outs new.seats.items
+StepsClient old k event outs new = MovesClient old.stage_clients.items k event outs new.stage_clients.items
 
 abbrev pub StepsInvocation : Stage → ℕ → Operation → Stage → Timestamp × Vec Output Global → Type 0
-StepsInvocation old k op new given = ClientCalls old.seats.items k op given.0.0 given.1.items new.seats.items
+StepsInvocation old k op new given =
+    ClientCalls old.stage_clients.items k op given.0.0 given.1.items new.stage_clients.items
 
 -- the frame is the first that a party waits for, and the party is the first that waits for it
 abbrev pub WaitsFirst : List Frame → ℕ × Party → Type 0

@@ -12,7 +12,7 @@ use Rattle.replica.specs.State.{ReplicaData, has_stopped}
 use Rattle.replica.specs.Fits as replica_fits
 use Rattle.client_cert.specs.Fits as client_fits
 use Rattle.schedule_world.specs.declared.report.Acceptance.{Acceptance}
-use Rattle.schedule_world.specs.declared.stage.Seat.{Seat}
+use Rattle.schedule_world.specs.declared.stage.StageClient.{StageClient}
 use Rattle.schedule_world.specs.declared.stage.Stage.{Stage}
 use Rattle.schedule_world.specs.Pooling.{IsPool}
 use Rattle.schedule_world.specs.Reaching.{StepsReach}
@@ -27,18 +27,18 @@ acceptance_of a = record {
 }
 
 -- The configuration is valid, and each party has its place, the faulty ones too.
-pub record IsSeated (c : Configuration) (s : Stage) : Type 0 where
+pub record PartiesArePlaced (c : Configuration) (s : Stage) : Type 0 where
   pub valid : IsConfiguration c
   pub replicas : length s.replicas.items ≡ replicas c
-  pub clients : length s.seats.items ≡ c.clients
+  pub clients : length s.stage_clients.items ≡ c.clients
   pub numbers : (p : ℕ) (d : ReplicaData) → p < length s.replicas.items
       → replica_fits.me_of (slice_index_or s.replicas.items p d) ≡ p
-  pub client_numbers : (k : ℕ) (d : Seat) → k < length s.seats.items
-      → (slice_index_or s.seats.items k d).client.number ≡ k
+  pub client_numbers : (k : ℕ) (d : StageClient) → k < length s.stage_clients.items
+      → (slice_index_or s.stage_clients.items k d).client.number ≡ k
 
 -- whether the client of this number has a call open
 abbrev pub IsOpen : Stage → ℕ → Bool → Type 0
-IsOpen s k b = (d : Seat) → b ≡ is_some (slice_index_or s.seats.items k d).client.call
+IsOpen s k b = (d : StageClient) → b ≡ is_some (slice_index_or s.stage_clients.items k d).client.call
 
 -- ---- at any entry, also within an event
 
@@ -59,19 +59,19 @@ with_entries c w (e ∷ entries) = with_entries c (with_entry c w e) entries
 abbrev pub FitsReplica : Configuration → ReplicaData → List Entry → Type 0
 FitsReplica c r history = replica_fits.Fits c r history × (has_stopped r ≡ true → GaveNothingLast history)
 
--- The client fits the history in the same way, and its seat knows the last timestamp.
-abbrev pub FitsSeat : Configuration → Seat → List Entry → Type 0
-FitsSeat c seat history =
-    client_fits.Fits c seat.client history × (last_call history ≡ seat.calls)
-    × (seat.client.stopped ≡ true → GaveNothingLast history)
+-- The client fits the history in the same way, and its state has the last timestamp.
+abbrev pub FitsStageClient : Configuration → StageClient → List Entry → Type 0
+FitsStageClient c stage_client history =
+    client_fits.Fits c stage_client.client history × (last_call history ≡ stage_client.calls)
+    × (stage_client.client.stopped ≡ true → GaveNothingLast history)
 
 -- Each correct replica and each correct client fits its history of the trace.
 pub record PartiesFitTrace (c : Configuration) (trace : List Entry) (rs : List ReplicaData)
-    (seats : List Seat) : Type 0 where
+    (stage_clients : List StageClient) : Type 0 where
   pub replicas : (p : ℕ) (d : ReplicaData) → is_correct_replica c p ≡ true
       → FitsReplica c (slice_index_or rs p d) (history_of p trace)
-  pub clients : (k : ℕ) (d : Seat) → is_correct_client c (client_party k) ≡ true
-      → FitsSeat c (slice_index_or seats k d) (history_of (client_party k) trace)
+  pub clients : (k : ℕ) (d : StageClient) → is_correct_client c (client_party k) ≡ true
+      → FitsStageClient c (slice_index_or stage_clients k d) (history_of (client_party k) trace)
 
 -- the trace's parties are correct, and outputs follow their inputs
 pub record IsOrderly (c : Configuration) (trace : List Entry) : Type 0 where
@@ -81,7 +81,7 @@ pub record IsOrderly (c : Configuration) (trace : List Entry) : Type 0 where
 -- The stage stands at this world: it shows it, its parties fit their histories, and the trace is orderly.
 pub record StageIsAt (c : Configuration) (w : World) (s : Stage) : Type 0 where
   pub shows : StageShowsWorld c w s
-  pub attend : PartiesFitTrace c w.past s.replicas.items s.seats.items
+  pub attend : PartiesFitTrace c w.past s.replicas.items s.stage_clients.items
   pub orderly : IsOrderly c w.past
 
 -- The stage stands at some world.

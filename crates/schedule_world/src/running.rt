@@ -9,7 +9,7 @@ ghost use Rattle.schedule_text.specs.StepView.{step_of};
 ghost use Rattle.schedule_world.specs.Moving.{StepIsTaken, seal_of, sign_of};
 ghost use Rattle.schedule_world.specs.Reporting.{IsReportOf};
 ghost use Rattle.schedule_world.specs.Reports.{ReportIsRight, FaultIsRight};
-ghost use Rattle.schedule_world.specs.Stages.{IsSeated, IsStanding};
+ghost use Rattle.schedule_world.specs.Stages.{PartiesArePlaced, IsStanding};
 
 use crate::making::{ReplicaKeys, seal_bytes, sign_bytes};
 use crate::receivers::{is_correct, is_party, is_replica, may_receive};
@@ -84,20 +84,20 @@ pub fn run(alloc: Global, config: &Config, steps: &[Step]) -> Result<Report, Run
 
 // The report of the steps that led here.
 fn report_of(stage: Stage, alloc: Global, config: &Config) -> Result<Report, NoMemory>
-    requires { IsSeated config.now stage }
+    requires { PartiesArePlaced config.now stage }
     ensures { IfOk result (IsReportOf config.now stage) }
 {
     let stopped = stage.stopped(alloc, config)?;
     let Stage {
         replicas,
-        seats,
+        stage_clients,
         pool,
         trace,
         accepted,
     } = stage;
     let parties = Parties {
         replicas,
-        seats,
+        stage_clients,
         pool,
     };
     let points = points(alloc, config, trace.as_slice())?;
@@ -118,9 +118,9 @@ fn take_step(
     keys: &mut Vec<ReplicaKeys>,
     step: &Step,
 ) -> Result<bool, NoMemory>
-    requires seated { IsSeated config.now stage.old }
+    requires placed { PartiesArePlaced config.now stage.old }
     requires stands { IsStanding config.now stage.old }
-    ensures seated { OnOk result (IsSeated config.now stage.new) }
+    ensures placed { OnOk result (PartiesArePlaced config.now stage.new) }
     ensures takes { IfOk result (StepIsTaken config.now (step_of step.now) stage.old stage.new) }
 {
     match step {
@@ -169,8 +169,8 @@ fn call(
     client: ClientId,
     op: &Op<Global>,
 ) -> Result<bool, NoMemory>
-    requires seated { IsSeated config.now stage.old }
-    ensures seated { OnOk result (IsSeated config.now stage.new) }
+    requires placed { PartiesArePlaced config.now stage.old }
+    ensures placed { OnOk result (PartiesArePlaced config.now stage.new) }
     ensures takes { IfOk result (StepIsTaken config.now
         (calls client.number (operation_of op.now)) stage.old stage.new) }
 {
@@ -191,8 +191,8 @@ fn deliver(
     frame: u64,
     party: Party,
 ) -> Result<bool, NoMemory>
-    requires seated { IsSeated config.now stage.old }
-    ensures seated { OnOk result (IsSeated config.now stage.new) }
+    requires placed { PartiesArePlaced config.now stage.old }
+    ensures placed { OnOk result (PartiesArePlaced config.now stage.new) }
     ensures takes { IfOk result (StepIsTaken config.now (deliver_step frame (party_number party)) stage.old stage.new) }
 {
     let frame = frame as usize;
@@ -210,8 +210,8 @@ fn feed(
     party: Party,
     bytes: &[u8],
 ) -> Result<bool, NoMemory>
-    requires seated { IsSeated config.now stage.old }
-    ensures seated { OnOk result (IsSeated config.now stage.new) }
+    requires placed { PartiesArePlaced config.now stage.old }
+    ensures placed { OnOk result (PartiesArePlaced config.now stage.new) }
     ensures takes { IfOk result (StepIsTaken config.now
         (feed_step (party_number party) bytes.now) stage.old stage.new) }
 {
@@ -231,8 +231,8 @@ fn seal(
     receivers: &[Party],
     body: &[u8],
 ) -> Result<bool, NoMemory>
-    requires seated { IsSeated config.now stage.old }
-    ensures seated { OnOk result (IsSeated config.now stage.new) }
+    requires placed { PartiesArePlaced config.now stage.old }
+    ensures placed { OnOk result (PartiesArePlaced config.now stage.new) }
     ensures takes { IfOk result (StepIsTaken config.now (seal_of sender receivers.now body.now) stage.old stage.new) }
 {
     if !is_party(config, sender) || is_correct(config, sender) || !may_receive(config, receivers) {
@@ -253,8 +253,8 @@ fn sign(
     receivers: &[Party],
     body: &[u8],
 ) -> Result<bool, NoMemory>
-    requires seated { IsSeated config.now stage.old }
-    ensures seated { OnOk result (IsSeated config.now stage.new) }
+    requires placed { PartiesArePlaced config.now stage.old }
+    ensures placed { OnOk result (PartiesArePlaced config.now stage.new) }
     ensures takes { IfOk result (StepIsTaken config.now
         (sign_of signer leaf receivers.now body.now) stage.old stage.new) }
 {
@@ -270,8 +270,8 @@ fn sign(
 }
 
 fn tick(stage: &mut Stage, alloc: Global, config: &Config, party: Party) -> Result<bool, NoMemory>
-    requires seated { IsSeated config.now stage.old }
-    ensures seated { OnOk result (IsSeated config.now stage.new) }
+    requires placed { PartiesArePlaced config.now stage.old }
+    ensures placed { OnOk result (PartiesArePlaced config.now stage.new) }
     ensures takes { IfOk result (StepIsTaken config.now (ticks (party_number party)) stage.old stage.new) }
 {
     if !is_correct(config, party) {

@@ -8,14 +8,14 @@ ghost use Rattle.events.specs.EntryView.{entry_of_kind};
 ghost use Rattle.protocol.specs.System.Configuration.{is_correct, is_correct_client};
 ghost use Rattle.protocol.specs.System.Trace.Entry.{Got, Sent, Tick};
 ghost use Rattle.protocol.specs.System.Schedule.Step.{flush};
-ghost use Rattle.schedule_world.specs.Opening.{AreNewReplicas, AreNewSeats, IsNewSeat};
+ghost use Rattle.schedule_world.specs.Opening.{AreNewReplicas, AreNewStageClients, IsNewStageClient};
 ghost use Rattle.schedule_world.specs.Moving.{StageAddsEntry, AddsAccepted, AddsAllIfMeant, AddsIfMeant, AddsSent, AreOf};
 ghost use Rattle.schedule_world.specs.Moving.{IsOutputOf, IsPlainEntry, KeepsParties};
 ghost use Rattle.schedule_world.specs.Moving.{entries_by, entry_by};
 ghost use Rattle.schedule_world.specs.Moving.{CallComes, InputComes, FrameIsDelivered, FrameIsMadeFor, LeadsBy, WaitsFirst};
 ghost use Rattle.schedule_world.specs.Moving.{StepsInvocation, KeepsRecords, StepsClient, StepsReplica};
 ghost use Rattle.schedule_world.specs.Pooled.{HasBytes, IsServed};
-ghost use Rattle.schedule_world.specs.Stages.{StageIsAfterSteps, IsOpen, IsSeated, IsStanding};
+ghost use Rattle.schedule_world.specs.Stages.{StageIsAfterSteps, IsOpen, PartiesArePlaced, IsStanding};
 ghost use Rattle.schedule_world.specs.Stopped.{AddsParties, is_stopped_client, is_stopped_replica};
 ghost use Rattle.schedule_world.specs.Stopped.{stopped_clients, stopped_parties, stopped_replicas};
 
@@ -34,7 +34,7 @@ use tuple_codec::{Answer, Op};
 
 /// A client, with the timestamp of its last call.
 #[derive(Drop)]
-pub(crate) struct Seat {
+pub(crate) struct StageClient {
     client: Client,
     calls: u64,
 }
@@ -43,7 +43,7 @@ pub(crate) struct Seat {
 #[derive(Drop)]
 pub(crate) struct Stage {
     pub(crate) replicas: Vec<Replica>,
-    pub(crate) seats: Vec<Seat>,
+    pub(crate) stage_clients: Vec<StageClient>,
     pub(crate) pool: Pool,
     pub(crate) trace: Vec<Entry>,
     pub(crate) accepted: Vec<Acceptance>,
@@ -54,14 +54,14 @@ pub(crate) struct Stage {
 #[derive(Drop)]
 pub struct Parties {
     pub(crate) replicas: Vec<Replica>,
-    pub(crate) seats: Vec<Seat>,
+    pub(crate) stage_clients: Vec<StageClient>,
     pub(crate) pool: Pool,
 }
 
 impl Stage {
     /// The world before the first step.
     pub(crate) fn new(alloc: Global, config: &Config) -> Result<Stage, NoMemory>
-        ensures seated { IfOk result (λ s. IsSeated config.now s) }
+        ensures placed { IfOk result (λ s. PartiesArePlaced config.now s) }
         ensures stands { IfOk result (λ s. StageIsAfterSteps config.now [] [] s) }
     {
         // The call shows that the configuration is valid.
@@ -69,7 +69,7 @@ impl Stage {
         let publics = PublicKeys::new(alloc, config.seed())?;
         Ok(Stage {
             replicas: new_replicas(alloc, config, &publics)?,
-            seats: new_seats(alloc, config, &publics)?,
+            stage_clients: new_stage_clients(alloc, config, &publics)?,
             pool: Pool::new(alloc),
             trace: Vec::new(alloc),
             accepted: Vec::new(alloc),
@@ -78,10 +78,12 @@ impl Stage {
 
     /// Whether the client has a call open.
     pub(crate) fn is_open(&self, client: ClientId) -> bool
-        requires known { client.number < length self.now.seats.items }
+        requires known { client.number < length self.now.stage_clients.items }
         ensures value { IsOpen self.now client.number result }
     {
-        self.seats[usize::from(client.number)].client.is_open()
+        self.stage_clients[usize::from(client.number)]
+            .client
+            .is_open()
     }
 
     /// Whether a frame of this number was made.
@@ -100,10 +102,10 @@ impl Stage {
         op: Op<Global>,
         told: Op<Global>,
     ) -> Result<(), NoMemory>
-        requires seated { IsSeated config.now self.old }
+        requires placed { PartiesArePlaced config.now self.old }
         requires correct { is_correct_client config.now (client_party client.number) ≡ true }
         requires same { operation_of told ≡ operation_of op }
-        ensures seated { OnOk result (IsSeated config.now self.new) }
+        ensures placed { OnOk result (PartiesArePlaced config.now self.new) }
         ensures comes { OnOk result (CallComes config.now client.number (operation_of op) self.old self.new) }
     {
         let (timestamp, outputs) = self.invoke(alloc, client, op)?;
@@ -121,10 +123,10 @@ impl Stage {
         frame: usize,
         party: Party,
     ) -> Result<(), NoMemory>
-        requires seated { IsSeated config.now self.old }
+        requires placed { PartiesArePlaced config.now self.old }
         requires correct { is_correct config.now (party_number party) ≡ true }
         requires made { frame < length self.old.pool }
-        ensures seated { OnOk result (IsSeated config.now self.new) }
+        ensures placed { OnOk result (PartiesArePlaced config.now self.new) }
         ensures delivers { OnOk result (FrameIsDelivered config.now frame (party_number party) self.old self.new) }
     {
         let bytes = self.share_frame(frame)?;
@@ -152,9 +154,9 @@ impl Stage {
         party: Party,
         bytes: SharedBytes,
     ) -> Result<(), NoMemory>
-        requires seated { IsSeated config.now self.old }
+        requires placed { PartiesArePlaced config.now self.old }
         requires correct { is_correct config.now (party_number party) ≡ true }
-        ensures seated { OnOk result (IsSeated config.now self.new) }
+        ensures placed { OnOk result (PartiesArePlaced config.now self.new) }
         ensures comes { OnOk result (InputComes config.now (Got (party_number party) bytes) self.old self.new) }
     {
         let outputs = match party {
@@ -177,9 +179,9 @@ impl Stage {
         config: &Config,
         party: Party,
     ) -> Result<(), NoMemory>
-        requires seated { IsSeated config.now self.old }
+        requires placed { PartiesArePlaced config.now self.old }
         requires correct { is_correct config.now (party_number party) ≡ true }
-        ensures seated { OnOk result (IsSeated config.now self.new) }
+        ensures placed { OnOk result (PartiesArePlaced config.now self.new) }
         ensures comes { OnOk result (InputComes config.now (Tick (party_number party)) self.old self.new) }
     {
         let outputs = match party {
@@ -199,8 +201,8 @@ impl Stage {
         bytes: Vec<u8>,
         receivers: &[Party],
     ) -> Result<(), NoMemory>
-        requires seated { IsSeated config.now self.old }
-        ensures seated { OnOk result (IsSeated config.now self.new) }
+        requires placed { PartiesArePlaced config.now self.old }
+        ensures placed { OnOk result (PartiesArePlaced config.now self.new) }
         ensures frames { OnOk result (FrameIsMadeFor config.now bytes.items receivers.now self.old self.new) }
     {
         let waiting = correct_of(alloc, config, receivers)?;
@@ -210,9 +212,9 @@ impl Stage {
 
     /// Delivers each frame to each of its correct receivers that didn't get it yet, also those that are made meanwhile.
     pub(crate) fn flush(&mut self, alloc: Global, config: &Config) -> Result<(), NoMemory>
-        requires seated { IsSeated config.now self.old }
+        requires placed { PartiesArePlaced config.now self.old }
         requires stands { IsStanding config.now self.old }
-        ensures seated { OnOk result (IsSeated config.now self.new) }
+        ensures placed { OnOk result (PartiesArePlaced config.now self.new) }
         ensures leads { OnOk result (LeadsBy config.now flush self.old self.new) }
     {
         // Each delivery lengthens the trace, and no memory holds so many entries.
@@ -227,7 +229,7 @@ impl Stage {
 
     /// The correct parties that have stopped, ascending by number.
     pub(crate) fn stopped(&self, alloc: Global, config: &Config) -> Result<Vec<Party>, NoMemory>
-        requires seated { IsSeated config.now self.now }
+        requires placed { PartiesArePlaced config.now self.now }
         ensures { IfOk result (λ parties. map party_number parties.items ≡ stopped_parties config.now self.now) }
     {
         let mut parties = Vec::new(alloc);
@@ -242,7 +244,7 @@ impl Stage {
         config: &Config,
         parties: &mut Vec<Party>,
     ) -> Result<(), NoMemory>
-        requires seated { IsSeated config.now self.now }
+        requires placed { PartiesArePlaced config.now self.now }
         ensures { AddsParties (stopped_replicas config.now self.now) parties.old parties.new result }
     {
         for number in 0..config.replicas() {
@@ -277,7 +279,7 @@ impl Stage {
 
     // Adds the correct clients that have stopped.
     fn add_stopped_clients(&self, config: &Config, parties: &mut Vec<Party>) -> Result<(), NoMemory>
-        requires seated { IsSeated config.now self.now }
+        requires placed { PartiesArePlaced config.now self.now }
         ensures { AddsParties (stopped_clients config.now self.now) parties.old parties.new result }
     {
         for number in 0..config.clients() {
@@ -292,9 +294,9 @@ impl Stage {
         client: ClientId,
         parties: &mut Vec<Party>,
     ) -> Result<(), NoMemory>
-        requires known { client.number < length self.now.seats.items }
+        requires known { client.number < length self.now.stage_clients.items }
         ensures { AddsParties
-            (filter (is_stopped_client config.now self.now.seats.items) (client_party client.number ∷ []))
+            (filter (is_stopped_client config.now self.now.stage_clients.items) (client_party client.number ∷ []))
             parties.old parties.new result }
     {
         if self.is_stopped_client(config, client) {
@@ -304,11 +306,13 @@ impl Stage {
     }
 
     fn is_stopped_client(&self, config: &Config, client: ClientId) -> bool
-        requires known { client.number < length self.now.seats.items }
-        ensures { result ≡ is_stopped_client config.now self.now.seats.items (client_party client.number) }
+        requires known { client.number < length self.now.stage_clients.items }
+        ensures { result ≡ is_stopped_client config.now self.now.stage_clients.items (client_party client.number) }
     {
         config.is_correct_client(Party::Client(client).number())
-            && self.seats[usize::from(client.number)].client.is_stopped()
+            && self.stage_clients[usize::from(client.number)]
+                .client
+                .is_stopped()
     }
 
     // The first frame that a party waits for, and the first party that does.
@@ -323,7 +327,7 @@ impl Stage {
     fn step_replica(&mut self, alloc: Global, replica: ReplicaId, event: Event<'_>) -> Outputs
         requires known { replica.0 < length self.old.replicas.items }
         ensures moves { StepsReplica self.old replica.0 event.entry result.items self.new }
-        ensures seats { self.new.seats ≡ self.old.seats }
+        ensures stage_clients { self.new.stage_clients ≡ self.old.stage_clients }
         ensures kept { KeepsRecords self.old self.new }
     {
         match self.replicas[usize::from(replica.0)].step(alloc, event) {
@@ -334,12 +338,12 @@ impl Stage {
 
     // Nor does a client.
     fn step_client(&mut self, alloc: Global, client: ClientId, event: ClientEvent<'_>) -> Outputs
-        requires known { client.number < length self.old.seats.items }
+        requires known { client.number < length self.old.stage_clients.items }
         ensures moves { StepsClient self.old client.number event.entry result.items self.new }
         ensures replicas { self.new.replicas ≡ self.old.replicas }
         ensures kept { KeepsRecords self.old self.new }
     {
-        match self.seats[usize::from(client.number)]
+        match self.stage_clients[usize::from(client.number)]
             .client
             .step(alloc, event)
         {
@@ -355,19 +359,19 @@ impl Stage {
         client: ClientId,
         op: Op<Global>,
     ) -> Result<(Timestamp, Outputs), NoMemory>
-        requires known { client.number < length self.old.seats.items }
+        requires known { client.number < length self.old.stage_clients.items }
         ensures calls { IfOk result (StepsInvocation self.old client.number (operation_of op) self.new) }
         ensures replicas { self.new.replicas ≡ self.old.replicas }
         ensures kept { KeepsRecords self.old self.new }
     {
-        let seat = &mut self.seats[usize::from(client.number)];
+        let stage_client = &mut self.stage_clients[usize::from(client.number)];
         // Each call lengthens the trace, and no memory holds so many entries.
-        seat.calls = match seat.calls.checked_add(1) {
+        stage_client.calls = match stage_client.calls.checked_add(1) {
             Some(calls) => calls,
             None => return Err(NoMemory),
         };
-        let timestamp = Timestamp(seat.calls);
-        match seat.client.invoke(alloc, op) {
+        let timestamp = Timestamp(stage_client.calls);
+        match stage_client.client.invoke(alloc, op) {
             Ok(outputs) => Ok((timestamp, outputs)),
             Err(_) => Ok((timestamp, Vec::new(alloc))),
         }
@@ -490,27 +494,31 @@ fn new_replicas(
     Ok(replicas)
 }
 
-fn new_seats(alloc: Global, config: &Config, publics: &PublicKeys) -> Result<Vec<Seat>, NoMemory>
+fn new_stage_clients(
+    alloc: Global,
+    config: &Config,
+    publics: &PublicKeys,
+) -> Result<Vec<StageClient>, NoMemory>
     requires keys { publics.now ≡ config.now.seed }
-    ensures { IfOk result (λ seats. AreNewSeats config.now seats.items) }
+    ensures { IfOk result (λ stage_clients. AreNewStageClients config.now stage_clients.items) }
 {
-    let mut seats = Vec::new(alloc);
+    let mut stage_clients = Vec::new(alloc);
     for number in 0..config.clients() {
-        seats.push(new_seat(alloc, config, publics, ClientId { number })?)?;
+        stage_clients.push(new_stage_client(alloc, config, publics, ClientId { number })?)?;
     }
-    Ok(seats)
+    Ok(stage_clients)
 }
 
-fn new_seat(
+fn new_stage_client(
     alloc: Global,
     config: &Config,
     publics: &PublicKeys,
     id: ClientId,
-) -> Result<Seat, NoMemory>
+) -> Result<StageClient, NoMemory>
     requires keys { publics.now ≡ config.now.seed }
-    ensures { IfOk result (λ seat. IsNewSeat config.now id.number seat) }
+    ensures { IfOk result (λ stage_client. IsNewStageClient config.now id.number stage_client) }
 {
     let ring = Ring::new(alloc, config.seed(), config.faults(), config.clients());
     let client = Client::new(id, config.faults(), ring, publics.share()?);
-    Ok(Seat { client, calls: 0 })
+    Ok(StageClient { client, calls: 0 })
 }

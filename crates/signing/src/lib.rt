@@ -10,8 +10,8 @@
 //! `receiving` says that the frames authentic to a party are those of others that open and, if they have to be signed,
 //! have their sender's signature. A view change or new view is authentic to all others or to none. `authenticate` goes
 //! from the bytes to the body in one call, or gives the first refusal that applies; refused bytes take no memory.
-//! `is_authentic_for` says whether the bytes are authentic to a party, and decodes nothing; `authenticate_request` finds
-//! a request in its bytes. No proof claims that nobody else can sign.
+//! `is_authentic_for` says whether the bytes are authentic to a party, and decodes nothing. `authenticate_request`
+//! finds a request in its bytes. No proof says that nobody else can sign.
 #![tactic(auto)]
 
 mod authentic_frame;

@@ -1,11 +1,11 @@
 -- The first values of tuples and templates, read in their bytes.
-use Rattle.std.proofs.Common.{◌≡◌, ℕ, suc, ◌+◌, ◌-◌, ◌<◌, ◌≤◌, Bool, true, false, cond, List, [], ◌∷◌, ◌++◌, length, take, Option, Some, None, ap, sym, subst, refl, ◌∙◌, arith, length-append}
+use Rattle.std.proofs.Common.{◌≡◌, ℕ, suc, ◌+◌, ◌-◌, ◌≤◌, Bool, true, false, cond, List, [], ◌∷◌, ◌++◌, length, take, Option, Some, None, ap, sym, subst, refl, ◌∙◌, arith, length-append}
 use Rattle.std.specs.Prelude.{option_map, slice_get, IfSome}
 use Rattle.std.proofs.lemmas.List.{take_at}
 use lib.Dec.{eqb}
-use Rattle.tuple_tree.specs.Items.{TreeItem, leaf, inner, none, item, how_many, length_in, whole_length, as_list}
+use Rattle.tuple_tree.specs.Items.{TreeItem, leaf, inner, none, item, how_many, length_in, as_list}
 use Rattle.tuple_tree.specs.Limits.{AreItems}
-use Rattle.tuple_tree.specs.Values.{Datum, number, text, bytes, truth, wide, actual, any, formal, datum_length, slot_length, datum_kind, IsDatum, IsSlot, TupleTree, TemplateTree, AreBytes, IsTuple, IsTemplate}
+use Rattle.tuple_tree.specs.Values.{Datum, bytes, actual, any, formal, datum_length, slot_length, datum_kind, IsDatum, IsSlot, TupleTree, TemplateTree, AreBytes, IsTuple, IsTemplate}
 use Rattle.tuple_tree.specs.declared.atoms.Kind.{Kind}
 use Rattle.tuple_tree.specs.declared.atoms.Kind.TheVariants as kinds
 use Rattle.tuple_tree.specs.declared.values.AtomRef.{AtomRef}
@@ -13,7 +13,6 @@ use Rattle.tuple_tree.specs.Reading.{◌>>=◌, rest_of, byte_at, nothing, item_
 use Rattle.tuple_tree.specs.Loose.{loose_at, loose_slot_at}
 use Rattle.tuple_tree.specs.Seen.{seen_datum}
 use Rattle.tuple_tree.specs.Spelling.{formal_tag, datum_spelling, slot_spelling, items_spelling}
-use Rattle.tuple_tree.proofs.Leaves.{datum_leaves}
 use Rattle.tuple_tree.proofs.Loosening.{IsLoose, IsLooseSlot, loosen, loosen_slot, loosen_item, loose_leaves, loose_slot_leaves}
 use Rattle.tuple_tree.proofs.Readers.{parts}
 use Rattle.tuple_tree.proofs.Skipping.{rest_some}

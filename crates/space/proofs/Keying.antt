@@ -1,5 +1,5 @@
 -- A match is a candidate.
-use Rattle.std.proofs.Common.{◌≡◌, ℕ, ◌+◌, true, refl, sym, ap, ◌∙◌, eq-eqb}
+use Rattle.std.proofs.Common.{◌≡◌, ◌+◌, true, refl, sym, ap, ◌∙◌, eq-eqb}
 use Rattle.std.proofs.lemmas.Bool.{and_parts}
 use Rattle.tuple_tree.specs.Items.{leaf, inner, none, item, how_many}
 use Rattle.tuple_tree.specs.Values.{actual, any, formal, TupleTree, TemplateTree}

@@ -10,7 +10,7 @@ use Rattle.events.specs.Outputs.{after_entries, entry_of}
 use Rattle.events.specs.declared.output.Output.{Output}
 use Rattle.events.specs.declared.output.Output.TheVariants as outputs
 use Rattle.space_node.specs.Calls.{AcceptNothing, AcceptsSome, CallBegins, Called, CallEnds, CallGoesOn, IsQuiet, IsUnanswered, Refused}
-use Rattle.space_node.specs.Seats.{Seated}
+use Rattle.space_node.specs.PartyStates.{PartyState}
 
 -- ---- quiet entries
 
@@ -44,7 +44,7 @@ unanswered (_ ∷ more) quiet = (tt, unanswered more quiet.1)
 
 -- ---- how a call begins, goes on and ends
 
-pub begins : (old new : Seated) (k timestamp : ℕ) (op : Operation) (outs : List Output) (es : List Entry)
+pub begins : (old new : PartyState) (k timestamp : ℕ) (op : Operation) (outs : List Output) (es : List Entry)
     → k ≡ old.party - 256 → timestamp ≡ suc (last_call old.history) → es ≡ Invoke k timestamp op ∷ map (entry_of old.party) outs → AcceptNothing outs
     → new ≡ record { party = old.party; history = after_entries es old.history; stopped = false } → CallBegins old op new
 begins old new k timestamp op outs es who when are none is =
@@ -53,37 +53,37 @@ begins old new k timestamp op outs es who when are none is =
     record {
       more = after_entries (map (entry_of old.party) outs) [];
       quiet = each_behind IsQuiet (map (entry_of old.party) outs) [] (quiet_outputs old.party outs none) tt;
-      history = ap (λ (s : Seated). s.history) is ∙ (ap (λ (xs : List Entry). after_entries xs old.history) are
+      history = ap (λ (s : PartyState). s.history) is ∙ (ap (λ (xs : List Entry). after_entries xs old.history) are
           ∙ (behind_append (map (entry_of old.party) outs) [] (Invoke k timestamp op ∷ old.history)
           ∙ ap (λ (e : Entry). after_entries (map (entry_of old.party) outs) [] ++ e ∷ old.history) invoke));
-      party = ap (λ (s : Seated). s.party) is;
-      running = ap (λ (s : Seated). s.stopped) is;
+      party = ap (λ (s : PartyState). s.party) is;
+      running = ap (λ (s : PartyState). s.stopped) is;
     }
 
-pub goes_on : (old new : Seated) (input : Entry) (outs : List Output) (es : List Entry) → IsQuiet input → es ≡ input ∷ map (entry_of old.party) outs → AcceptNothing outs
+pub goes_on : (old new : PartyState) (input : Entry) (outs : List Output) (es : List Entry) → IsQuiet input → es ≡ input ∷ map (entry_of old.party) outs → AcceptNothing outs
     → new ≡ record { party = old.party; history = after_entries es old.history; stopped = false } → CallGoesOn old new
 goes_on old new input outs es quiet are none is = record {
   more = after_entries (map (entry_of old.party) outs) (input ∷ []);
   quiet = each_behind IsQuiet (map (entry_of old.party) outs) (input ∷ []) (quiet_outputs old.party outs none) (quiet, tt);
-  history = ap (λ (s : Seated). s.history) is ∙ (ap (λ (xs : List Entry). after_entries xs old.history) are
+  history = ap (λ (s : PartyState). s.history) is ∙ (ap (λ (xs : List Entry). after_entries xs old.history) are
       ∙ behind_append (map (entry_of old.party) outs) (input ∷ []) old.history);
-  party = ap (λ (s : Seated). s.party) is;
-  running = ap (λ (s : Seated). s.stopped) is;
+  party = ap (λ (s : PartyState). s.party) is;
+  running = ap (λ (s : PartyState). s.stopped) is;
 }
 
-pub ends : (old new : Seated) (input : Entry) (timestamp : ℕ) (answer : Outcome) (es : List Entry) → IsQuiet input → timestamp ≡ last_call old.history
+pub ends : (old new : PartyState) (input : Entry) (timestamp : ℕ) (answer : Outcome) (es : List Entry) → IsQuiet input → timestamp ≡ last_call old.history
     → es ≡ input ∷ Accepted (old.party - 256) timestamp answer ∷ []
     → new ≡ record { party = old.party; history = after_entries es old.history; stopped = false } → CallEnds old answer new
 ends old new input timestamp answer es quiet when are is = record {
   more = input ∷ [];
   quiet = (quiet, tt);
-  history = ap (λ (s : Seated). s.history) is ∙ (ap (λ (xs : List Entry). after_entries xs old.history) are
+  history = ap (λ (s : PartyState). s.history) is ∙ (ap (λ (xs : List Entry). after_entries xs old.history) are
       ∙ ap (λ (t : ℕ). Accepted (old.party - 256) t answer ∷ input ∷ old.history) when);
-  party = ap (λ (s : Seated). s.party) is;
-  running = ap (λ (s : Seated). s.stopped) is;
+  party = ap (λ (s : PartyState). s.party) is;
+  running = ap (λ (s : PartyState). s.stopped) is;
 }
 
-pub ends_later : (a b c : Seated) (answer : Outcome) → CallGoesOn a b → CallEnds b answer c → CallEnds a answer c
+pub ends_later : (a b c : PartyState) (answer : Outcome) → CallGoesOn a b → CallEnds b answer c → CallEnds a answer c
 ends_later a b c answer first next = record {
   more = next.more ++ first.more;
   quiet = each_append IsQuiet next.more first.more next.quiet first.quiet;
@@ -95,7 +95,7 @@ ends_later a b c answer first next = record {
   running = next.running;
 }
 
-pub called : (a b c : Seated) (op : Operation) (answer : Outcome) → CallBegins a op b → CallEnds b answer c → Called a op answer c
+pub called : (a b c : PartyState) (op : Operation) (answer : Outcome) → CallBegins a op b → CallEnds b answer c → Called a op answer c
 called a b c op answer first next =
     let invoke = Invoke (a.party - 256) (suc (last_call a.history)) op in
     record {
@@ -112,7 +112,7 @@ called a b c op answer first next =
 
 -- ---- how it is refused
 
-pub refused_call : (a b c : Seated) (op : Operation) → CallBegins a op b → Refused b c → Refused a c
+pub refused_call : (a b c : PartyState) (op : Operation) → CallBegins a op b → Refused b c → Refused a c
 refused_call a b c op first next =
     let invoke = Invoke (a.party - 256) (suc (last_call a.history)) op in
     record {

@@ -10,9 +10,9 @@ use Rattle.std.proofs.option.Option.TheSendSync.{the_send as option_send}
 use Rattle.authenticator.proofs.ring.Ring.TheSendSync.{the_send as ring_send}
 use Rattle.replica.proofs.member.Member.TheSendSync.{the_send as member_send}
 use Rattle.desk.proofs.snapshots.Snapshots.TheSendSync.{the_send as snapshots_send}
-use Rattle.desk.proofs.open_transfer.OpenTransfer.TheSendSync.{the_send as transfer_send}
+use Rattle.desk.proofs.transfer.StateTransfer.TheSendSync.{the_send as transfer_send}
 use Rattle.desk.proofs.waiting.Waiting.TheSendSync.{the_send as waiting_send}
-use Rattle.desk.specs.contracts.open_transfer.OpenTransfer as transfer
+use Rattle.desk.specs.contracts.transfer.StateTransfer as transfer
 use Rattle.desk.specs.contracts.desk.Desk as state
 use Rattle.desk.specs.contracts.desk.Desk.TheInside as in_state
 use Rattle.replica.specs.contracts.parted.Desk as desk

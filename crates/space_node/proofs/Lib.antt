@@ -10,10 +10,10 @@ pub mod Handing
 pub mod HandleSends
 pub mod JournalSends
 pub mod NewHandles
-pub mod NewSeats
+pub mod NewParties
 pub mod Orders
 pub mod Parts
-pub mod SeatSends
+pub mod NodeSends
 pub mod Sends
 pub mod StateSends
 pub mod Stale

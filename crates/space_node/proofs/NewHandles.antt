@@ -10,8 +10,8 @@ use Rattle.protocol.specs.System.Configuration.{Configuration, IsConfiguration, 
 use Rattle.journal.specs.Histories.{correct_of, correct_parties, correct_replicas}
 use Rattle.journal.specs.Parts.{Part, fresh}
 use Rattle.space_node.specs.Places.{clients_among, clients_of, parties_of, replicas_among}
-use Rattle.space_node.specs.Seats.{Seated}
-use Rattle.space_node.proofs.NewSeats.{correct_client}
+use Rattle.space_node.specs.PartyStates.{PartyState}
+use Rattle.space_node.proofs.NewParties.{correct_client}
 
 -- ---- numbers that pass a test, in a range
 
@@ -96,21 +96,21 @@ pub parties_fresh : (ps : List ℕ) → map (λ (s : Part). s.party) (map fresh 
 parties_fresh [] = refl
 parties_fresh (p ∷ ps) = ap (λ qs. p ∷ qs) (parties_fresh ps)
 
--- a share more is seated
-pub seated_more : (done : List Part) (share : Part) (old new : List ℕ) → old ≡ clients_among (map (λ (s : Part). s.party) done)
+-- one share more
+pub share_more : (done : List Part) (share : Part) (old new : List ℕ) → old ≡ clients_among (map (λ (s : Part). s.party) done)
     → new ≡ old ++ clients_among (share.party ∷ []) → new ≡ clients_among (map (λ (s : Part). s.party) (done ++ share ∷ []))
-seated_more done share old new was more =
+share_more done share old new was more =
     let parties : map (λ (s : Part). s.party) (done ++ share ∷ []) ≡ map (λ (s : Part). s.party) done ++ share.party ∷ [] =
     map-append (λ (s : Part). s.party) done (share ∷ []) in
     more ∙ (ap (λ ps. ps ++ clients_among (share.party ∷ [])) was
     ∙ (sym (filter-append (nat_le 256) (map (λ (s : Part). s.party) done) (share.party ∷ [])) ∙ ap clients_among (sym parties)))
 
--- a handle more is made, of the next seat
-pub handle_more : {E : Type 0} (seat : E → Seated) (done : List E) (end : E) (handles more : List Seated) (handle : Seated) → more ≡ handles ++ handle ∷ [] → handle ≡ seat end
-    → parties_of handles ≡ map (λ e. (seat e).party) done → parties_of more ≡ map (λ e. (seat e).party) (done ++ end ∷ [])
-handle_more seat done end handles more handle longer is were =
+-- a handle more is made, of the next state
+pub handle_more : {E : Type 0} (state : E → PartyState) (done : List E) (end : E) (handles more : List PartyState) (handle : PartyState) → more ≡ handles ++ handle ∷ [] → handle ≡ state end
+    → parties_of handles ≡ map (λ e. (state e).party) done → parties_of more ≡ map (λ e. (state e).party) (done ++ end ∷ [])
+handle_more state done end handles more handle longer is were =
     ap parties_of longer
-    ∙ (map-append (λ (s : Seated). s.party) handles (handle ∷ [])
+    ∙ (map-append (λ (s : PartyState). s.party) handles (handle ∷ [])
     ∙ (ap (λ ps. ps ++ handle.party ∷ []) were
-    ∙ (ap (λ (s : Seated). map (λ e. (seat e).party) done ++ s.party ∷ []) is
-    ∙ sym (map-append (λ e. (seat e).party) done (end ∷ [])))))
+    ∙ (ap (λ (s : PartyState). map (λ e. (state e).party) done ++ s.party ∷ []) is
+    ∙ sym (map-append (λ e. (state e).party) done (end ∷ [])))))

@@ -9,7 +9,7 @@ use Rattle.std.proofs.lemmas.List.Elements.{All-get_or}
 use Rattle.journal.specs.Parts.{Part}
 use Rattle.space_node.specs.Places.{IsFirstShareOf, all_but_first, left_after, replicas_among}
 
--- the orders that are left are those of the replicas among the parties that have no seat yet
+-- the orders that are left are those of the replicas among the parties that have no state yet
 abbrev pub AreLeft : List Part → List Part → ℕ → Type 0
 AreLeft shares orders k = map (λ (o : Part). o.party) orders ≡ replicas_among (drop k (map (λ (s : Part). s.party) shares))
 
@@ -36,7 +36,7 @@ pub first_new : (orders : List Part) (order : Part) → 0 < length orders → or
 first_new orders order some is all =
     subst (λ (o : Part). o.history ≡ []) (sym is) (All-get_or (λ (o : Part). o.history ≡ []) orders 0 order some all)
 
--- ---- one more party has its seat
+-- ---- one more party has its state
 
 left_of : (b : Bool) (p : ℕ) (orders : List Part) (ps : List ℕ) → map (λ (o : Part). o.party) orders ≡ cond b (p ∷ ps) ps
     → map (λ (o : Part). o.party) (cond b (all_but_first orders) orders) ≡ ps
@@ -69,7 +69,7 @@ module _ (shares orders : List Part) (k : ℕ) (share : Part) (low : k < length 
       ap (map (λ (o : Part). o.party)) same
       ∙ left_of (nat_lt share.party 256) share.party orders (replicas_among (drop (k + 1) (map (λ (s : Part). s.party) shares))) are
 
--- a replica that has its seat has taken the first order
+-- a replica that has its state has taken the first order
 pub after_replica : (p : ℕ) (orders later : List Part) → p < 256 → later ≡ all_but_first orders → later ≡ left_after p orders
 after_replica p orders later below same =
     let replica : nat_lt p 256 ≡ true = grind (arith, nat_tests) in

@@ -11,7 +11,7 @@ use Rattle.protocol.specs.System.Trace.Entry.{Invoke, Accepted}
 use Rattle.protocol.specs.Client.RightClient.{last_call}
 use Rattle.events.specs.declared.output.Output.{Output}
 use Rattle.events.specs.declared.output.Output.TheVariants as outputs
-use Rattle.space_node.specs.Seats.{Seated}
+use Rattle.space_node.specs.PartyStates.{PartyState}
 use Rattle.space_node.specs.declared.turn.Turn.{Turn}
 use Rattle.space_node.specs.declared.turn.Turn.TheVariants as turns
 
@@ -27,12 +27,12 @@ IsQuiet (Accepted client timestamp answer) = ⊥
 IsQuiet _ = ⊤
 
 -- the client had stopped, or made 2^62 calls
-abbrev pub IsSpent : Seated → Type 0
+abbrev pub IsSpent : PartyState → Type 0
 IsSpent s = (s.stopped ≡ true) ⊎ (2 ^ 62 ≤ last_call s.history)
 
 -- The call was answered. The history grew by its invocation, with the next timestamp, and its last entry is the
 -- acceptance of this answer. Between them no call begins and none is answered.
-pub record Called (old : Seated) (op : Operation) (answer : Outcome) (new : Seated) : Type 0 where
+pub record Called (old : PartyState) (op : Operation) (answer : Outcome) (new : PartyState) : Type 0 where
   pub between : List Entry
   pub quiet : Each IsQuiet between
   pub history : let timestamp = suc (last_call old.history) in
@@ -42,7 +42,7 @@ pub record Called (old : Seated) (op : Operation) (answer : Outcome) (new : Seat
   pub running : new.stopped ≡ false
 
 -- The call was not answered. The history grew, if at all, without an acceptance, and the client has stopped.
-pub record Refused (old new : Seated) : Type 0 where
+pub record Refused (old new : PartyState) : Type 0 where
   pub more : List Entry
   pub unanswered : Each IsUnanswered more
   pub history : new.history ≡ more ++ old.history
@@ -71,7 +71,7 @@ MakesTurn timestamp outs =
     ⊎ ((answer : Answer Global) × (outs ≡ outputs.Accepted (record { 0 = timestamp }) answer ∷ []))
 
 -- the call begins
-pub record CallBegins (old : Seated) (op : Operation) (new : Seated) : Type 0 where
+pub record CallBegins (old : PartyState) (op : Operation) (new : PartyState) : Type 0 where
   pub more : List Entry
   pub quiet : Each IsQuiet more
   pub history : let timestamp = suc (last_call old.history) in
@@ -80,7 +80,7 @@ pub record CallBegins (old : Seated) (op : Operation) (new : Seated) : Type 0 wh
   pub running : new.stopped ≡ false
 
 -- the call goes on
-pub record CallGoesOn (old new : Seated) : Type 0 where
+pub record CallGoesOn (old new : PartyState) : Type 0 where
   pub more : List Entry
   pub quiet : Each IsQuiet more
   pub history : new.history ≡ more ++ old.history
@@ -88,7 +88,7 @@ pub record CallGoesOn (old new : Seated) : Type 0 where
   pub running : new.stopped ≡ false
 
 -- the call ends with this answer
-pub record CallEnds (old : Seated) (answer : Outcome) (new : Seated) : Type 0 where
+pub record CallEnds (old : PartyState) (answer : Outcome) (new : PartyState) : Type 0 where
   pub more : List Entry
   pub quiet : Each IsQuiet more
   pub history : new.history ≡ Accepted (client_number old.party) (last_call old.history) answer ∷ (more ++ old.history)
@@ -100,7 +100,7 @@ abbrev pub IsTurnOf : ℕ → List Output → Turn → Type 0
 IsTurnOf timestamp outs (turns.Waits given) = (outs ≡ given.items) × AcceptNothing outs
 IsTurnOf timestamp outs (turns.Answered answer) = outs ≡ outputs.Accepted (record { 0 = timestamp }) answer ∷ []
 
--- the event's consequence for the seat
-abbrev pub SeatTakesTurn : Seated → Turn → Seated → Type 0
-SeatTakesTurn old (turns.Waits given) new = CallGoesOn old new
-SeatTakesTurn old (turns.Answered answer) new = CallEnds old (outcome_of answer) new
+-- the event's consequence for the handle's state
+abbrev pub HandleTakesTurn : PartyState → Turn → PartyState → Type 0
+HandleTakesTurn old (turns.Waits given) new = CallGoesOn old new
+HandleTakesTurn old (turns.Answered answer) new = CallEnds old (outcome_of answer) new

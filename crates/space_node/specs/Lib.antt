@@ -4,4 +4,4 @@ pub mod Drills
 pub mod Faults
 pub mod Places
 pub mod Runs
-pub mod Seats
+pub mod PartyStates

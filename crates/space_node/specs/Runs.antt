@@ -13,7 +13,7 @@ use Rattle.journal.specs.Carrying.{Carried}
 use Rattle.journal.specs.Histories.{correct_replicas}
 use Rattle.space_node.specs.declared.run.FinishFault.{FinishFault}
 use Rattle.space_node.specs.declared.run.FinishFault.TheVariants as faults
-use Rattle.space_node.specs.Seats.{Seated}
+use Rattle.space_node.specs.PartyStates.{PartyState}
 
 -- no party is faulty
 abbrev pub IsFaultless : Configuration → Type 0
@@ -25,40 +25,40 @@ pub record Serves (c : Configuration) (correct : List ReplicaId) : Type 0 where
   pub correct_are : map (λ r. r.0) correct ≡ correct_replicas c
 
 -- the trace has just these histories of the parties
-abbrev pub HasHistories : List Entry → List Seated → Type 0
-HasHistories trace seats = All (λ s. history_of s.party trace ≡ s.history) seats
+abbrev pub HasHistories : List Entry → List PartyState → Type 0
+HasHistories trace states = All (λ s. history_of s.party trace ≡ s.history) states
 
 -- one of these has another history than the party's in the trace
-pub record LacksHistory (trace : List Entry) (seats : List Seated) (p : ℕ) : Type 0 where
+pub record LacksHistory (trace : List Entry) (states : List PartyState) (p : ℕ) : Type 0 where
   pub at : ℕ
-  pub seat : Seated
-  pub is : slice_get seats at ≡ Some seat
-  pub party_is : seat.party ≡ p
-  pub differs : ¬ (history_of seat.party trace ≡ seat.history)
+  pub state : PartyState
+  pub is : slice_get states at ≡ Some state
+  pub party_is : state.party ≡ p
+  pub differs : ¬ (history_of state.party trace ≡ state.history)
 
 -- The result of the comparison: the trace is a run's in which received frames were sent, and it has the histories of
 -- the shares and of the clients.
-pub record IsWhole (c : Configuration) (trace : List Entry) (shares clients : List Seated) : Type 0 where
+pub record IsWhole (c : Configuration) (trace : List Entry) (shares clients : List PartyState) : Type 0 where
   pub run : IsRun c trace
   pub carried : Carried c trace
   pub shares_are : HasHistories trace shares
   pub clients_are : HasHistories trace clients
 
 -- Each correct replica is prompt, up to the end of its share.
-abbrev pub ReplicasArePrompt : Configuration → List Seated → Type 0
+abbrev pub ReplicasArePrompt : Configuration → List PartyState → Type 0
 ReplicasArePrompt c shares = All (λ s. IsPromptReplica c s.party s.history) shares
 
 -- Each given client is prompt, up to the end of its history.
-abbrev pub ClientsArePrompt : Configuration → List Seated → Type 0
+abbrev pub ClientsArePrompt : Configuration → List PartyState → Type 0
 ClientsArePrompt c clients = All (λ s. IsPromptClient c s.party s.history) clients
 
--- the parties of those seats that have stopped, in their order
-abbrev pub stopped_of : List Seated → List ℕ
-stopped_of seats = map (λ s. s.party) (filter (λ s. s.stopped) seats)
+-- the parties of those states that have stopped, in their order
+abbrev pub stopped_of : List PartyState → List ℕ
+stopped_of states = map (λ s. s.party) (filter (λ s. s.stopped) states)
 
--- These are the numbers of the replicas that had stopped, and then of the clients that have, each once for its seat,
+-- These are the numbers of the replicas that had stopped, and then of the clients that have, each once for its state,
 -- and no others.
-abbrev pub AreNamed : List ℕ → List Seated → List Seated → Type 0
+abbrev pub AreNamed : List ℕ → List PartyState → List PartyState → Type 0
 AreNamed stopped shares clients = stopped ≡ stopped_of shares ++ stopped_of clients
 
 -- The trace is a run's. Each frame that a party got was sent before, except those of faulty senders. The trace has
@@ -68,8 +68,8 @@ AreNamed stopped shares clients = stopped ≡ stopped_of shares ++ stopped_of cl
 -- is linear: the answers that clients accept, of reads and writes alike, are those of one sequential tuple space. In
 -- it each operation acts at most once, an accepted one exactly once, at a position between its invocation and its
 -- acceptance.
-pub record IsFinished (c : Configuration) (trace : List Entry) (shares : List Seated) (stopped : List ℕ)
-    (clients : List Seated) : Type 0 where
+pub record IsFinished (c : Configuration) (trace : List Entry) (shares : List PartyState) (stopped : List ℕ)
+    (clients : List PartyState) : Type 0 where
   pub whole : IsWhole c trace shares clients
   pub replicas_prompt : ReplicasArePrompt c shares
   pub clients_prompt : ClientsArePrompt c clients
@@ -80,12 +80,12 @@ pub record IsFinished (c : Configuration) (trace : List Entry) (shares : List Se
 
 -- If the histories differ, the trace has another one of this party than its share or its handle. The run still names
 -- exactly the parties that stopped.
-pub record TellsOther (trace : List Entry) (shares : List Seated) (stopped : List ℕ) (clients : List Seated) (p : ℕ)
-    : Type 0 where
+pub record TellsOther (trace : List Entry) (shares : List PartyState) (stopped : List ℕ)
+    (clients : List PartyState) (p : ℕ) : Type 0 where
   pub lacks : LacksHistory trace shares p ⊎ LacksHistory trace clients p
   pub named : AreNamed stopped shares clients
 
-abbrev pub TellsFault : {N : Type 0} → FinishFault N → List Seated → Type 0
+abbrev pub TellsFault : {N : Type 0} → FinishFault N → List PartyState → Type 0
 TellsFault (faults.NotInJournal run party) clients =
     TellsOther (reverse run.trace.items) run.shares.items (map party_number run.stopped.items) clients
     (party_number party)

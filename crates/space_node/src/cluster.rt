@@ -6,7 +6,7 @@ ghost use Rattle.space_node.specs.declared.fault.StartFault.TheVariants as Start
 ghost use Rattle.space_node.specs.Drills.{MayStart, replicas_of};
 ghost use Rattle.space_node.specs.Places.{HandleAt, HandsOut, clients_of, parties_of};
 ghost use Rattle.space_node.specs.Runs.{IsFaultless, IsFinished, Serves, TellsFault};
-ghost use Rattle.space_node.specs.Seats.{IsNew};
+ghost use Rattle.space_node.specs.PartyStates.{IsNew};
 
 use crate::drill::{Drill, drill_of, may_start};
 use crate::drilling::start_drill;
@@ -15,8 +15,8 @@ use crate::faultless::correct_replicas;
 use crate::finishing::{finish_run, shares_of};
 use crate::gate::Gate;
 use crate::handle::ClientHandle;
+use crate::parties::{ClientEnd, NodeEnd, new_shared};
 use crate::run::{FinishFault, Run};
-use crate::seating::{ClientEnd, NodeEnd, seat_all};
 use crate::serving::{serve_orders, serve_reads};
 use crate::shared::Shared;
 use events::Config;
@@ -103,7 +103,7 @@ impl<N: Naming + Send + Sync + 'static> Cluster<N> {
             return Err(StartFault::BadConfig);
         }
         let replicas = correct_replicas(alloc, config)?;
-        let (shared, ends, client_ends) = seat_all::<N>(alloc, opened, config, limit)?;
+        let (shared, ends, client_ends) = new_shared::<N>(alloc, opened, config, limit)?;
         let shared = Arc::new(alloc, shared)?;
         let gate = Arc::new(alloc, gate)?;
         let handles = new_handles(alloc, &shared, client_ends)?;
@@ -204,13 +204,13 @@ fn new_handles<N: Naming>(
     ends: Vec<ClientEnd<N>>,
 ) -> Result<Vec<ClientHandle<N>>, NoMemory>
     ensures new { IfOk result (λ handles. All IsNew handles.items) }
-    ensures parties { IfOk result (λ handles. parties_of handles.items ≡ map (λ e. e.seat.party) ends.items) }
+    ensures parties { IfOk result (λ handles. parties_of handles.items ≡ map (λ e. e.state.party) ends.items) }
 {
     let mut handles = Vec::new(alloc);
     for end in ends {
-        let ClientEnd { seat, messages } = end;
+        let ClientEnd { state, messages } = end;
         let shared = Arc::try_clone(shared)?;
-        handles.push(ClientHandle::new(seat, shared, messages))?;
+        handles.push(ClientHandle::new(state, shared, messages))?;
     }
     Ok(handles)
 }

@@ -6,7 +6,7 @@ ghost use Rattle.space_node.specs.Drills.{IsStale};
 use crate::drill::Drill;
 use crate::fault::ThreadFault;
 use crate::inbox::InboxMessage;
-use crate::seating::NodeEnd;
+use crate::parties::NodeEnd;
 use crate::shared::Shared;
 use authenticator::Ring;
 use bumpalo::Bump;

@@ -6,7 +6,7 @@ ghost use Rattle.tuple_codec.specs.OperationView.{operation_of};
 ghost use Rattle.protocol.specs.System.Trace.Entry.{Invoke};
 ghost use Rattle.events.specs.Outputs.{entry_of};
 ghost use Rattle.journal.specs.Histories.{IsEventOf, IsOutputOf};
-ghost use Rattle.space_node.specs.Seats.{IsInputOf};
+ghost use Rattle.space_node.specs.PartyStates.{IsInputOf};
 
 use events::{Entry, EntryKind, Output};
 use std::alloc::Global;

@@ -40,7 +40,7 @@ pub(crate) fn shares_of<N: Naming, R: Wait>(
     Ok(shares)
 }
 
-// The share in the replica's seats.
+// The share in the replica's node.
 fn share_of<N: Naming, R: Wait>(
     rt: &R,
     alloc: Global,

@@ -6,10 +6,10 @@ ghost use Rattle.terms.specs.Parties.{party_number, client_party};
 ghost use Rattle.protocol.specs.Client.RightClient.{IsPromptClient};
 ghost use Rattle.space_node.specs.declared.fault.CallFault.TheVariants as CallFault;
 ghost use Rattle.space_node.specs.Calls.{Called, CallEnds, IsSpent, Refused};
-ghost use Rattle.space_node.specs.Seats.{IsNew};
+ghost use Rattle.space_node.specs.PartyStates.{IsNew};
 
-use crate::client_seat::ClientSeat;
 use crate::fault::CallFault;
+use crate::handle_state::HandleState;
 use crate::inbox::InboxMessage;
 use crate::input::{Input, Outgoing};
 use crate::shared::Shared;
@@ -25,35 +25,35 @@ use tuple_codec::{Answer, Op};
 /// A client of a running cluster, which has one call at a time.
 #[derive(Drop)]
 pub struct ClientHandle<N: Naming> {
-    seat: ClientSeat<N>,
+    state: HandleState<N>,
     shared: Arc<Shared<N>, Global>,
     messages: Receiver<InboxMessage>,
 }
 
 impl<N: Naming> Model for ClientHandle<N> {
-    ghost use Rattle.space_node.specs.Codes.{seated_code};
-    ghost use Rattle.space_node.specs.Seats.{HasNoOpenCall, Seated};
+    ghost use Rattle.space_node.specs.Codes.{party_state_code};
+    ghost use Rattle.space_node.specs.PartyStates.{HasNoOpenCall, PartyState};
 
-    ghost Value = { Seated };
+    ghost Value = { PartyState };
 
-    ghost coded = { seated_code };
+    ghost coded = { party_state_code };
 
-    ghost view = { λ h. h.seat };
+    ghost view = { λ h. h.state };
 
-    ghost invariant = { λ h. HasNoOpenCall h.seat };
+    ghost invariant = { λ h. HasNoOpenCall h.state };
 }
 
 impl<N: Naming> ClientHandle<N> {
     pub(crate) fn new(
-        seat: ClientSeat<N>,
+        state: HandleState<N>,
         shared: Arc<Shared<N>, Global>,
         messages: Receiver<InboxMessage>,
     ) -> ClientHandle<N>
-        requires { IsNew seat }
-        ensures { result ≡ seat }
+        requires { IsNew state }
+        ensures { result ≡ state }
     {
         ClientHandle {
-            seat,
+            state,
             shared,
             messages,
         }
@@ -63,7 +63,7 @@ impl<N: Naming> ClientHandle<N> {
     pub fn party(&self) -> Party
         ensures { party_number result ≡ self.now.party }
     {
-        self.seat.share().party()
+        self.state.share().party()
     }
 
     /// Whether it is the handle of the client of this number.
@@ -81,14 +81,14 @@ impl<N: Naming> ClientHandle<N> {
         ensures value { result ≡ self.now.stopped }
         ensures prompt { IsPromptClient N.config self.now.party self.now.history }
     {
-        self.seat.is_stopped()
+        self.state.is_stopped()
     }
 
     pub(crate) fn share(&self) -> &Share<N>
         ensures party { result.now.party ≡ self.now.party }
         ensures history { result.now.history ≡ self.now.history }
     {
-        self.seat.share()
+        self.state.share()
     }
 
     /// Calls an operation and waits for its answer. A call after the cluster has ended is refused.
@@ -108,8 +108,8 @@ impl<N: Naming> ClientHandle<N> {
         ensures refused { OnErr result (Refused self.old self.new) }
         ensures spent { (result ≡ Err CallFault.Stopped) ↔ IsSpent self.old }
     {
-        if self.seat.is_spent() {
-            self.seat.stop();
+        if self.state.is_spent() {
+            self.state.stop();
             return Err(CallFault::Stopped);
         }
         Ok(self.answer(rt, alloc, op)?)
@@ -126,13 +126,13 @@ impl<N: Naming> ClientHandle<N> {
         ensures called { IfOk result (λ answer. Called self.old (operation_of op) (outcome_of answer) self.new) }
         ensures refused { OnErr result (Refused self.old self.new) }
     {
-        let request = self.seat.invoke(rt, alloc, &self.shared.journal, op)?;
+        let request = self.state.invoke(rt, alloc, &self.shared.journal, op)?;
         self.shared.send(rt, &request);
         let since = request.first;
         wait_answer(
             rt,
             alloc,
-            &mut self.seat,
+            &mut self.state,
             &self.shared,
             &self.messages,
             since,
@@ -145,17 +145,17 @@ impl<N: Naming> ClientHandle<N> {
 fn wait_answer<N: Naming, R: Wait>(
     rt: &R,
     alloc: Global,
-    seat: &mut ClientSeat<N>,
+    state: &mut HandleState<N>,
     shared: &Shared<N>,
     messages: &Receiver<InboxMessage>,
     since: u64,
 ) -> Result<Answer<Global>, AppendFault>
-    requires running { seat.old.stopped ≡ false }
-    ensures ends { IfOk result (λ answer. CallEnds seat.old (outcome_of answer) seat.new) }
-    ensures refused { OnErr result (Refused seat.old seat.new) }
+    requires running { state.old.stopped ≡ false }
+    ensures ends { IfOk result (λ answer. CallEnds state.old (outcome_of answer) state.new) }
+    ensures refused { OnErr result (Refused state.old state.new) }
 {
-    let Some(inbox) = shared.inbox(seat.share().party()) else {
-        seat.stop();
+    let Some(inbox) = shared.inbox(state.share().party()) else {
+        state.stop();
         return Err(AppendFault::NotInJournal);
     };
     let mut awaited = shared.quorum();
@@ -169,11 +169,11 @@ fn wait_answer<N: Naming, R: Wait>(
             }
             Some(InboxMessage::Pulse) => Input::Tick,
             Some(InboxMessage::End) | None => {
-                seat.stop();
+                state.stop();
                 return Err(AppendFault::NotInJournal);
             }
         };
-        let (turn, first) = seat.take(rt, alloc, &shared.journal, input)?;
+        let (turn, first) = state.take(rt, alloc, &shared.journal, input)?;
         match turn {
             Turn::Answered(answer) => return Ok(answer),
             Turn::Waits(outputs) => shared.send(rt, &Outgoing { outputs, first }),

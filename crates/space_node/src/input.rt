@@ -2,7 +2,7 @@
 
 ghost use Rattle.std.specs.Prelude.{◌≡◌};
 ghost use Rattle.terms.specs.Parties.{party_number};
-ghost use Rattle.space_node.specs.Seats.{input_of};
+ghost use Rattle.space_node.specs.PartyStates.{input_of};
 
 use events::{Entry, EntryKind, Outputs, SharedBytes};
 use terms::Party;

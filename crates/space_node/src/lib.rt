@@ -23,7 +23,7 @@
 //!   message is forged.
 //!
 //! The run names exactly the parties that stopped: a client by its handle, a replica by its share, which only its
-//! seats give ([`ReplicaShare`]). [`Cluster::start_with_drills`] is refused exactly if the drills are not those of
+//! node gives ([`ReplicaShare`]). [`Cluster::start_with_drills`] is refused exactly if the drills are not those of
 //! the faulty replicas. A stale replica answers reads as from a space without tuples, and sends nothing else.
 //!
 //! # What is not proved
@@ -35,8 +35,8 @@
 //!
 //! # How it is made
 //!
-//! - An `OrderSeat` has the orderer, and a `DeskSeat` the desk with the share. Contracts see of a seat a party, a
-//!   history and whether it stopped (`Seated`).
+//! - A `NodeOrder` has the orderer, and a `NodeDesk` the desk with the share. Contracts see of either a party, a
+//!   history and whether it stopped (`PartyState`).
 //! - If memory or the journal refuses, or a test's gate says so, the parts stop and nothing is sent. A frame goes into
 //!   an inbox with the position at which it was sent. Its bytes lie in memory once, for the trace, the shares and all
 //!   receivers.
@@ -46,17 +46,15 @@
 //!   since its request. A replica that follows a primary, as its own frames tell, isn't woken by requests, which the
 //!   primary's pre-prepares bring too, unless more come than there are clients. A pulse wakes either at once, and each
 //!   message is taken in its order.
-//! - A faulty replica has the same inboxes, and no seat. Its threads do its drill (`src/drilling.rt`), which takes what
+//! - A faulty replica has the same inboxes, and no node. Its threads do its drill (`src/drilling.rt`), which takes what
 //!   comes, or answers reads from the empty space. Its frames name a faulty sender, so no position is asked of them.
 //! - A new cluster has a handle of each client, and one that is handed out is new.
-//! - `finish` ends and joins all threads, and takes each replica's share out of its seats. It compares the journal with
+//! - `finish` ends and joins all threads, and takes each replica's share out of its node. It compares the journal with
 //!   each share and each handle. The headline is the law `points_are_linear` on the trace. If no party is faulty,
 //!   `carried_is_unforged` gives its first premise.
 #![tactic(auto)]
 
-mod client_seat;
 mod cluster;
-mod desk_seat;
 mod drill;
 mod drilling;
 mod entries;
@@ -65,13 +63,15 @@ mod faultless;
 mod finishing;
 mod gate;
 mod handle;
+mod handle_state;
 mod inbox;
 mod input;
-mod order_seat;
+mod node_desk;
+mod node_order;
+mod parties;
 mod recording;
 mod replica_share;
 mod run;
-mod seating;
 mod serving;
 mod shared;
 mod turn;

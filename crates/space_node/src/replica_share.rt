@@ -4,17 +4,17 @@ ghost use Rattle.std.specs.Prelude.{◌≡◌, true, reverse};
 ghost use Rattle.terms.specs.Parties.{party_number};
 ghost use Rattle.protocol.specs.System.Configuration.{is_correct};
 ghost use Rattle.protocol.specs.Replica.Owed.{IsPromptReplica};
-ghost use Rattle.space_node.specs.Seats.{absent, replica_left_by};
+ghost use Rattle.space_node.specs.PartyStates.{absent, replica_left_by};
 
-use crate::desk_seat::DeskSeat;
-use crate::order_seat::OrderSeat;
+use crate::node_desk::NodeDesk;
+use crate::node_order::NodeOrder;
 use events::Entry;
 use journal::{Naming, Share};
 use std::alloc::Global;
 use std::marker::Model;
 use terms::{Party, ReplicaId};
 
-/// A correct replica's share, and whether the replica had stopped when its threads ended. Both come from its seats.
+/// A correct replica's share, and whether the replica had stopped when its threads ended. Both come from its node.
 #[derive(Drop)]
 pub struct ReplicaShare<N: Naming> {
     share: Share<N>,
@@ -22,12 +22,12 @@ pub struct ReplicaShare<N: Naming> {
 }
 
 impl<N: Naming> Model for ReplicaShare<N> {
-    ghost use Rattle.space_node.specs.Codes.{seated_code};
-    ghost use Rattle.space_node.specs.Seats.{Seated};
+    ghost use Rattle.space_node.specs.Codes.{party_state_code};
+    ghost use Rattle.space_node.specs.PartyStates.{PartyState};
 
-    ghost Value = { Seated };
+    ghost Value = { PartyState };
 
-    ghost coded = { seated_code };
+    ghost coded = { party_state_code };
 
     ghost view = { λ s. record {
       party = s.share.party;
@@ -37,11 +37,11 @@ impl<N: Naming> Model for ReplicaShare<N> {
 }
 
 impl<N: Naming> ReplicaShare<N> {
-    /// The share of the replica with these seats. The replica has stopped if one of them has. Its desk stops then.
+    /// The share of the replica with these states. The replica has stopped if one of them has. Its desk stops then.
     pub(crate) fn take(
         alloc: Global,
-        order: &OrderSeat<N>,
-        shelf: &mut DeskSeat<N>,
+        order: &NodeOrder<N>,
+        shelf: &mut NodeDesk<N>,
     ) -> ReplicaShare<N>
         ensures left { result ≡ replica_left_by order.now shelf.old }
         ensures prompt { IsPromptReplica N.config result.party result.history }
@@ -51,7 +51,7 @@ impl<N: Naming> ReplicaShare<N> {
         ReplicaShare { share, stopped }
     }
 
-    /// The share of a replica without seats, which counts as stopped.
+    /// The share of a replica without a node, which counts as stopped.
     pub(crate) fn none(alloc: Global, replica: ReplicaId) -> ReplicaShare<N>
         requires correct { is_correct N.config replica.0 ≡ true }
         ensures left { result ≡ absent replica.0 }

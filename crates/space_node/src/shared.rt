@@ -1,9 +1,9 @@
 //! The state that the threads of a cluster share.
 
-use crate::desk_seat::DeskSeat;
 use crate::inbox::Inbox;
 use crate::input::Outgoing;
-use crate::order_seat::OrderSeat;
+use crate::node_desk::NodeDesk;
+use crate::node_order::NodeOrder;
 use events::{Output, SharedBytes};
 use journal::{Journal, Naming};
 use read_only::asks_read;
@@ -14,8 +14,8 @@ use terms::{Party, ReplicaId};
 #[derive(Drop)]
 pub(crate) struct Node<N: Naming> {
     pub(crate) replica: ReplicaId,
-    pub(crate) order: Mutex<OrderSeat<N>>,
-    pub(crate) shelf: Mutex<DeskSeat<N>>,
+    pub(crate) order: Mutex<NodeOrder<N>>,
+    pub(crate) shelf: Mutex<NodeDesk<N>>,
 }
 
 /// The inboxes of a replica, whether it is correct or faulty.

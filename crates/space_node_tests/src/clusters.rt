@@ -5,7 +5,7 @@ ghost use Rattle.std.specs.Prelude.{◌≡◌};
 
 use crate::answers::answers_all;
 use crate::calls::TRIES;
-use crate::drills::{calls_all, has_correct_shares, hears_stale_alone};
+use crate::drills::{calls_all, has_correct_shares, receives_stale_alone};
 use crate::full::is_refused_after;
 use crate::gates::{Flags, TestGate};
 use crate::held::{Holding, calls_past};
@@ -155,7 +155,7 @@ fn is_right<N: Naming>(run: &Run<N>, flags: &Flags, trial: &Trial<'_>) -> bool {
         Play::Calls => run.shares.len() == 4 && flags.are_numbered(),
         Play::Drills => {
             has_correct_shares(run, trial.faults)
-                && hears_stale_alone(run.trace.as_slice(), trial.drills)
+                && receives_stale_alone(run.trace.as_slice(), trial.drills)
         }
         Play::Full(_, Some(entries)) => run.trace.len() == entries,
         Play::Full(_, None) | Play::Holds(_) => true,

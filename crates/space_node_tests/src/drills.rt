@@ -57,7 +57,7 @@ pub fn has_correct_shares<N: Naming>(run: &Run<N>, faults: u8) -> bool {
 }
 
 /// Whether a frame of a faulty replica was got exactly if it is stale.
-pub fn hears_stale_alone(trace: &[Entry], drills: &[(u16, Drill)]) -> bool {
+pub fn receives_stale_alone(trace: &[Entry], drills: &[(u16, Drill)]) -> bool {
     for (replica, drill) in drills {
         if receives(trace, *replica) != (*drill == Drill::Stale) {
             return false;

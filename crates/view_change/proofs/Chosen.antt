@@ -13,7 +13,7 @@ use Rattle.wire_format.specs.Messages.{ViewChangeData}
 use Rattle.view_change.specs.Sets.{texts_of}
 use Rattle.view_change.specs.Selecting.{are_for, stands_by_entry, goes_before, how_many_from, IsAvailable, AreFrom, IsFirstChoice, AreFirstChoices, NothingFrom}
 use Rattle.view_change.specs.Filling.{StandsAt, NoneStandsAt}
-use Rattle.view_change.proofs.Claiming.{entries_decide}
+use Rattle.view_change.proofs.Supporting.{entries_decide}
 use Rattle.view_change.proofs.Gaps.{gaps_forbid}
 use Rattle.view_change.proofs.Larger.{all_stand_append}
 use Rattle.view_change.proofs.Ranking.{goes_before-self, goes_before-trans, stands_before, none_stands}
@@ -168,9 +168,9 @@ texts_more xs ys b text e is = ap texts_of e ∙ (go xs ∙ ap (λ t. texts_of x
     go (x ∷ xs) = ap (λ ts. arc_value x ∷ ts) (go xs)
 
 -- a batch may stand by an entry, or as the null batch
-pub stands_or_null : (c : Configuration) (view number : ℕ) (set : List (ℕ × ViewChangeData)) (text digest : List ℕ) (claimed null : Bool) → are_for view set c ≡ true → digest ≡ sha256 text
-    → claimed ≡ stands_by_entry c set number digest set → null ≡ is_null text → (claimed || (null && may_be_null c set number)) ≡ may_stand c view set number text
-stands_or_null c view number set text digest claimed null fit named by is =
+pub stands_or_null : (c : Configuration) (view number : ℕ) (set : List (ℕ × ViewChangeData)) (text digest : List ℕ) (supported null : Bool) → are_for view set c ≡ true → digest ≡ sha256 text
+    → supported ≡ stands_by_entry c set number digest set → null ≡ is_null text → (supported || (null && may_be_null c set number)) ≡ may_stand c view set number text
+stands_or_null c view number set text digest supported null fit named by is =
     ap₂ (λ a b. a || (b && may_be_null c set number)) (by ∙ (ap (λ d. stands_by_entry c set number d set) named ∙ sym (entries_decide c view number (sha256 text) set fit))) is
 
 -- which of the three decides

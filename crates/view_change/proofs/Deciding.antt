@@ -15,7 +15,7 @@ use Rattle.view_change.specs.Checking.{refusal_by_rules}
 use Rattle.view_change.specs.Refusing.{satisfies_rules, refusal_over}
 use Rattle.view_change.specs.Selecting.{are_for, is_set_for, meets}
 use Rattle.view_change.specs.Sets.{all_present, changes_by_sender, signed_changes}
-use Rattle.view_change.proofs.Claiming.{same_truth}
+use Rattle.view_change.proofs.Supporting.{same_truth}
 use Rattle.view_change.proofs.Larger.{selects_by_set}
 
 pub list_of_given : (xs : List (ℕ × ViewChangeData)) → list_of (all_present xs) ≡ xs

@@ -123,8 +123,8 @@ null_beyond c set start i quorum above most beyond =
     more_than (2 * c.faults + 1) (count_in c (λ vc. nat_le vc.low start) set) (count_in c nothing set) quorum
     (count_weaker c (λ vc. nat_le vc.low start) nothing set (λ s vc is low. passes s vc is (leb-true vc.low start low)))
   where
-    no_claim : (s : ℕ) (vc : ViewChangeData) → change_by set s ≡ Some vc → (entry : BatchEntry) → Has (λ y. y ≡ entry) vc.prepared → not (entry.number == i) ≡ true
-    no_claim s vc is entry has =
+    no_pq_entry : (s : ℕ) (vc : ViewChangeData) → change_by set s ≡ Some vc → (entry : BatchEntry) → Has (λ y. y ≡ entry) vc.prepared → not (entry.number == i) ≡ true
+    no_pq_entry s vc is entry has =
         let other : (entry.number == i) ≡ false = ne_eqb entry.number i (λ e. let r = largest_of-ge (start + span c) i s set vc is (has_number entry vc.prepared has e) most in absurd (omega arith)) in
         rw other refl
       where
@@ -136,7 +136,7 @@ null_beyond c set start i quorum above most beyond =
     passes : (s : ℕ) (vc : ViewChangeData) → change_by set s ≡ Some vc → vc.low ≤ start → (nat_lt vc.low i && list_all (λ (entry : BatchEntry). not (entry.number == i)) vc.prepared) ≡ true
     passes s vc is low =
         and_from (nat_lt vc.low i) (list_all (λ (entry : BatchEntry). not (entry.number == i)) vc.prepared)
-        (lt-ltb vc.low i (omega arith)) (all_where (λ (entry : BatchEntry). not (entry.number == i)) vc.prepared (no_claim s vc is))
+        (lt-ltb vc.low i (omega arith)) (all_where (λ (entry : BatchEntry). not (entry.number == i)) vc.prepared (no_pq_entry s vc is))
 
 -- ---- batches after others
 

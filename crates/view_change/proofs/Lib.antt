@@ -1,7 +1,7 @@
 mod Assembled
 pub mod CarriedFrames
 mod Chosen
-mod Claiming
+mod Supporting
 mod Deciding
 mod Gaps
 mod Holding

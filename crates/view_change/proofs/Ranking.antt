@@ -5,7 +5,7 @@ use Rattle.std.proofs.lemmas.Bool.{and_parts, and_from, or_cases, or_left, or_ri
 use Rattle.protocol.specs.System.Configuration.{Configuration}
 use Rattle.wire_format.specs.Messages.{ViewChangeData}
 use Rattle.wire_format.specs.Spelling.{bytes_before}
-use Rattle.claims.proofs.ByteOrder.{bytes_trans, bytes_irreflexive}
+use Rattle.pq_sets.proofs.ByteOrder.{bytes_trans, bytes_irreflexive}
 use Rattle.view_change.specs.Selecting.{stands_by_entry, latest_of, is_prepared_in, precedes, outranks, goes_before}
 
 -- ---- by prepared digests

@@ -15,7 +15,7 @@ use Rattle.view_change.specs.Checking.{new_view_refusal}
 use Rattle.view_change.specs.Laws.{AreAlikeConfigurations, SizesDecide}
 use Rattle.view_change.specs.ReceivedData.{HeldData, view_change_refusal}
 use Rattle.view_change.specs.Selecting.{are_for, is_set_for, meets}
-use Rattle.view_change.proofs.Claiming.{same_truth}
+use Rattle.view_change.proofs.Supporting.{same_truth}
 use Rattle.view_change.proofs.Larger.{selects_by_set}
 use Rattle.view_change.proofs.Opening.{tells}
 

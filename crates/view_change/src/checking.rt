@@ -36,9 +36,9 @@ fn may_stand(set: &[Change], sizes: Sizes, view: View, number: Number, batch: &B
         (changes_by_sender set.now) number.0 batch.now.text.items }
 {
     let digest = Sha256::digest(&batch.text);
-    let claimed = stands(set, sizes, number, &digest, set);
+    let supported = stands(set, sizes, number, &digest, set);
     let null = is_null(&batch.text);
-    claimed || (null && may_be_null(set, sizes, number))
+    supported || (null && may_be_null(set, sizes, number))
 }
 
 // Whether each batch may stand at its number, from the given one on.

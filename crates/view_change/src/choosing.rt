@@ -13,8 +13,8 @@ ghost use Rattle.view_change.specs.Sets.{sized, changes_by_sender, texts_of};
 
 use crate::changes::{Change, Sizes};
 use crate::rules::{may_be_null, may_stand_at};
-use claims::is_less;
 use ordering::HashedBatch;
+use pq_sets::is_less;
 use std::sync::Arc;
 use terms::{Digest, Number, View};
 use wire::{BatchEntry, ViewChange};

@@ -1,6 +1,6 @@
 //! View changes (Castro and Liskov, Practical Byzantine fault tolerance and proactive recovery, TOCS 2002, on view
 //! changes): which view changes a replica stores, which selection they allow, and which new views a replica takes. The
-//! sets P and Q of its own view changes are in `claims`. Nothing here signs, sends or authenticates.
+//! sets P and Q of its own view changes are in `pq_sets`. Nothing here signs, sends or authenticates.
 //!
 //! # What is proved
 //!

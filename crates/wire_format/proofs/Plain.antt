@@ -2,7 +2,7 @@
 use Rattle.std.proofs.Common.{◌≡◌, ℕ, nat_le, ◌^◌, ◌<◌, ◌≤◌, Bool, true, false, List, [], ◌∷◌, ◌++◌, length, Some, IsTrue, ap, sym, refl, ◌∙◌, arith, append_assoc, append-nil}
 use Rattle.std.proofs.lemmas.Bool.{eqb-true, leb-true, le-leb}
 use Rattle.std.specs.Bool.{then_some}
-use lib.Dec.{leb, eqb}
+use lib.Dec.{eqb}
 use Rattle.tuple_tree.specs.Values.{AreBytes}
 use Rattle.tuple_codec.specs.Operations.{Operation, IsOperation, Outcome, IsOutcome}
 use Rattle.tuple_codec.specs.Spelling.{operation_spelling, outcome_spelling}

@@ -153,7 +153,7 @@ const SELECTS_WHAT_WAS_PREPARED: &[Check<'static>] = &[
     Check::Accepts(&[(0, 1, "done"), (0, 2, "all 1 (1)")]),
 ];
 
-static FALSE_CLAIMS: [Run<'static>; 6] = [
+static FALSE_SETS: [Run<'static>; 6] = [
     Run {
         world: BACKUP_AND_TWO_CLIENTS,
         parts: &[PREPARED, LOGGED_ONE, OF_THREE],
@@ -193,8 +193,8 @@ static FALSE_CLAIMS: [Run<'static>; 6] = [
 ];
 
 #[test]
-fn a_claim_on_what_was_never_prepared(rt: HostRuntime) {
-    come_out(&rt, rt.alloc(), &FALSE_CLAIMS);
+fn an_entry_of_what_was_never_prepared(rt: HostRuntime) {
+    come_out(&rt, rt.alloc(), &FALSE_SETS);
 }
 
 // The correct ones of seven.

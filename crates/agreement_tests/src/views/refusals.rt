@@ -30,13 +30,13 @@ const OUT_OF_BOUNDS: usize = 4;
 const BROKEN: usize = 5;
 
 // The sender of a new view of view 1, and the view and the target of the replica that receives it.
-type Heard = (u8, (u64, u64));
+type Stored = (u8, (u64, u64));
 
 // From its primary, for who sent a view change for its view.
-const WELL: Heard = (1, (0, 1));
+const WELL: Stored = (1, (0, 1));
 
 // How a replica receives a new view that carries a frame which is none, and why it refuses the new view.
-static UNREAD: [(Heard, NewViewFault); 5] = [
+static UNREAD: [(Stored, NewViewFault); 5] = [
     // It is not from its primary, whatever else is wrong.
     ((2, (1, 2)), NewViewFault::UnknownSender),
     ((0, (0, 0)), NewViewFault::UnknownSender),
@@ -50,7 +50,7 @@ static UNREAD: [(Heard, NewViewFault); 5] = [
 // The view changes that a new view carries, the bytes of its root, and those of its batches after number 0.
 type Carried = (&'static [usize], u8, &'static [u8]);
 
-static ROWS: [(Heard, Carried, Option<NewViewFault>); 15] = [
+static ROWS: [(Stored, Carried, Option<NewViewFault>); 15] = [
     // It is taken, also by who sent no view change for its view.
     (WELL, (&[0, 1, 2], 7, &[1]), None),
     ((1, (0, 0)), (&[0, 1, 2], 7, &[1]), None),
@@ -158,7 +158,7 @@ fn new_view(
 fn refusal(
     alloc: Global,
     received: &Received,
-    (sender, (view, target)): Heard,
+    (sender, (view, target)): Stored,
     new: &NewView,
 ) -> Option<NewViewFault> {
     let (view, target, sender) = (View(view), View(target), ReplicaId(sender));
@@ -171,8 +171,8 @@ fn refusal(
 }
 
 fn are_unread(alloc: Global, received: &Received, new: &NewView) -> bool {
-    for &(heard, fault) in &UNREAD {
-        if refusal(alloc, received, heard, new) != Some(fault) {
+    for &(stored, fault) in &UNREAD {
+        if refusal(alloc, received, stored, new) != Some(fault) {
             return false;
         }
     }
@@ -185,13 +185,13 @@ enum Wanted {
     // It is received and refused as UNREAD says.
     Unread,
     // It comes of this, if of anything.
-    Heard(Heard, Option<NewViewFault>),
+    Stored(Stored, Option<NewViewFault>),
 }
 
 fn is_judged(alloc: Global, received: &Received, new: &NewView, wanted: Wanted) -> bool {
     match wanted {
         Wanted::Unread => are_unread(alloc, received, new),
-        Wanted::Heard(heard, fault) => refusal(alloc, received, heard, new) == fault,
+        Wanted::Stored(stored, fault) => refusal(alloc, received, stored, new) == fault,
     }
 }
 
@@ -213,13 +213,13 @@ fn judges(
 }
 
 fn judges_all(alloc: Global, received: &Received, frames: &[Vec<u8>]) -> Verdict {
-    for &(heard, carried, wanted) in &ROWS {
+    for &(stored, carried, wanted) in &ROWS {
         match judges(
             alloc,
             received,
             frames,
             carried,
-            Wanted::Heard(heard, wanted),
+            Wanted::Stored(stored, wanted),
         ) {
             Ok(true) => {}
             other => return other,

@@ -164,7 +164,7 @@ static ROWS_OF_SEVEN: [Row; 7] = [
     // Two can't make a start, a third one can.
     (&[HIGHER, HIGHER, NOTHING, NOTHING, NOTHING], Some((0, &[]))),
     (&[HIGHER, HIGHER, HIGHER, NOTHING, NOTHING], Some((16, &[]))),
-    // The new view of view 1 proposed the null batch, over view changes that had nothing prepared. The claims of two
+    // The new view of view 1 proposed the null batch, over view changes that had nothing prepared. The sets of two
     // lies about view 0 don't count against it.
     (
         &[NULLED, NULLED, NULLED, NULLED, NULLED, LIE, LIE],

@@ -39,7 +39,11 @@ fn is_prepare(body: &Body) -> bool {
     }
 }
 
-fn hears_prepare(endpoint: &mut Endpoint, alloc: Global, bytes: &[u8]) -> Result<bool, NoMemory> {
+fn receives_prepare(
+    endpoint: &mut Endpoint,
+    alloc: Global,
+    bytes: &[u8],
+) -> Result<bool, NoMemory> {
     // Dropped by a call: a drop at the function's end has a case for each kind of message.
     let authentic = endpoint.authenticate(alloc, bytes)?;
     let is_right = matches!(&authentic, Some(body) if is_prepare(body));
@@ -76,7 +80,7 @@ fn agrees(
     }
     let mut endpoint = new_endpoint(alloc, me)?;
     change(frame, at);
-    let authentic = hears_prepare(&mut *endpoint, alloc, frame);
+    let authentic = receives_prepare(&mut *endpoint, alloc, frame);
     change(frame, at);
     drop(endpoint);
     Ok(authentic? == is_authentic_to)
@@ -103,7 +107,7 @@ fn frames_with_macs(rt: HostRuntime) {
     holds(&rt, prepare_is_heard(rt.alloc()));
 }
 
-fn hears_any(endpoint: &mut Endpoint, alloc: Global, bytes: &[u8]) -> Result<bool, NoMemory> {
+fn receives_any(endpoint: &mut Endpoint, alloc: Global, bytes: &[u8]) -> Result<bool, NoMemory> {
     let authentic = endpoint.authenticate(alloc, bytes)?;
     let is_authentic_to = authentic.is_some();
     drop(authentic);
@@ -112,7 +116,7 @@ fn hears_any(endpoint: &mut Endpoint, alloc: Global, bytes: &[u8]) -> Result<boo
 
 // Whether the replica drops the frame.
 fn drops(replica: &mut Endpoint, alloc: Global, frame: &[u8]) -> Result<bool, NoMemory> {
-    Ok(!hears_any(replica, alloc, frame)?)
+    Ok(!receives_any(replica, alloc, frame)?)
 }
 
 // The same while the byte is another one.
@@ -137,7 +141,7 @@ fn is_heard_whole(
     frame: &mut [u8],
 ) -> Result<bool, NoMemory> {
     all_hold(&[
-        hears_any(other, alloc, frame),
+        receives_any(other, alloc, frame),
         drops(sender, alloc, frame),
         drops_changed(other, alloc, frame, 14),
         drops_changed(other, alloc, frame, 16_000),
@@ -145,7 +149,7 @@ fn is_heard_whole(
 }
 
 // Of the view change that is signed by its sender's first key.
-fn hears_signed(
+fn receives_signed(
     sender: &mut Endpoint,
     other: &mut Endpoint,
     alloc: Global,
@@ -162,7 +166,7 @@ fn hears_signed(
 
 fn is_heard_by_other(sender: &mut Endpoint, alloc: Global) -> Result<bool, NoMemory> {
     let mut other = new_endpoint(alloc, 1)?;
-    let answer = hears_signed(sender, &mut *other, alloc);
+    let answer = receives_signed(sender, &mut *other, alloc);
     drop(other);
     answer
 }

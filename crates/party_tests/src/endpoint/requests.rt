@@ -7,7 +7,7 @@ ghost use Rattle.wire_format.specs.Views.{body_data, message_data};
 
 use crate::answers::{all_hold, holds};
 use crate::endpoint::endpoints::{new_endpoint, new_ring};
-use crate::endpoint::posts::goes_out;
+use crate::endpoint::sending::goes_out;
 use authenticator::SealFault;
 use frame_endpoint::{Endpoint, pre_prepare_message};
 use std::alloc::Global;
@@ -83,7 +83,7 @@ fn without_frame(fault: SealFault) -> Result<bool, NoMemory> {
 }
 
 // Whether the replica sends the pre-prepare of the frame's batch.
-fn posts_batch(endpoint: &mut Endpoint, alloc: Global, frame: Vec<u8>) -> Result<bool, NoMemory>
+fn sends_batch(endpoint: &mut Endpoint, alloc: Global, frame: Vec<u8>) -> Result<bool, NoMemory>
     requires { IsCarried is_ordered_request frame.items }
 {
     match batch_of(alloc, frame) {
@@ -101,7 +101,7 @@ fn batch_goes_out(
     frame: Vec<u8>,
 ) -> Result<bool, NoMemory> {
     if is_ordered_request(&frame) {
-        posts_batch(endpoint, alloc, frame)
+        sends_batch(endpoint, alloc, frame)
     } else {
         drop(frame);
         Ok(false)
@@ -115,7 +115,7 @@ fn request_goes_out(endpoint: &mut Endpoint, alloc: Global) -> Result<bool, NoMe
     }
 }
 
-fn new_endpoint_posts_request(alloc: Global) -> Result<bool, NoMemory> {
+fn new_endpoint_sends_request(alloc: Global) -> Result<bool, NoMemory> {
     let mut endpoint = new_endpoint(alloc, 0)?;
     let answer = request_goes_out(&mut *endpoint, alloc);
     drop(endpoint);
@@ -124,7 +124,7 @@ fn new_endpoint_posts_request(alloc: Global) -> Result<bool, NoMemory> {
 
 #[test]
 fn a_pre_prepare(rt: HostRuntime) {
-    holds(&rt, new_endpoint_posts_request(rt.alloc()));
+    holds(&rt, new_endpoint_sends_request(rt.alloc()));
 }
 
 // Whether the replica takes the frame's batch as genuine.

@@ -2,4 +2,4 @@ use Rattle.progress.proofs.Leaving
 use Rattle.progress.proofs.primaries_begin_views.Goals as goal
 
 pub returns : goal.returns
-returns c = record { begun = Leaving.primaries_begin_views }
+returns c = record { begin = Leaving.primaries_begin_views }

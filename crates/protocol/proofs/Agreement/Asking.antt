@@ -14,7 +14,7 @@ use Rattle.terms.specs.declared.order.Mode.TheVariants as modes
 use Rattle.protocol.specs.System.Frames.{same_mode}
 use Rattle.protocol.specs.System.Trace.{Entry, party_of, history_of, Once, Always, Unforged, frames_in, carried_by, Has}
 use Rattle.protocol.specs.System.Trace.Entry.{Invoke, Got, Sent}
-use Rattle.protocol.specs.Replica.Certificates.{proposal, begun_proposal, entry_proposal, logged, taken, batch_begun, are_genuine, is_in_marks, low}
+use Rattle.protocol.specs.Replica.Certificates.{proposal, assigned_proposal, entry_proposal, logged, taken, assigned_batch, are_genuine, is_in_marks, low}
 use Rattle.protocol.specs.Replica.Selection.{changes_of, count_in, passes_by, vouches, may_select, may_stand, may_stand_at, may_be_null, is_null, is_weak_quorum, is_quorum, agrees}
 use Rattle.protocol.specs.Replica.RightReplica.{HasSeen}
 use Rattle.protocol.specs.System.Texts.{NoCollision}
@@ -167,9 +167,9 @@ module _ (c : Configuration) (setting : IsConfiguration c) (trace : List Entry) 
       let same : o.batch ≡ a = apart o.batch a (logged_text c trace s.0 k.0.view k.0.number o.batch right s.1 o.is_logged) (logged_text c trace r v i a right correct logs) digest in
       subst (Asked c trace) same (below k.0.view lower s.0 k.0.number o.batch s.1 o.is_logged)
 
-  begun_asked : (v : ℕ) → ((u : ℕ) → u < v → AskedIn u) → (r i : ℕ) (a : List ℕ) (new : NewViewData) → is_correct_replica c r ≡ true → logged c r (history_of r trace) v i ≡ Some a
-      → Once (TakesOrSendsNewView c new) (history_of r trace) → batch_begun v i new ≡ Some a → may_select c new ≡ true → Asked c trace a
-  begun_asked v below r i a new correct logs takes' has may =
+  assigned_asked : (v : ℕ) → ((u : ℕ) → u < v → AskedIn u) → (r i : ℕ) (a : List ℕ) (new : NewViewData) → is_correct_replica c r ≡ true → logged c r (history_of r trace) v i ≡ Some a
+      → Once (TakesOrSendsNewView c new) (history_of r trace) → assigned_batch v i new ≡ Some a → may_select c new ≡ true → Asked c trace a
+  assigned_asked v below r i a new correct logs takes' has may =
       by (or_cases (nat_lt 0 (count_below (may_stand_at c (changes_of c new) i (sha256 a)) new.view)) (is_null a && may_be_null c (changes_of c new) i) stand)
     where
       sel : Selected c new
@@ -203,16 +203,16 @@ module _ (c : Configuration) (setting : IsConfiguration c) (trace : List Entry) 
       → Once (λ past e. proposal c r past e v i ≡ Some a) xs → Asked c trace a
   logged_asked v below r i a correct logs [] emb rights h = absurd h
   logged_asked v below r i a correct logs (e ∷ past) emb rights (inr h) = logged_asked v below r i a correct logs past (λ R k. emb R (inr k)) rights.1 h
-  logged_asked v below r i a correct logs (e ∷ past) emb rights (inl h) = go (or_else_cases (begun_proposal c r past e v i) (entry_proposal c r past e v i) a h)
+  logged_asked v below r i a correct logs (e ∷ past) emb rights (inl h) = go (or_else_cases (assigned_proposal c r past e v i) (entry_proposal c r past e v i) a h)
     where
-      begun : (m : Bool) → cond m (option_and_then (batch_begun v i) (taken c past e)) None ≡ Some a → Asked c trace a
-      begun false k = absurd cc
-      begun true k =
-          let t = and_then_some (batch_begun v i) (taken c past e) a k in
-          begun_asked v below r i a t.0 correct logs (emb (TakesOrSendsNewView c t.0) (inl t.1)) t.2 (selected_in c e t.0 (takes c r past e t.0 t.1).brought)
+      assigned : (m : Bool) → cond m (option_and_then (assigned_batch v i) (taken c past e)) None ≡ Some a → Asked c trace a
+      assigned false k = absurd cc
+      assigned true k =
+          let t = and_then_some (assigned_batch v i) (taken c past e) a k in
+          assigned_asked v below r i a t.0 correct logs (emb (TakesOrSendsNewView c t.0) (inl t.1)) t.2 (selected_in c e t.0 (takes c r past e t.0 t.1).brought)
 
-      go : (begun_proposal c r past e v i ≡ Some a) ⊎ (entry_proposal c r past e v i ≡ Some a) → Asked c trace a
-      go (inl k) = begun (is_in_marks c (low c r (e ∷ past)) i) k
+      go : (assigned_proposal c r past e v i ≡ Some a) ⊎ (entry_proposal c r past e v i ≡ Some a) → Asked c trace a
+      go (inl k) = assigned (is_in_marks c (low c r (e ∷ past)) i) k
       go (inr k) = λ frame call has is.
           let there : Once (AsksFrame c frame) (history_of r trace) = entry_asked c setting r v i a (history_of r trace) past e (λ R u. emb R u) correct rights k frame call has is in
           once_weaker (λ past e. (party_of e ≡ r) × AsksFrame c frame (history_of r past) e) (AsksFrame c frame) (λ past e t. asks_any c frame (history_of r past) past e t.1) trace

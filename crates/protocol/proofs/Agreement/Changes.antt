@@ -9,7 +9,7 @@ use Rattle.wire_format.specs.Messages.{BodyData as Body, MessageData as Message,
 use Rattle.wire_format.specs.Words.{said}
 use Rattle.protocol.specs.System.Trace.{Entry, Once, Always, Has}
 use Rattle.protocol.specs.System.Trace.Entry.{Invoke, Sent}
-use Rattle.protocol.specs.Replica.Certificates.{logged, target, is_in_marks, low, Prepared, proposal, taken, batch_begun, view, entry_proposal, change_from}
+use Rattle.protocol.specs.Replica.Certificates.{logged, target, is_in_marks, low, Prepared, proposal, taken, assigned_batch, view, entry_proposal, change_from}
 use Rattle.protocol.specs.Replica.RightReplica.{Point, HistoryReaches, MaySendMessage, MayViewChange, IsNewViewChange, SendsBytes}
 use Rattle.protocol.proofs.Words.Temporal.{once_weaker, once_always, once_order, once_stays, once_stays_from}
 use Rattle.protocol.proofs.Words.Options.{or_else_cases, given_once, some_injective}
@@ -122,13 +122,13 @@ marks_within c h i m =
 proposal_within : (c : Configuration) (me v i : ℕ) (batch : List ℕ) (past : List Entry) (e : Entry) → RightAt c me past e → proposal c me past e v i ≡ Some batch → (i ≤ low c me (e ∷ past) + span c) × (i < 2 ^ 48)
 proposal_within c me v i batch past e r h = go (or_else_cases _ _ batch h)
   where
-    begun : (b : Bool) → is_in_marks c (low c me (e ∷ past)) i ≡ b → cond b (option_and_then (batch_begun v i) (taken c past e)) None ≡ Some batch → (i ≤ low c me (e ∷ past) + span c) × (i < 2 ^ 48)
-    begun true m h = marks_within c (low c me (e ∷ past)) i m
-    begun false m h = absurd cc
+    assigned : (b : Bool) → is_in_marks c (low c me (e ∷ past)) i ≡ b → cond b (option_and_then (assigned_batch v i) (taken c past e)) None ≡ Some batch → (i ≤ low c me (e ∷ past) + span c) × (i < 2 ^ 48)
+    assigned true m h = marks_within c (low c me (e ∷ past)) i m
+    assigned false m h = absurd cc
 
-    go : (cond (is_in_marks c (low c me (e ∷ past)) i) (option_and_then (batch_begun v i) (taken c past e)) None ≡ Some batch)
+    go : (cond (is_in_marks c (low c me (e ∷ past)) i) (option_and_then (assigned_batch v i) (taken c past e)) None ≡ Some batch)
         ⊎ (entry_proposal c me past e v i ≡ Some batch) → (i ≤ low c me (e ∷ past) + span c) × (i < 2 ^ 48)
-    go (inl h) = begun (is_in_marks c (low c me (e ∷ past)) i) refl h
+    go (inl h) = assigned (is_in_marks c (low c me (e ∷ past)) i) refl h
     go (inr h) =
         let a = marks_within c (low c me past) i (entry_within c me v i batch past e r h).1 in
         let grows = low_grows c me e past in

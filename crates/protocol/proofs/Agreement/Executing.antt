@@ -8,7 +8,7 @@ use Rattle.wire_format.specs.Messages.{BodyData as Body, MessageData as Message,
 use Rattle.wire_format.specs.Words.{said}
 use Rattle.protocol.specs.System.Trace.{Entry, party_of, history_of, Once, Always, Has}
 use Rattle.protocol.specs.System.Trace.Entry.{Invoke, Got, Executed, Sent}
-use Rattle.protocol.specs.Replica.Certificates.{proposal, logged, commit_of, commit_from, vote_in, Committed, batch_begun}
+use Rattle.protocol.specs.Replica.Certificates.{proposal, logged, commit_of, commit_from, vote_in, Committed, assigned_batch}
 use Rattle.quorum.specs.Votes.{has_digest}
 use Rattle.protocol.specs.System.Texts.{IsText, EntryHasBatch, batches_of}
 use Rattle.protocol.specs.System.Texts.IsText.{batch}
@@ -78,8 +78,8 @@ executed_committed c trace r k a right correct h =
 
 -- ---- a logged batch is a text
 
-begun_has : (v i : ℕ) (new : NewViewData) (a : List ℕ) → batch_begun v i new ≡ Some a → Has (λ x. x ≡ a) new.batches
-begun_has v i new a h = go ((new.view == v) && nat_lt new.start i) h
+assigned_has : (v i : ℕ) (new : NewViewData) (a : List ℕ) → assigned_batch v i new ≡ Some a → Has (λ x. x ≡ a) new.batches
+assigned_has v i new a h = go ((new.view == v) && nat_lt new.start i) h
   where
     get : (xs : List (List ℕ)) (k : ℕ) → slice_get xs k ≡ Some a → Has (λ x. x ≡ a) xs
     get [] k h = absurd cc
@@ -92,7 +92,7 @@ begun_has v i new a h = go ((new.view == v) && nat_lt new.start i) h
 
 offer_has : (v i : ℕ) (a : List ℕ) (sender : ℕ) (message : Message) → offer_from v i (record { sender = sender; message = message }) ≡ Some a → Has (λ x. x ≡ a) (batches_of message)
 offer_has v i a sender (PrePrepare view number b) h = inl (then_some_gives ((view == v) && (number == i)) b a h).1
-offer_has v i a sender (NewView new) h = begun_has v i new a h
+offer_has v i a sender (NewView new) h = assigned_has v i new a h
 offer_has v i a sender _ h = absurd cc
 
 brought_has : (c : Configuration) (v i : ℕ) (a : List ℕ) (body : Body) → offer_from v i body ≡ Some a → (past : List Entry) (e : Entry) → Brings c body past e → EntryHasBatch a past e

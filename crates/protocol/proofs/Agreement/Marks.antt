@@ -9,7 +9,7 @@ use Rattle.signing.specs.AuthenticBody.{authentic}
 use Rattle.wire_format.specs.Words.{said}
 use Rattle.protocol.specs.System.Trace.{Entry}
 use Rattle.protocol.specs.System.Trace.Entry.{Got, Sent}
-use Rattle.protocol.specs.Replica.Certificates.{view, view_after, target, taken, new_view_in, new_view_from, low, batch_begun, is_later}
+use Rattle.protocol.specs.Replica.Certificates.{view, view_after, target, taken, new_view_in, new_view_from, low, assigned_batch, is_later}
 use Rattle.protocol.specs.Replica.Selection.{may_select, largest, largest_of, changes_of, may_all_stand, is_within, is_batch_entry_within, how_many_batches, is_start, is_checkpoint_within, ascending, is_quorum, count_in}
 use Rattle.protocol.proofs.Words.Options.{and_then_some, then_some_gives}
 use Rattle.std.specs.Bool.{then_some}
@@ -162,7 +162,7 @@ pub record Proposes (c : Configuration) (v i : ℕ) (new : NewViewData) : Type 0
   pub above : new.start < i
   pub within : i - new.start - 1 < length new.batches
 
-pub proposes : (c : Configuration) (v i : ℕ) (new : NewViewData) (batch : List ℕ) → batch_begun v i new ≡ Some batch → Proposes c v i new
+pub proposes : (c : Configuration) (v i : ℕ) (new : NewViewData) (batch : List ℕ) → assigned_batch v i new ≡ Some batch → Proposes c v i new
 proposes c v i new batch h = go ((new.view == v) && nat_lt new.start i) refl h
   where
     go : (b : Bool) → ((new.view == v) && nat_lt new.start i) ≡ b → cond b (slice_get new.batches (i - new.start - 1)) None ≡ Some batch → Proposes c v i new

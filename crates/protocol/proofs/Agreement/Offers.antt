@@ -11,7 +11,7 @@ use Rattle.protocol.specs.System.Trace.{Entry, Once, Always}
 use Rattle.protocol.specs.System.Trace.Entry.{Invoke, Got, Sent}
 use Rattle.std.specs.Bool.{then_some}
 use Rattle.quorum.specs.Votes.{or_else}
-use Rattle.protocol.specs.Replica.Certificates.{first_given, view, target, taken, new_view_in, new_view_from, low, is_in_marks, is_active_in, batch_begun, are_genuine, entry_proposal, proposal, logged, batch_from, counts_at, brought}
+use Rattle.protocol.specs.Replica.Certificates.{first_given, view, target, taken, new_view_in, new_view_from, low, is_in_marks, is_active_in, assigned_batch, are_genuine, entry_proposal, proposal, logged, batch_from, counts_at, brought}
 use Rattle.protocol.specs.Replica.RightReplica.{Point, MaySendMessage, MayPrePrepare, SentBefore, SendsBytes}
 use Rattle.protocol.proofs.Words.Temporal.{once_weaker, once_always, once_stays_from}
 use Rattle.protocol.proofs.Words.Options.{and_then_some, then_some_gives, or_else_cases, or_else_first, given_once, given_stays, some_injective}
@@ -20,7 +20,7 @@ use Rattle.protocol.proofs.Agreement.Marks.{view_grows, low_grows, takes, begins
 
 -- the batch that a body offers for the view and number, and the batch that an entry does
 abbrev pub offer_from : ℕ → ℕ → Body → Option (List ℕ)
-offer_from v i body = elim body.message [ PrePrepare view number batch ↦ then_some ((view == v) && (number == i)) batch | NewView new ↦ batch_begun v i new | _ ↦ None ]
+offer_from v i body = elim body.message [ PrePrepare view number batch ↦ then_some ((view == v) && (number == i)) batch | NewView new ↦ assigned_batch v i new | _ ↦ None ]
 
 abbrev pub offer_in : ℕ → ℕ → Entry → Option (List ℕ)
 offer_in v i (Sent p bytes) = option_and_then (offer_from v i) (said bytes)
@@ -47,19 +47,19 @@ batch_offer c me v i batch sender (PrePrepare view number b) h =
     (eqb-true sender (primary c v) q.1, rw q.0 (ap Some g.1))
 batch_offer c me v i batch sender _ h = absurd cc
 
-begun_offer : (v i : ℕ) (new : NewViewData) (batch : List ℕ) (sender : ℕ) (message : Message) → message ≡ NewView new → batch_begun v i new ≡ Some batch
+assigned_offer : (v i : ℕ) (new : NewViewData) (batch : List ℕ) (sender : ℕ) (message : Message) → message ≡ NewView new → assigned_batch v i new ≡ Some batch
     → offer_from v i (record { sender = sender; message = message }) ≡ Some batch
-begun_offer v i new batch sender message is h = rw is h
+assigned_offer v i new batch sender message is h = rw is h
 
-taken_offer : (c : Configuration) (me v i : ℕ) (past : List Entry) (batch : List ℕ) (e : Entry) (new : NewViewData) → new_view_in c e ≡ Some new → batch_begun v i new ≡ Some batch → Offers c me v i batch past e
+taken_offer : (c : Configuration) (me v i : ℕ) (past : List Entry) (batch : List ℕ) (e : Entry) (new : NewViewData) → new_view_in c e ≡ Some new → assigned_batch v i new ≡ Some batch → Offers c me v i batch past e
 taken_offer c me v i past batch (Got p bytes) new h b =
     let r = and_then_some (new_view_from c) (authentic (members c) p bytes) new h in
     let g = begins c r.0 new r.2 in
-    record { body = r.0; brings = r.1; sender_is = g.sender_is ∙ ap (primary c) (proposes c v i new batch b).view_is; offers = begun_offer v i new batch r.0.sender r.0.message g.message_is b }
+    record { body = r.0; brings = r.1; sender_is = g.sender_is ∙ ap (primary c) (proposes c v i new batch b).view_is; offers = assigned_offer v i new batch r.0.sender r.0.message g.message_is b }
 taken_offer c me v i past batch (Sent p bytes) new h b =
     let r = and_then_some (new_view_from c) (said bytes) new h in
     let g = begins c r.0 new r.2 in
-    record { body = r.0; brings = r.1; sender_is = g.sender_is ∙ ap (primary c) (proposes c v i new batch b).view_is; offers = begun_offer v i new batch r.0.sender r.0.message g.message_is b }
+    record { body = r.0; brings = r.1; sender_is = g.sender_is ∙ ap (primary c) (proposes c v i new batch b).view_is; offers = assigned_offer v i new batch r.0.sender r.0.message g.message_is b }
 taken_offer c me v i past batch (Invoke x y z) new h b = absurd cc
 taken_offer c me v i past batch _ new h b = absurd cc
 
@@ -83,15 +83,15 @@ entry_offer c me v i batch past e h =
 pub proposal_offer : (c : Configuration) (me v i : ℕ) (batch : List ℕ) (past : List Entry) (e : Entry) → proposal c me past e v i ≡ Some batch → Offers c me v i batch past e
 proposal_offer c me v i batch past e h = go (or_else_cases _ _ batch h)
   where
-    begun : (b : Bool) → cond b (option_and_then (batch_begun v i) (taken c past e)) None ≡ Some batch → Offers c me v i batch past e
-    begun true h =
-        let t = and_then_some (batch_begun v i) (taken c past e) batch h in
+    assigned : (b : Bool) → cond b (option_and_then (assigned_batch v i) (taken c past e)) None ≡ Some batch → Offers c me v i batch past e
+    assigned true h =
+        let t = and_then_some (assigned_batch v i) (taken c past e) batch h in
         taken_offer c me v i past batch e t.0 (takes c me past e t.0 t.1).brought t.2
-    begun false h = absurd cc
+    assigned false h = absurd cc
 
-    go : (cond (is_in_marks c (low c me (e ∷ past)) i) (option_and_then (batch_begun v i) (taken c past e)) None ≡ Some batch)
+    go : (cond (is_in_marks c (low c me (e ∷ past)) i) (option_and_then (assigned_batch v i) (taken c past e)) None ≡ Some batch)
         ⊎ (entry_proposal c me past e v i ≡ Some batch) → Offers c me v i batch past e
-    go (inl h) = begun (is_in_marks c (low c me (e ∷ past)) i) h
+    go (inl h) = assigned (is_in_marks c (low c me (e ∷ past)) i) h
     go (inr h) = entry_offer c me v i batch past e h
 
 -- ---- a primary offers one batch for a number of a view
@@ -116,7 +116,7 @@ marks_outside c h i small m = go (and_cases (nat_lt h i && nat_le i (h + span c)
 -- an offer is new, or of a new view, or repeats an earlier one
 data IsOffer (c : Configuration) (me v i : ℕ) (batch : List ℕ) (past : List Entry) (e : Entry) : Type 0 where
   fresh : is_active_in c past v ≡ true → is_in_marks c (low c me past) i ≡ true → logged c me (e ∷ past) v i ≡ Some batch → IsOffer c me v i batch past e
-  begun : (new : NewViewData) → taken c past e ≡ Some new → batch_begun v i new ≡ Some batch → IsOffer c me v i batch past e
+  assigned : (new : NewViewData) → taken c past e ≡ Some new → assigned_batch v i new ≡ Some batch → IsOffer c me v i batch past e
   again : Once (λ earlier x. offer_in v i x ≡ Some batch) past → IsOffer c me v i batch past e
 
 same_bytes : (v i : ℕ) (batch bytes : List ℕ) → option_and_then (offer_from v i) (said bytes) ≡ Some batch → (past : List Entry) → SentBefore bytes past → Once (λ earlier x. offer_in v i x ≡ Some batch) past
@@ -142,7 +142,7 @@ offer_by c me v i batch past point p bytes sender (PrePrepare view number b) who
 offer_by c me v i batch past point p bytes sender (NewView new) whole h allowed = go allowed.1
   where
     go : (taken c past (Sent p bytes) ≡ Some new) ⊎ ((is_active_in c past new.view ≡ true) × SentBefore bytes past) → IsOffer c me v i batch past (Sent p bytes)
-    go (inl t) = begun new t h
+    go (inl t) = assigned new t h
     go (inr t) = again (same_bytes v i batch bytes whole past t.1)
 offer_by c me v i batch past point p bytes sender _ whole h allowed = absurd cc
 
@@ -158,8 +158,8 @@ is_offer c me v i batch past _ r h = absurd cc
 
 -- ---- logged batches are of views that were reached
 
-begun_view : (c : Configuration) (me v i : ℕ) (batch : List ℕ) (past : List Entry) (e : Entry) (new : NewViewData) → taken c past e ≡ Some new → batch_begun v i new ≡ Some batch → view c (e ∷ past) ≡ v
-begun_view c me v i batch past e new t b = (takes c me past e new t).view_is ∙ (proposes c v i new batch b).view_is
+entered_view : (c : Configuration) (me v i : ℕ) (batch : List ℕ) (past : List Entry) (e : Entry) (new : NewViewData) → taken c past e ≡ Some new → assigned_batch v i new ≡ Some batch → view c (e ∷ past) ≡ v
+entered_view c me v i batch past e new t b = (takes c me past e new t).view_is ∙ (proposes c v i new batch b).view_is
 
 sent_view : (c : Configuration) (me v i : ℕ) (past : List Entry) (point : Point) (e : Entry) (bytes batch : List ℕ) (sender : ℕ) (message : Message)
     → batch_from c me v i (record { sender = sender; message = message }) ≡ Some batch → MaySendMessage c me past point e bytes message
@@ -191,13 +191,13 @@ entry_within c me v i batch past _ r h = absurd cc
 proposal_view : (c : Configuration) (me v i : ℕ) (batch : List ℕ) (past : List Entry) (e : Entry) → RightAt c me past e → proposal c me past e v i ≡ Some batch → v ≤ view c (e ∷ past)
 proposal_view c me v i batch past e r h = go (or_else_cases _ _ batch h)
   where
-    at_view : (b : Bool) → cond b (option_and_then (batch_begun v i) (taken c past e)) None ≡ Some batch → v ≤ view c (e ∷ past)
+    at_view : (b : Bool) → cond b (option_and_then (assigned_batch v i) (taken c past e)) None ≡ Some batch → v ≤ view c (e ∷ past)
     at_view true h =
-        let t = and_then_some (batch_begun v i) (taken c past e) batch h in
-        let is : view c (e ∷ past) ≡ v = begun_view c me v i batch past e t.0 t.1 t.2 in omega arith
+        let t = and_then_some (assigned_batch v i) (taken c past e) batch h in
+        let is : view c (e ∷ past) ≡ v = entered_view c me v i batch past e t.0 t.1 t.2 in omega arith
     at_view false h = absurd cc
 
-    go : (cond (is_in_marks c (low c me (e ∷ past)) i) (option_and_then (batch_begun v i) (taken c past e)) None ≡ Some batch)
+    go : (cond (is_in_marks c (low c me (e ∷ past)) i) (option_and_then (assigned_batch v i) (taken c past e)) None ≡ Some batch)
         ⊎ (entry_proposal c me past e v i ≡ Some batch) → v ≤ view c (e ∷ past)
     go (inl h) = at_view (is_in_marks c (low c me (e ∷ past)) i) h
     go (inr h) = let is : view c past ≡ v = (entry_within c me v i batch past e r h).0 in let grows = view_grows c e past in omega arith
@@ -252,9 +252,9 @@ logged_now c me v i batch past e right above h = go (first_given (λ earlier e. 
     go None is = h
     go (Some b) is = let reached = logged_view c me v i b past right is in absurd (omega arith)
 
-pub begun_place : (c : Configuration) (me v i : ℕ) (batch : List ℕ) (past : List Entry) (e : Entry) (new : NewViewData) → Always (RightAt c me) past
-    → taken c past e ≡ Some new → batch_begun v i new ≡ Some batch → (logged c me (e ∷ past) v i ≡ Some batch) ⊎ (i ≤ low c me (e ∷ past))
-begun_place c me v i batch past e new right t b = go (is_in_marks c (low c me (e ∷ past)) i) refl
+pub assigned_place : (c : Configuration) (me v i : ℕ) (batch : List ℕ) (past : List Entry) (e : Entry) (new : NewViewData) → Always (RightAt c me) past
+    → taken c past e ≡ Some new → assigned_batch v i new ≡ Some batch → (logged c me (e ∷ past) v i ≡ Some batch) ⊎ (i ≤ low c me (e ∷ past))
+assigned_place c me v i batch past e new right t b = go (is_in_marks c (low c me (e ∷ past)) i) refl
   where
     small : i < 2 ^ 48
     small = let p = proposes c v i new batch b in (few_batches c new (selected_in c e new (takes c me past e new t).brought)).1 i p.above p.within
@@ -265,9 +265,9 @@ begun_place c me v i batch past e new right t b = go (is_in_marks c (low c me (e
         let is = (proposes c v i new batch b).view_is in
         let above = s.above in
         let higher : view c past < v = omega arith in
-        let begun : option_and_then (batch_begun v i) (taken c past e) ≡ Some batch = rw t b in
-        let first : cond (is_in_marks c (low c me (e ∷ past)) i) (option_and_then (batch_begun v i) (taken c past e)) None ≡ Some batch = rw m begun in
-        let gives : proposal c me past e v i ≡ Some batch = or_else_first (cond (is_in_marks c (low c me (e ∷ past)) i) (option_and_then (batch_begun v i) (taken c past e)) None) _ batch first in
+        let assigned : option_and_then (assigned_batch v i) (taken c past e) ≡ Some batch = rw t b in
+        let first : cond (is_in_marks c (low c me (e ∷ past)) i) (option_and_then (assigned_batch v i) (taken c past e)) None ≡ Some batch = rw m assigned in
+        let gives : proposal c me past e v i ≡ Some batch = or_else_first (cond (is_in_marks c (low c me (e ∷ past)) i) (option_and_then (assigned_batch v i) (taken c past e)) None) _ batch first in
         inl (logged_now c me v i batch past e right higher gives)
     go false m = outside (marks_outside c (low c me (e ∷ past)) i small m)
       where
@@ -298,7 +298,7 @@ offers_head c me v i batch past e right h (fresh active marks logs) kept =
         go : (logged c me past v i ≡ Some b) ⊎ (i ≤ low c me past) → b ≡ batch
         go (inl l) = some_injective b batch (sym (logged_stays c me v i b e past l) ∙ logs)
         go (inr l) = let above = marks_above c (low c me past) i marks in absurd (omega arith)
-offers_head c me v i batch past e right h (begun new t b) kept =
+offers_head c me v i batch past e right h (assigned new t b) kept =
     let s = takes c me past e new t in
     let is = (proposes c v i new batch b).view_is in
     let above = s.above in
@@ -306,7 +306,7 @@ offers_head c me v i batch past e right h (begun new t b) kept =
     record {
       is_offered = offered_now v i batch past e h (λ x o. let k = (kept x (offered_once v i x past o)).view in absurd (omega arith));
       view = omega arith;
-      place = begun_place c me v i batch past e new right.1 t b;
+      place = assigned_place c me v i batch past e new right.1 t b;
     }
 offers_head c me v i batch past e right h (again earlier) kept = offered_later c me v i batch e past (kept batch earlier)
 

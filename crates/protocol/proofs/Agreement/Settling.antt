@@ -6,12 +6,12 @@ use Rattle.protocol.specs.System.Configuration.{Configuration, is_correct_replic
 use Rattle.wire_format.specs.Messages.{NewViewData}
 use Rattle.protocol.specs.System.Trace.{Entry, history_of, Once, Always}
 use Rattle.quorum.specs.Votes.{or_else}
-use Rattle.protocol.specs.Replica.Certificates.{begun_proposal, entry_proposal, view, view_after, new_view_in, target, low, is_in_marks, logged, proposal, taken, batch_begun, is_later}
+use Rattle.protocol.specs.Replica.Certificates.{assigned_proposal, entry_proposal, view, view_after, new_view_in, target, low, is_in_marks, logged, proposal, taken, assigned_batch, is_later}
 use Rattle.protocol.specs.Laws.Histories.{AreReplicasSafe, TakesOrSendsNewView, HasOrStartsAbove}
 use Rattle.protocol.proofs.Words.Options.{and_then_some, some_injective, or_else_cases}
 use Rattle.protocol.proofs.Agreement.Voting.{RightAt, right_always, logged_stays}
 use Rattle.protocol.proofs.Agreement.Marks.{low_grows, takes, proposes}
-use Rattle.protocol.proofs.Agreement.Offers.{entry_within, begun_place, marks_above}
+use Rattle.protocol.proofs.Agreement.Offers.{entry_within, assigned_place, marks_above}
 
 -- ---- how a view is reached
 
@@ -71,8 +71,8 @@ settled_placed c trace i d u s settled correct past e emb right r =
     go : HasOrStartsAbove i d r.0 → Placed c s u i (e ∷ past)
     go (inl h) = let l = (takes c s past e r.0 r.1).low_is in record { place = inr (omega arith) }
     go (inr h) =
-        let b : batch_begun u i r.0 ≡ Some h.0 = subst (λ (x : ℕ). batch_begun x i r.0 ≡ Some h.0) r.2 h.1 in
-        record { place = place (begun_place c s u i h.0 past e r.0 right r.1 b) }
+        let b : assigned_batch u i r.0 ≡ Some h.0 = subst (λ (x : ℕ). assigned_batch x i r.0 ≡ Some h.0) r.2 h.1 in
+        record { place = place (assigned_place c s u i h.0 past e r.0 right r.1 b) }
       where
         place : (logged c s (e ∷ past) u i ≡ Some h.0) ⊎ (i ≤ low c s (e ∷ past)) → ((b : List ℕ) × (logged c s (e ∷ past) u i ≡ Some b)) ⊎ (i ≤ low c s (e ∷ past))
         place (inl k) = inl (h.0, k)
@@ -94,18 +94,18 @@ logged_settled c trace i d u s settled some correct [] emb right b h = absurd cc
 logged_settled c trace i d u s settled some correct (e ∷ past) emb right b h =
     go (or_else_split (logged c s past u i) (proposal c s past e u i) b h) (logged_settled c trace i d u s settled some correct past (λ R k. emb R (inr k)) right.1 b)
   where
-    begun : (m : Bool) → cond m (option_and_then (batch_begun u i) (taken c past e)) None ≡ Some b → sha256 b ≡ d
-    begun false k = absurd cc
-    begun true k = in_new (settled s t.0 correct (emb (TakesOrSendsNewView c t.0) (inl t.1)) (proposes c u i t.0 b t.2).view_is)
+    assigned : (m : Bool) → cond m (option_and_then (assigned_batch u i) (taken c past e)) None ≡ Some b → sha256 b ≡ d
+    assigned false k = absurd cc
+    assigned true k = in_new (settled s t.0 correct (emb (TakesOrSendsNewView c t.0) (inl t.1)) (proposes c u i t.0 b t.2).view_is)
       where
-        t : (new : NewViewData) × (taken c past e ≡ Some new) × (batch_begun u i new ≡ Some b)
-        t = and_then_some (batch_begun u i) (taken c past e) b k
+        t : (new : NewViewData) × (taken c past e ≡ Some new) × (assigned_batch u i new ≡ Some b)
+        t = and_then_some (assigned_batch u i) (taken c past e) b k
 
         in_new : HasOrStartsAbove i d t.0 → sha256 b ≡ d
         in_new (inl l) = let a = (proposes c u i t.0 b t.2).above in absurd (omega arith)
         in_new (inr l) =
             let view_is = (proposes c u i t.0 b t.2).view_is in
-            let has : batch_begun u i t.0 ≡ Some l.0 = subst (λ (x : ℕ). batch_begun x i t.0 ≡ Some l.0) view_is l.1 in
+            let has : assigned_batch u i t.0 ≡ Some l.0 = subst (λ (x : ℕ). assigned_batch x i t.0 ≡ Some l.0) view_is l.1 in
             let same : b ≡ l.0 = some_injective b l.0 (sym t.2 ∙ has) in
             ap sha256 same ∙ l.2
 
@@ -118,10 +118,10 @@ logged_settled c trace i d u s settled some correct (e ∷ past) emb right b h =
 
     go : (logged c s past u i ≡ Some b) ⊎ ((logged c s past u i ≡ None) × (proposal c s past e u i ≡ Some b)) → (logged c s past u i ≡ Some b → sha256 b ≡ d) → sha256 b ≡ d
     go (inl k) below = below k
-    go (inr k) below = by (or_else_cases (begun_proposal c s past e u i) (entry_proposal c s past e u i) b k.1)
+    go (inr k) below = by (or_else_cases (assigned_proposal c s past e u i) (entry_proposal c s past e u i) b k.1)
       where
-        by : (begun_proposal c s past e u i ≡ Some b) ⊎ (entry_proposal c s past e u i ≡ Some b) → sha256 b ≡ d
-        by (inl m) = begun (is_in_marks c (low c s (e ∷ past)) i) m
+        by : (assigned_proposal c s past e u i ≡ Some b) ⊎ (entry_proposal c s past e u i ≡ Some b) → sha256 b ≡ d
+        by (inl m) = assigned (is_in_marks c (low c s (e ∷ past)) i) m
         by (inr m) =
             entry k.0 (entry_within c s u i b past e right.0 m).1
             (reaches_placed c trace i d u s settled correct past (λ R x. emb R (inr x)) right.1

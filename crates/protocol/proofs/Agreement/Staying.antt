@@ -11,7 +11,7 @@ use Rattle.wire_format.specs.Messages.{ViewChangeData, NewViewData, BatchEntryDa
 use Rattle.protocol.specs.System.Trace.{Entry, history_of, Once, Unforged, Has}
 use Rattle.std.specs.List.{list_all, list_any}
 use Rattle.protocol.specs.Replica.Selection.{is_quorum, is_weak_quorum, count_in, passes_by, change_by, changes_of, may_select, may_stand_at, may_be_null, may_all_stand, is_null, is_within, is_batch_entry_within, is_checkpoint_within, agrees, vouches, how_many_batches}
-use Rattle.protocol.specs.Replica.Certificates.{batch_begun, commit_of, Prepared, Committed, logged}
+use Rattle.protocol.specs.Replica.Certificates.{assigned_batch, commit_of, Prepared, Committed, logged}
 use Rattle.quorum.specs.Votes.{has_digest}
 use Rattle.protocol.specs.Laws.Histories.{AreReplicasSafe, TakesOrSendsNewView, HasOrStartsAbove, CommittedStays, CommittedAgree}
 use Rattle.protocol.proofs.Words.Temporal.{once_weaker, once_stays}
@@ -236,8 +236,8 @@ module _ (c : Configuration) (setting : IsConfiguration c) (trace : List Entry) 
           let room : i - new.start - 1 < length new.batches = omega arith in
           get_there new.batches (i - new.start - 1) room
 
-      begun : new.start < i → (b : List ℕ) → slice_get new.batches (i - new.start - 1) ≡ Some b → batch_begun new.view i new ≡ Some b
-      begun lt b h = rw (and_from (new.view == new.view) (nat_lt new.start i) (eq-eqb new.view new.view refl) (lt-ltb new.start i lt)) h
+      assigned : new.start < i → (b : List ℕ) → slice_get new.batches (i - new.start - 1) ≡ Some b → assigned_batch new.view i new ≡ Some b
+      assigned lt b h = rw (and_from (new.view == new.view) (nat_lt new.start i) (eq-eqb new.view new.view refl) (lt-ltb new.start i lt)) h
 
       digest : new.start < i → (b : List ℕ) → slice_get new.batches (i - new.start - 1) ≡ Some b → sha256 b ≡ sha256 a
       digest lt b h =
@@ -250,7 +250,7 @@ module _ (c : Configuration) (setting : IsConfiguration c) (trace : List Entry) 
           by (inr k) = absurd (not_null q new correct' takes' sel higher (and_parts (is_null b) (may_be_null c (changes_of c new) i) k).1)
 
       go : (new.start < i) ⊎ (i ≤ new.start) → HasOrStartsAbove i (sha256 a) new
-      go (inl lt) = let b = there lt in inr (b.0, begun lt b.0 b.1, digest lt b.0 b.1)
+      go (inl lt) = let b = there lt in inr (b.0, assigned lt b.0 b.1, digest lt b.0 b.1)
       go (inr le) = inl le
 
   -- by induction over the views

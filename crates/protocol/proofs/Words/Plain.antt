@@ -10,7 +10,7 @@ use Rattle.signing.specs.AuthenticBody.{authentic}
 use Rattle.wire_format.specs.Words.{said}
 use Rattle.protocol.specs.System.Trace.{Entry}
 use Rattle.protocol.specs.System.Trace.Entry.{Got, Sent}
-use Rattle.protocol.specs.Replica.Certificates.{view, view_after, target, is_later, change_from, change_sent, new_view_in, new_view_from, taken, checkpoint_from, checkpoint_in, is_stable, stable_at, installed_at, started_at, low, is_in_marks, batch_begun, begun_proposal, entry_proposal, proposal}
+use Rattle.protocol.specs.Replica.Certificates.{view, view_after, target, is_later, change_from, change_sent, new_view_in, new_view_from, taken, checkpoint_from, checkpoint_in, is_stable, stable_at, installed_at, started_at, low, is_in_marks, assigned_batch, assigned_proposal, entry_proposal, proposal}
 use Rattle.protocol.proofs.Words.Options.{or_else_second}
 
 pub record Plain (c : Configuration) (past : List Entry) (e : Entry) : Type 0 where
@@ -78,12 +78,12 @@ pub plain_low : (c : Configuration) (me : ℕ) (past : List Entry) (e : Entry) �
 plain_low c me past e q = low_same c me past e q.checkpoint q.installed q.view
 
 -- no new view, so no batch but that of a pre-prepare
-pub plain_begun : (c : Configuration) (me : ℕ) (past : List Entry) (e : Entry) (v i : ℕ) → Plain c past e → begun_proposal c me past e v i ≡ None
-plain_begun c me past e v i q = nothing (is_in_marks c (low c me (e ∷ past)) i) (option_and_then (batch_begun v i) (taken c past e)) (ap (option_and_then (batch_begun v i)) (taken_none c past e q))
+pub plain_assigned : (c : Configuration) (me : ℕ) (past : List Entry) (e : Entry) (v i : ℕ) → Plain c past e → assigned_proposal c me past e v i ≡ None
+plain_assigned c me past e v i q = nothing (is_in_marks c (low c me (e ∷ past)) i) (option_and_then (assigned_batch v i) (taken c past e)) (ap (option_and_then (assigned_batch v i)) (taken_none c past e q))
   where
     nothing : (b : Bool) (o : Option (List ℕ)) → o ≡ None → cond b o None ≡ None
     nothing true o h = h
     nothing false o h = refl
 
 pub plain_proposal : (c : Configuration) (me : ℕ) (past : List Entry) (e : Entry) (v i : ℕ) → Plain c past e → proposal c me past e v i ≡ entry_proposal c me past e v i
-plain_proposal c me past e v i q = or_else_second (begun_proposal c me past e v i) (entry_proposal c me past e v i) (plain_begun c me past e v i q)
+plain_proposal c me past e v i q = or_else_second (assigned_proposal c me past e v i) (entry_proposal c me past e v i) (plain_assigned c me past e v i q)

@@ -1,5 +1,5 @@
-use Rattle.protocol.proofs.Words.Posting
+use Rattle.protocol.proofs.Words.Outgoing
 use Rattle.protocol.proofs.leaves_sign_once.Goals as goal
 
 pub returns : goal.returns
-returns c = record { once = Posting.leaves_sign_once }
+returns c = record { once = Outgoing.leaves_sign_once }

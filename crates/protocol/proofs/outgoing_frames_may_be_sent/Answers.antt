@@ -1,5 +1,5 @@
-use Rattle.protocol.proofs.Words.Posting
+use Rattle.protocol.proofs.Words.Outgoing
 use Rattle.protocol.proofs.outgoing_frames_may_be_sent.Goals as goal
 
 pub returns : goal.returns
-returns c = record { may = Posting.may_send }
+returns c = record { may = Outgoing.may_send }

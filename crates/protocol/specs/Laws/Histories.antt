@@ -9,7 +9,7 @@ use Rattle.wire_format.specs.Words.{carried}
 use Rattle.protocol.specs.System.Frames.{IsOutgoing, leaf_of}
 use Rattle.protocol.specs.System.Trace.{Entry, party_of, history_of, Once, Always, Has, SendsBody, Unforged}
 use Rattle.protocol.specs.System.Trace.Entry.{Executed, Installed}
-use Rattle.protocol.specs.Replica.Certificates.{Prepared, Committed, view, taken, batch_begun}
+use Rattle.protocol.specs.Replica.Certificates.{Prepared, Committed, view, taken, assigned_batch}
 use Rattle.protocol.specs.Replica.RightReplica.{Point, HistoryReaches, HasSeen, SentBefore, SentInEvent, HasOwnLeaf, SafeReplica, HadQuorum, StartsAt, MaySendMessage, IsFor, MaySend}
 use Rattle.protocol.specs.Client.RightClient.{SafeClient}
 use Rattle.protocol.specs.Space.Linear.{points, IsLinear}
@@ -53,7 +53,7 @@ PreparedAgree =
 -- the new view assigns a batch of this digest to the number, or starts at or above it
 abbrev pub HasOrStartsAbove : ℕ → List ℕ → NewViewData → Type 0
 HasOrStartsAbove i digest new =
-    (i ≤ new.start) ⊎ ((batch : List ℕ) × (batch_begun new.view i new ≡ Some batch) × (sha256 batch ≡ digest))
+    (i ≤ new.start) ⊎ ((batch : List ℕ) × (assigned_batch new.view i new ≡ Some batch) × (sha256 batch ≡ digest))
 
 -- the replica takes or sends the new view in this entry
 abbrev pub TakesOrSendsNewView : Configuration → NewViewData → List Entry → Entry → Type 0

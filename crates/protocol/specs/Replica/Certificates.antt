@@ -187,14 +187,15 @@ batch_from c me v i body = elim body.message [
 ]
 
 -- the batch that a new view for view v assigns to number i
-abbrev pub batch_begun : ℕ → ℕ → NewViewData → Option (List ℕ)
-batch_begun v i new = if (new.view == v) && nat_lt new.start i then slice_get new.batches (i - new.start - 1) else None
+abbrev pub assigned_batch : ℕ → ℕ → NewViewData → Option (List ℕ)
+assigned_batch v i new =
+    if (new.view == v) && nat_lt new.start i then slice_get new.batches (i - new.start - 1) else None
 
 -- the batch that a new view in this entry pre-prepares in view v for number i, if i is within the marks then; and the
 -- batch that a pre-prepare in this entry does
-abbrev pub begun_proposal : Configuration → ℕ → List Entry → Entry → ℕ → ℕ → Option (List ℕ)
-begun_proposal c me past e v i = if is_in_marks c (low c me (e ∷ past)) i then
-    option_and_then (batch_begun v i) (taken c past e) else None
+abbrev pub assigned_proposal : Configuration → ℕ → List Entry → Entry → ℕ → ℕ → Option (List ℕ)
+assigned_proposal c me past e v i = if is_in_marks c (low c me (e ∷ past)) i then
+    option_and_then (assigned_batch v i) (taken c past e) else None
 
 abbrev pub entry_proposal : Configuration → ℕ → List Entry → Entry → ℕ → ℕ → Option (List ℕ)
 entry_proposal c me past e v i =
@@ -202,7 +203,7 @@ entry_proposal c me past e v i =
 
 -- the batch that an entry pre-prepares in view v for number i, by a new view or by a pre-prepare
 abbrev pub proposal : Configuration → ℕ → List Entry → Entry → ℕ → ℕ → Option (List ℕ)
-proposal c me past e v i = or_else (begun_proposal c me past e v i) (entry_proposal c me past e v i)
+proposal c me past e v i = or_else (assigned_proposal c me past e v i) (entry_proposal c me past e v i)
 
 -- The batch that is pre-prepared (logged) for view v and number i: the first that an entry pre-prepared.
 unfoldable pub logged : Configuration → ℕ → List Entry → ℕ → ℕ → Option (List ℕ)

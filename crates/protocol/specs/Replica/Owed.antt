@@ -253,8 +253,8 @@ WaitsAlready c me before input old =
     before input
 
 -- the new view that began view v, if one did, assigns only numbers below i
-abbrev pub IsBegunBelow : Configuration → ℕ → ℕ → List Entry → Type 0
-IsBegunBelow c v i history =
+abbrev pub IsAssignedBelow : Configuration → ℕ → ℕ → List Entry → Type 0
+IsAssignedBelow c v i history =
     (new : NewViewData) → Once (λ past e. taken c past e ≡ Some new) history → new.view ≡ v
     → new.start + length new.batches < i
 
@@ -265,7 +265,7 @@ latest_checkpoint c me past = slice_get (checkpoints_of c past me) 0
 -- The replica sends again what it sent in view v for number i: its prepare, its commit, and as the primary its batch,
 -- unless the new view has that.
 pub record SendsRow (c : Configuration) (me : ℕ) (past : List Entry) (v i : ℕ) (outputs : List Entry) : Type 0 where
-  pub batch : (batch : List ℕ) → primary c v ≡ me → IsBegunBelow c v i past → logged c me past v i ≡ Some batch
+  pub batch : (batch : List ℕ) → primary c v ≡ me → IsAssignedBelow c v i past → logged c me past v i ≡ Some batch
       → SendsMessage me (PrePrepare v i batch) outputs
   pub prepare : (digest : List ℕ) → prepare_of c me past v i me ≡ Some digest
       → SendsMessage me (Prepare v i digest) outputs

@@ -4,7 +4,7 @@ use Rattle.wire_format.specs.Messages.{signature}
 use Rattle.wire_format.specs.Spelling.{authenticator_spelling, body_spelling, piece}
 use Rattle.wire_format.specs.Views.{body_data, message_data}
 use Rattle.authenticator.proofs.Frames.{piece-short}
-use Rattle.frame_endpoint.proofs.Posting.{begins_with_leaf, spells_signed}
+use Rattle.frame_endpoint.proofs.Outgoing.{begins_with_leaf, spells_signed}
 use Rattle.frame_endpoint.proofs.signing_frames.sign_body.Goals as goal
 
 pub returns-clause-spells : goal.returns-clause-spells

@@ -7,7 +7,7 @@ use Rattle.tuple_codec.specs.OperationView.{outcome_of}
 use Rattle.points.specs.declared.point.Placed.{Placed}
 use Rattle.points.specs.Places.{position_in}
 use Rattle.points.specs.PointView.{placing_of}
-use Rattle.points.specs.Seating.{EntryEndsRead, seat_data, seat_read}
+use Rattle.points.specs.Scanning.{EntryEndsRead, scan_data, read_by_scan}
 use Rattle.points.proofs.Ending.{ended}
 use Rattle.points.proofs.reads.read_ended.Goals as goal
 
@@ -16,9 +16,9 @@ returns-in-Accepted-clause-read c =
     let found = reverse c.args.places.now.rises.items in
     let answer = outcome_of c.in-Accepted.answer.value in
     IfOk-weaker c.read_at.result
-    (λ (r : Option Placed). option_map placing_of r ≡ seat_read c.args.ring.now (position_in found) (256 + c.in-Accepted.client.number) c.in-Accepted.timestamp.0 answer (seat_data c.seat_of-seat.result))
-    (λ (r : Option Placed). EntryEndsRead c.args.ring.now found c.args.seats.now.entries c.args.entry.now (option_map placing_of r))
-    (λ r h. ended c.args.ring.now found c.args.seats.now.entries c.args.entry.now c.in-Accepted.client.number c.in-Accepted.timestamp.0 answer _ _
-    (ap entry_of_kind (sym c.in-Accepted.is) ∙ c.kind.ensures.says) c.seat_of-seat.ensures h)
-    (subst (λ (a : Outcome). IfOk c.read_at.result (λ r. option_map placing_of r ≡ seat_read c.args.ring.now (position_in found) (256 + c.in-Accepted.client.number) c.in-Accepted.timestamp.0 a (seat_data c.seat_of-seat.result)))
+    (λ (r : Option Placed). option_map placing_of r ≡ read_by_scan c.args.ring.now (position_in found) (256 + c.in-Accepted.client.number) c.in-Accepted.timestamp.0 answer (scan_data c.scan_of-scan.result))
+    (λ (r : Option Placed). EntryEndsRead c.args.ring.now found c.args.scans.now.entries c.args.entry.now (option_map placing_of r))
+    (λ r h. ended c.args.ring.now found c.args.scans.now.entries c.args.entry.now c.in-Accepted.client.number c.in-Accepted.timestamp.0 answer _ _
+    (ap entry_of_kind (sym c.in-Accepted.is) ∙ c.kind.ensures.says) c.scan_of-scan.ensures h)
+    (subst (λ (a : Outcome). IfOk c.read_at.result (λ r. option_map placing_of r ≡ read_by_scan c.args.ring.now (position_in found) (256 + c.in-Accepted.client.number) c.in-Accepted.timestamp.0 a (scan_data c.scan_of-scan.result)))
     (ap outcome_of c.deref.ensures) c.read_at.ensures.read)

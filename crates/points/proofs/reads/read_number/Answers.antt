@@ -1,6 +1,6 @@
 use Rattle.std.proofs.Common.{◌+◌, sym, ap, ◌∙◌}
 use Rattle.std.specs.Prelude.{option_and_then}
-use Rattle.points.specs.Seating.{number_in}
+use Rattle.points.specs.Scanning.{number_in}
 use Rattle.points.proofs.Replying.{none_kinded}
 use Rattle.points.proofs.reads.read_number.Goals as goal
 

@@ -14,7 +14,7 @@ returns-then-not-is_correct_client-clause-takes c =
           (refl, λ v st. client_may_not c.args.config.now c.args.client.number (operation_of c.args.op.now) (right ∙ w.if-not-is_correct_client.true) v)
       | then-not-is_correct_client-via-else-not-is_correct_client+then-is_open w ↦ (
         refl,
-        call_may_not c.args.config.now c.args.stage.now c.args.client.number (operation_of c.args.op.now) c.requires.seated (right ∙ w.if-not-is_correct_client.false)
+        call_may_not c.args.config.now c.args.stage.now c.args.client.number (operation_of c.args.op.now) c.requires.placed (right ∙ w.if-not-is_correct_client.false)
             (λ d. sym w.if-is_open.true ∙ w.is_open.ensures.value d),
       )
     ]
@@ -24,5 +24,5 @@ returns-clause-takes c =
     let correct : is_correct_client c.args.config.now (256 + c.args.client.number) ≡ true =
     ap (is_correct_client c.args.config.now) (sym c.number.ensures) ∙ sym c.is_correct_client.ensures.value ∙ c.if-not-is_correct_client.false in
     leads_call c.args.config.now c.args.stage.now c.call.new.self c.args.client.number (operation_of c.args.op.now)
-    (call_may c.args.config.now c.args.stage.now c.args.client.number (operation_of c.args.op.now) c.requires.seated correct (λ d. sym c.if-is_open.false ∙ c.is_open.ensures.value d) c.note_valid.ensures)
+    (call_may c.args.config.now c.args.stage.now c.args.client.number (operation_of c.args.op.now) c.requires.placed correct (λ d. sym c.if-is_open.false ∙ c.is_open.ensures.value d) c.note_valid.ensures)
     (subst (λ o. CallComes c.args.config.now c.args.client.number o c.args.stage.now c.call.new.self) c.in_ok-copy.ensures c.in_ok-call.ensures.comes)

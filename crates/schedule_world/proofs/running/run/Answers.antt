@@ -25,7 +25,7 @@ loop-i-preserved c =
     let there = slice_get_read c.args.steps.now (length c.args.steps.now) c.loop-i.i c.index-steps-i.result refl within c.index-steps-i.is in
     let takes : StepIsTaken c.args.config.now (step_of c.index-steps-i.result) c.loop-i.stage c.take_step.new.stage true =
     subst (StepIsTaken c.args.config.now (step_of c.index-steps-i.result) c.loop-i.stage c.take_step.new.stage) c.if-not-branch.false c.in_ok-take_step.ensures.takes in
-    (c.in_ok-take_step.ensures.seated, one_step_more c.args.config.now c.args.steps.now c.loop-i.i c.index-steps-i.result c.take_step.new.stage there (takes _ c.loop-i.invariant.1))
+    (c.in_ok-take_step.ensures.placed, one_step_more c.args.config.now c.args.steps.now c.loop-i.i c.index-steps-i.result c.take_step.new.stage there (takes _ c.loop-i.invariant.1))
 
 pub returns-clause-tells : goal.returns-clause-tells
 returns-clause-tells c =

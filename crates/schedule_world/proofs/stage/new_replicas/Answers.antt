@@ -1,7 +1,7 @@
 use Rattle.std.proofs.Common.{◌≡◌, ◌+◌, sym, ◌∙◌, subst, arith}
 use Rattle.protocol.specs.System.Configuration.{replicas}
 use Rattle.schedule_world.specs.Opening.{IsNewReplica}
-use Rattle.schedule_world.proofs.Begun.{AreFirst, none_first, more_first}
+use Rattle.schedule_world.proofs.FirstStage.{AreFirst, none_first, more_first}
 use Rattle.schedule_world.proofs.stage.new_replicas.Goals as goal
 
 pub loop-number-init : goal.loop-number-init

@@ -1,4 +1,4 @@
-use Rattle.std.proofs.Common.{refl, sym, ◌∙◌}
+use Rattle.std.proofs.Common.{refl, ◌∙◌}
 use Rattle.space.proofs.Firsts.{tuple_keyed}
 use Rattle.space.proofs.keys.tuple_key.Goals as goal
 

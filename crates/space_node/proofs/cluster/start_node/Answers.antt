@@ -12,7 +12,7 @@ use Rattle.space_node.specs.contracts.inbox.InboxMessage as note
 use Rattle.space_node.specs.contracts.shared.Shared as shared
 use Rattle.space_node.proofs.Captures.{closure_send}
 use Rattle.space_node.proofs.Sends.{counted_send, heap_send}
-use Rattle.space_node.proofs.SeatSends.{inbox_send, counted_shared_send}
+use Rattle.space_node.proofs.NodeSends.{inbox_send, counted_shared_send}
 use Rattle.space_node.proofs.cluster.start_node.Lts.{arg-10-1, arg-14-1}
 use Rattle.space_node.proofs.cluster.start_node.Goals as goal
 

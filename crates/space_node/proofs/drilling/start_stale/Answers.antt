@@ -13,7 +13,7 @@ use Rattle.space_node.specs.contracts.shared.Shared as shared
 use Rattle.space_node.proofs.drilling.Stale.TheSendSync.{the_send as stale_send}
 use Rattle.space_node.proofs.Captures.{closure_send}
 use Rattle.space_node.proofs.Sends.{heap_send}
-use Rattle.space_node.proofs.SeatSends.{inbox_send, counted_shared_send}
+use Rattle.space_node.proofs.NodeSends.{inbox_send, counted_shared_send}
 use Rattle.space_node.proofs.drilling.start_stale.Lts.{arg-9-1}
 use Rattle.space_node.proofs.drilling.start_stale.Goals as goal
 

@@ -3,7 +3,7 @@ use Rattle.std.specs.List.{range_with_len}
 use Rattle.terms.specs.declared.parties.ReplicaId.{ReplicaId}
 use Rattle.protocol.specs.System.Configuration.{is_correct_replica}
 use Rattle.journal.specs.Histories.{correct_of}
-use Rattle.space_node.proofs.NewSeats.{none_correct, one_correct}
+use Rattle.space_node.proofs.NewParties.{none_correct, one_correct}
 use Rattle.space_node.proofs.faultless.correct_replicas.Goals as goal
 use Rattle.space_node.proofs.faultless.correct_replicas.Goals.{then-is_correct_replica+in_ok-push, else-is_correct_replica}
 

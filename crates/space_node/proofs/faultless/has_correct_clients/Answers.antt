@@ -1,5 +1,5 @@
 use Rattle.std.proofs.Common.{rules, ◌≤◌, ◌+◌, arith}
-use Rattle.space_node.proofs.NewSeats.{no_faulty_client}
+use Rattle.space_node.proofs.NewParties.{no_faulty_client}
 use Rattle.space_node.proofs.faultless.has_correct_clients.Goals as goal
 
 pub returns : goal.returns

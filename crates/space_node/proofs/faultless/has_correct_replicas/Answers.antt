@@ -1,6 +1,6 @@
 use Rattle.std.proofs.Common.{rules, ◌≤◌, arith}
 use Rattle.protocol.specs.System.Configuration.{replicas}
-use Rattle.space_node.proofs.NewSeats.{no_faulty_replica}
+use Rattle.space_node.proofs.NewParties.{no_faulty_replica}
 use Rattle.space_node.proofs.faultless.has_correct_replicas.Goals as goal
 
 pub returns : goal.returns

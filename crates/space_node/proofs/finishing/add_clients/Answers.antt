@@ -2,7 +2,7 @@ use Rattle.std.proofs.Common.{arith, rules, ◌≡◌, ◌≤◌, ◌+◌, lengt
 use Rattle.std.proofs.lemmas.List.{take_all}
 use Rattle.terms.specs.Parties.{party_number}
 use Rattle.space_node.specs.Runs.{ClientsArePrompt, stopped_of}
-use Rattle.space_node.specs.Seats.{Seated}
+use Rattle.space_node.specs.PartyStates.{PartyState}
 use Rattle.space_node.proofs.Stopped.{clients_prompt, none_named, none_yet, one_named}
 use Rattle.space_node.proofs.finishing.add_clients.Goals as goal
 use Rattle.space_node.proofs.finishing.add_clients.Goals.{then-is_stopped+in_ok-push, else-is_stopped}
@@ -39,5 +39,5 @@ returns-clause-prompt g c =
 pub returns-clause-named : goal.returns-clause-named
 returns-clause-named g c =
     let all : length c.args.clients.now ≤ c.loop-client.client-index = omega arith in
-    subst (λ (seats : List Seated). map party_number c.loop-client.stopped.items ≡ map party_number c.args.stopped.now.items ++ stopped_of seats)
+    subst (λ (states : List PartyState). map party_number c.loop-client.stopped.items ≡ map party_number c.args.stopped.now.items ++ stopped_of states)
     (take_all c.loop-client.client-index c.args.clients.now all) c.loop-client.invariant.1

@@ -2,7 +2,7 @@ use Rattle.std.proofs.Common.{arith, rules, ◌≡◌, ◌≤◌, length, List, 
 use Rattle.std.proofs.lemmas.List.{take_all}
 use Rattle.terms.specs.Parties.{party_number}
 use Rattle.space_node.specs.Runs.{stopped_of}
-use Rattle.space_node.specs.Seats.{Seated}
+use Rattle.space_node.specs.PartyStates.{PartyState}
 use Rattle.space_node.proofs.Stopped.{none_named, none_yet, one_named}
 use Rattle.space_node.proofs.finishing.add_replicas.Goals as goal
 use Rattle.space_node.proofs.finishing.add_replicas.Goals.{then-is_stopped+in_ok-push, else-is_stopped}
@@ -32,5 +32,5 @@ loop-share-preserved g c =
 pub returns : goal.returns
 returns g c =
     let all : length c.args.shares.now ≤ c.loop-share.share-index = omega arith in
-    subst (λ (seats : List Seated). map party_number c.loop-share.stopped.items ≡ map party_number c.args.stopped.now.items ++ stopped_of seats)
+    subst (λ (states : List PartyState). map party_number c.loop-share.stopped.items ≡ map party_number c.args.stopped.now.items ++ stopped_of states)
     (take_all c.loop-share.share-index c.args.shares.now all) c.loop-share.invariant

@@ -1,6 +1,6 @@
 use Rattle.std.proofs.Common.{rules}
 use Rattle.space_node.proofs.Finished.{prompt_more, shares_are, shares_more}
-use Rattle.space_node.proofs.NewSeats.{is_served}
+use Rattle.space_node.proofs.NewParties.{is_served}
 use Rattle.space_node.proofs.finishing.shares_of.Goals as goal
 
 pub share_of-share-requires : goal.share_of-share-requires

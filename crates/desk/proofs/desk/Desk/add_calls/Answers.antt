@@ -8,8 +8,8 @@ use Rattle.execution.proofs.Calling.{requests_are_frames}
 use Rattle.protocol.specs.System.Configuration.{Configuration}
 use Rattle.protocol.specs.Replica.State.{call_of}
 use Rattle.desk.specs.State.{DeskData}
-use Rattle.desk.specs.declared.waiting.BegunCall.{BegunCall}
-use Rattle.desk.proofs.BegunCalls.{CallsLeft, frames_in, call_passed, call_added, calls_end}
+use Rattle.desk.specs.declared.waiting.AssignedCall.{AssignedCall}
+use Rattle.desk.proofs.AssignedCalls.{CallsLeft, frames_in, call_passed, call_added, calls_end}
 use Rattle.desk.proofs.desk.Desk.add_calls.Goals.{in-Some+in_ok-push, in_default}
 use Rattle.desk.proofs.desk.Desk.add_calls.Goals as goal
 
@@ -33,10 +33,10 @@ loop-frame-preserved c =
     let old = c.args.calls.now.items in
     let new = c.loop-frame.calls.items in
     elim c.match-branch-2.branch [
-      | in-Some+in_ok-push w ↦ call_added clients frames old new c.match-branch-2.calls.items i _ w.begun_call.result (call_data w.in-Some.call) c.loop-frame-test.true
-          (λ k e. found k e ∙ ap (option_map call_data) w.in-Some.is) (ap (λ (b : BegunCall). b.client.number) (sym w.begun_call.ensures)) (ap (λ (b : BegunCall). b.timestamp.0) (sym w.begun_call.ensures))
+      | in-Some+in_ok-push w ↦ call_added clients frames old new c.match-branch-2.calls.items i _ w.assigned_call.result (call_data w.in-Some.call) c.loop-frame-test.true
+          (λ k e. found k e ∙ ap (option_map call_data) w.in-Some.is) (ap (λ (b : AssignedCall). b.client.number) (sym w.assigned_call.ensures)) (ap (λ (b : AssignedCall). b.timestamp.0) (sym w.assigned_call.ensures))
           (ap (λ v. v.items) w.calls-is ∙ w.in_ok-push.ensures.items) c.loop-frame.invariant
-      | in_default w ↦ subst (λ (calls : List BegunCall). CallsLeft clients frames old calls (i + 1)) (sym (ap (λ v. v.items) w.calls-is))
+      | in_default w ↦ subst (λ (calls : List AssignedCall). CallsLeft clients frames old calls (i + 1)) (sym (ap (λ v. v.items) w.calls-is))
           (call_passed clients frames old new i _ c.loop-frame-test.true (λ k e. found k e ∙ ap (option_map call_data) w.in_default.is) c.loop-frame.invariant)
     ]
 

@@ -1,4 +1,4 @@
-use Rattle.desk.proofs.BegunCalls.{CallsLeft}
+use Rattle.desk.proofs.AssignedCalls.{CallsLeft}
 use Rattle.desk.proofs.desk.Desk.add_calls.Given as goal
 
 abbrev pub invariant-loop-frame : goal.invariant-loop-frame

@@ -5,4 +5,4 @@ use Rattle.desk.proofs.waiting.Waiting.remove.Goals as goal
 
 pub invariant_of-self : goal.invariant_of-self
 invariant_of-self c =
-    rw (c.keep_others.ensures) (kept_waits (λ r. not (is_of c.args.client.number r)) (record { requests = c.self.inside.requests.items; begun = c.self.inside.begun.items }) c.self.invariant)
+    rw (c.keep_others.ensures) (kept_waits (λ r. not (is_of c.args.client.number r)) (record { requests = c.self.inside.requests.items; assigned = c.self.inside.assigned.items }) c.self.invariant)

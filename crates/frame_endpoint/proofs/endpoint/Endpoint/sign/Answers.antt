@@ -1,6 +1,6 @@
 use Rattle.wire_format.specs.Views.{message_data}
 use Rattle.frame_endpoint.specs.Endpoint.{says}
-use Rattle.frame_endpoint.proofs.Posting.{may_say, signs_own, signs_by}
+use Rattle.frame_endpoint.proofs.Outgoing.{may_say, signs_own, signs_by}
 use Rattle.frame_endpoint.proofs.endpoint.Endpoint.sign.Goals as goal
 
 pub sign_message-requires-clause-said : goal.sign_message-requires-clause-said

@@ -1,6 +1,6 @@
 use Rattle.std.proofs.Common.{◌≡◌, ℕ, ap, ◌∙◌}
 use Rattle.ordering.specs.Log.{LogData, cut_to}
-use Rattle.claims.specs.Recording.{above_mark}
+use Rattle.pq_sets.specs.Recording.{above_mark}
 use Rattle.orderer.specs.State.{OrdererData}
 use Rattle.orderer.specs.OrdererView.{orderer_data}
 use Rattle.orderer.proofs.Batches.{log_cut}
@@ -13,11 +13,11 @@ returns c =
     rw (← c.self.view_is) (
       c.cut-2.new.self,
       record {
-        prepared = c.cut-2.ensures.prepared ∙ ap (λ (n : ℕ). above_mark n old.claims.prepared) low;
-        logged = c.cut-2.ensures.logged ∙ ap (λ (n : ℕ). above_mark n old.claims.logged) low;
+        prepared = c.cut-2.ensures.prepared ∙ ap (λ (n : ℕ). above_mark n old.pq_sets.prepared) low;
+        logged = c.cut-2.ensures.logged ∙ ap (λ (n : ℕ). above_mark n old.pq_sets.logged) low;
         texts = c.cut-2.ensures.texts;
       },
-      ap (λ (log : LogData). let new : OrdererData = record old { log = log; claims = c.cut-2.new.self } in new) c.cut.ensures,
+      ap (λ (log : LogData). let new : OrdererData = record old { log = log; pq_sets = c.cut-2.new.self } in new) c.cut.ensures,
     )
 
 pub invariant_of-self : goal.invariant_of-self

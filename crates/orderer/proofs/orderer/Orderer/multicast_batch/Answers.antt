@@ -4,7 +4,7 @@ use Rattle.wire_format.specs.Messages.{pre_prepare as PrePrepare}
 use Rattle.wire_format.specs.Spelling.{pieces_spelling}
 use Rattle.wire_format.specs.Views.{texts_of}
 use Rattle.orderer.specs.OrdererView.{orderer_data}
-use Rattle.orderer.specs.Claiming.{LogsBatch}
+use Rattle.orderer.specs.PqSets.{LogsBatch}
 use Rattle.orderer.specs.Multicasting.{Multicasts}
 use Rattle.orderer.proofs.Again.{says_batch}
 use Rattle.orderer.proofs.orderer.Orderer.multicast_batch.Goals as goal

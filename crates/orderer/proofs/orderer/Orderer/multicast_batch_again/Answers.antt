@@ -22,7 +22,7 @@ returns-in_default-clause-ok c =
 pub returns-clause-ok : goal.returns-clause-ok
 returns-clause-ok c =
     let primary : c.is_primary.result ≡ true = search rules in
-    let above : c.args.self.now.begun < c.args.number.0 = search rules in
+    let above : c.args.self.now.assigned < c.args.number.0 = search rules in
     on_ok_weaker c.multicast_pre_prepare.result
     (λ k. batch_again c.args.number.0 c.text.result.now c.args.self.now c.multicast_pre_prepare.new.self c.args.outputs.now.items c.multicast_pre_prepare.new.outputs.items c.keeps.ensures.own
     (eqb-true c.args.self.now.log.me (logs.primary c.args.self.now.log c.args.self.now.log.view) (sym c.is_primary.ensures ∙ primary))

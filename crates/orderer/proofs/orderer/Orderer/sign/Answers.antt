@@ -1,7 +1,7 @@
 use Rattle.std.proofs.Common.{◌+◌, Err, Some, inl, inr, sym, ap, ◌∙◌, subst}
 use Rattle.wire_format.specs.Views.{message_data}
 use Rattle.frame_endpoint.specs.Endpoint.{EndpointState, IsTooLongToSign, SignedExceeds, SignsFrame, says}
-use Rattle.orderer.specs.Claiming.{MaySign}
+use Rattle.orderer.specs.PqSets.{MaySign}
 use Rattle.orderer.specs.OrdererView.{orderer_data}
 use Rattle.orderer.specs.State.{OrdererData}
 use Rattle.orderer.proofs.orderer.Orderer.sign.Goals as goal

@@ -22,7 +22,7 @@ pub returns-clause-ok : goal.returns-clause-ok
 returns-clause-ok c =
     let x : Change = record { sender = c.me.result; change = c.in-Some.change } in
     let signed = signs_in (message_data c.view_change_message.result) c.args.self.now c.sign.new.self c.in_ok-frame.field-0 c.in-Some-2.frame c.in-Some-2.is c.in_ok-frame.ensures.ok in
-    signs_change c.args.view.0 c.low-low.result.0 (checkpoint_entries_data c.args.checkpoints) c.self.inside.claims c.args.self.now c.receive.new.self x c.in-Some-2.frame.items (search rules)
+    signs_change c.args.view.0 c.low-low.result.0 (checkpoint_entries_data c.args.checkpoints) c.self.inside.pq_sets c.args.self.now c.receive.new.self x c.in-Some-2.frame.items (search rules)
     (of_some _ _ _ c.in-Some.is c.in_ok-change.ensures.made) (search rules) (search rules)
     (signs_copy c.args.self.now c.in_ok-said.said x _ c.in-Some-2.frame.items c.in_ok-said.ensures c.view_change_message.ensures.says signed.0)
     signed.1
@@ -36,5 +36,5 @@ returns-in_default-clause-ok c = rw (← c.self.view_is) (refl, inr (inl (too_ma
 pub returns-in_default-2-clause-ok : goal.returns-in_default-2-clause-ok
 returns-in_default-2-clause-ok c =
     let x : Change = record { sender = c.me.result; change = c.in-Some.change } in
-    not_signed c.args.self.now c.sign.new.self c.args.view.0 c.low-low.result.0 (checkpoint_entries_data c.args.checkpoints) c.self.inside.claims c.in_ok-said.said x (message_data c.view_change_message.result) c.in_ok-frame.field-0
+    not_signed c.args.self.now c.sign.new.self c.args.view.0 c.low-low.result.0 (checkpoint_entries_data c.args.checkpoints) c.self.inside.pq_sets c.in_ok-said.said x (message_data c.view_change_message.result) c.in_ok-frame.field-0
     (of_some _ _ _ c.in-Some.is c.in_ok-change.ensures.made) (search rules) (search rules) c.in_ok-said.ensures c.view_change_message.ensures.says c.in_default-2.is c.in_ok-frame.ensures.ok

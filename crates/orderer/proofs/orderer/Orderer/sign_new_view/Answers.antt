@@ -1,7 +1,7 @@
 use Rattle.std.proofs.Common.{IfOk, sym, subst}
 use Rattle.wire_format.specs.Views.{message_data, new_view_data}
 use Rattle.view_change.specs.Sets.{texts_of}
-use Rattle.orderer.specs.Claiming.{MaySign}
+use Rattle.orderer.specs.PqSets.{MaySign}
 use Rattle.orderer.specs.OrdererView.{orderer_data}
 use Rattle.orderer.specs.State.{OrdererData}
 use Rattle.orderer.proofs.EnteringViews.{signs_view}

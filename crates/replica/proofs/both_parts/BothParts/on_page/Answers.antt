@@ -8,7 +8,7 @@ use Rattle.replica.specs.Entering.{TakesMessage}
 use Rattle.replica.specs.Fetching.{FetchesNextPart, InstallsFetchedState}
 use Rattle.desk.specs.Fetching.{TakesPage}
 use Rattle.replica.proofs.PartsEnd.{page_installs, page_ends}
-use Rattle.desk.specs.declared.open_transfer.Taken.{Taken}
+use Rattle.desk.specs.declared.transfer.Taken.{Taken}
 use Rattle.replica.proofs.Parts.{page_dropped, page_asked}
 use Rattle.replica.proofs.both_parts.BothParts.on_page.Goals as goal
 

@@ -9,6 +9,6 @@ loop-output-preserved c = (
   own_more (party_number c.args.party) c.loop-output.yielded c.in-Some.output c.loop-output.invariant.1 c.in_ok-add_output.ensures.own,
   record {
     replicas = c.in_ok-add_output.ensures.kept.replicas ∙ c.loop-output.invariant.2.replicas;
-    seats = c.in_ok-add_output.ensures.kept.seats ∙ c.loop-output.invariant.2.seats;
+    stage_clients = c.in_ok-add_output.ensures.kept.stage_clients ∙ c.loop-output.invariant.2.stage_clients;
   },
 )

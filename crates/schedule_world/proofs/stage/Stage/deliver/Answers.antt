@@ -8,7 +8,7 @@ pub returns-clause-delivers : goal.returns-clause-delivers
 returns-clause-delivers c =
     let mid : Stage = record {
       replicas = c.args.self.now.replicas;
-      seats = c.args.self.now.seats;
+      stage_clients = c.args.self.now.stage_clients;
       pool = c.note_delivered.new.self;
       trace = c.args.self.now.trace;
       accepted = c.args.self.now.accepted;

@@ -18,7 +18,7 @@ pub loop-preserved : goal.loop-preserved
 loop-preserved c =
     let delivery : FrameIsDelivered c.args.config.now c.in-Some.frame (party_number c.in-Some.party) c.loop.self c.deliver.new.self =
     subst (λ s. FrameIsDelivered c.args.config.now c.in-Some.frame (party_number c.in-Some.party) s c.deliver.new.self) c.in-Some.ensures.kept c.in_ok-deliver-in-Some.ensures.delivers in (
-      c.in_ok-deliver-in-Some.ensures.seated,
+      c.in_ok-deliver-in-Some.ensures.placed,
       stands_more c.args.config.now c.loop.self c.deliver.new.self c.in-Some.frame (party_number c.in-Some.party) delivery c.loop.invariant.1,
       flush_more c.args.config.now c.args.self.now c.loop.self c.deliver.new.self c.in-Some.frame (party_number c.in-Some.party) c.in-Some.ensures.next delivery c.loop.invariant.2,
     )

@@ -1,4 +1,4 @@
-use Rattle.std.proofs.Common.{sym, ap, ◌∙◌}
+use Rattle.std.proofs.Common.{ap, ◌∙◌}
 use Rattle.tuple_tree.specs.Items.{how_many}
 use Rattle.space.specs.Births.{BornTuple}
 use Rattle.space.specs.Candidates.{has_key}

@@ -17,8 +17,8 @@ returns c =
     let receiver = parties.Client request.client in
     let message = message_data c.reply_message-message.result in
     let receives : AuthenticatesRead s.ring s.me.0 bytes request.client.number request.timestamp.0 request.op.now = search rules in
-    let posted : IfOk c.seal_for_one.result (SealsForOne s.ring s.me.0 message receiver) =
-    subst (λ (m : Membership). IfOk c.seal_for_one.result (SealsForOne m s.me.0 message receiver)) c.authenticate_read.ensures.same c.seal_for_one.ensures.posted in
+    let is_outgoing : IfOk c.seal_for_one.result (SealsForOne s.ring s.me.0 message receiver) =
+    subst (λ (m : Membership). IfOk c.seal_for_one.result (SealsForOne m s.me.0 message receiver)) c.authenticate_read.ensures.same c.seal_for_one.ensures.is_outgoing in
     if_some c.seal_for_one.result c.ok.result (SealsForOne s.ring s.me.0 message receiver) (IsStale s.ring s.me.0 bytes) c.ok.ensures.value
     (λ output sealed. stale s.ring s.me.0 bytes _ request c.in-Ok.reply receives c.in-Ok.ensures.answer c.new-space.ensures.state refl message receiver output
-    c.reply_message-message.ensures.says refl sealed) posted
+    c.reply_message-message.ensures.says refl sealed) is_outgoing

@@ -9,7 +9,7 @@ pub returns-clause-called : goal.returns-clause-called
 returns-clause-called g c =
     let a = c.args.self.now in
     let b = c.invoke.new.self in
-    let d = c.wait_answer.new.seat in
+    let d = c.wait_answer.new.state in
     let first : CallBegins a (operation_of c.args.op) b = search rules in
     IfOk-weaker c.wait_answer.result (λ x. CallEnds b (outcome_of x) d) (λ x. Called a (operation_of c.args.op) (outcome_of x) d)
     (λ x last. called a b d (operation_of c.args.op) (outcome_of x) first last) c.wait_answer.ensures.ends
@@ -18,6 +18,6 @@ pub returns-clause-refused : goal.returns-clause-refused
 returns-clause-refused g c =
     let a = c.args.self.now in
     let b = c.invoke.new.self in
-    let d = c.wait_answer.new.seat in
+    let d = c.wait_answer.new.state in
     let first : CallBegins a (operation_of c.args.op) b = search rules in
     on_err_weaker c.wait_answer.result (λ next. refused_call a b d (operation_of c.args.op) first next) c.wait_answer.ensures.refused

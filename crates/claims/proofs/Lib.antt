@@ -1,4 +1,0 @@
-pub mod ByteOrder
-pub mod Keeping
-mod KeptClaims
-mod Placing

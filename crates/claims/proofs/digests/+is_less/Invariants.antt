@@ -1,5 +1,0 @@
-use Rattle.std.proofs.Common.{length}
-use Rattle.claims.proofs.digests.+is_less.Given as goal
-
-abbrev pub decreases-is_less : goal.decreases-is_less
-decreases-is_less l = length l.digest.now

@@ -1,3 +1,0 @@
-pub mod ClaimsView
-pub mod Places
-pub mod Recording

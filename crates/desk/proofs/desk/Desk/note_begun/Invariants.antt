@@ -1,5 +1,0 @@
-use Rattle.desk.proofs.BegunCalls.{BatchesLeft}
-use Rattle.desk.proofs.desk.Desk.note_begun.Given as goal
-
-abbrev pub invariant-loop-batch : goal.invariant-loop-batch
-invariant-loop-batch l = BatchesLeft l.self.executed.clients l.batches l.calls.items l.batch-index

@@ -1,0 +1,4 @@
+pub mod ByteOrder
+pub mod Keeping
+mod KeptPqSets
+mod Placing

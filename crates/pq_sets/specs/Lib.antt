@@ -1,0 +1,3 @@
+pub mod PqSetsView
+pub mod Places
+pub mod Recording

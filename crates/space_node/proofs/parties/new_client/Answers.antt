@@ -1,0 +1,7 @@
+use Rattle.std.proofs.Common.{refl}
+use Rattle.space_node.proofs.parties.new_client.Goals as goal
+
+pub new-state-requires-clause-fits : goal.new-state-requires-clause-fits
+new-state-requires-clause-fits g c =
+    c.new-client.ensures.fits g.N.Naming.config
+    (rw (← c.requires.config, c.new-ring.ensures, c.seed.ensures.value, c.faults.ensures.value, c.clients.ensures.value) refl)
