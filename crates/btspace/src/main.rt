@@ -21,7 +21,7 @@ use one_space::{
     Complaint, STANDARD_INPUT, complain, print_tuple, run_script, script_at, words_of,
 };
 use run_command::{Display, end_run, most_operations, run};
-use schedule_command::{read_settings, schedule};
+use schedule_command::{end_schedule, read_settings, schedule};
 use space::Version;
 use std::alloc::Global;
 use std::io::{IsTerminal, Read};
@@ -118,7 +118,7 @@ fn run_on_cluster<
     }
     match settings_at(rt, config) {
         Ok(settings) => run_cluster(rt, is_terminal, &settings, script),
-        Err(complaint) => complain(rt, complaint),
+        Err(status) => status,
     }
 }
 
@@ -139,25 +139,26 @@ fn run_configured<R: Files + Input + Print + Eprint + AllocGlobal>(
     }
     match settings_at(rt, config) {
         Ok(settings) => run_schedule(rt, &settings.config, file, printed),
-        Err(complaint) => complain(rt, complaint),
+        Err(status) => status,
     }
 }
 
-fn settings_at<'a, R: Files + Input + AllocGlobal>(
+// Without a configuration it gives the status to end with.
+fn settings_at<R: Files + Input + Eprint + AllocGlobal>(
     rt: &R,
-    path: &'a str,
-) -> Result<Settings, Complaint<'a>> {
+    path: &str,
+) -> Result<Settings, u8> {
     let settings = if path == STANDARD_INPUT {
         read_settings(rt.alloc(), rt.reader())
     } else {
         match fs::open(rt, path) {
             Ok(file) => read_settings(rt.alloc(), file),
-            Err(error) => return Err(Complaint::of_open(&error, path)),
+            Err(error) => return Err(complain(rt, Complaint::of_open(&error, path))),
         }
     };
     match settings {
         Ok(settings) => Ok(settings),
-        Err(fault) => Err(fault.complaint(path)),
+        Err(fault) => Err(end_schedule(rt, &fault, path)),
     }
 }
 
@@ -185,7 +186,7 @@ fn run_steps<R: Print + Eprint + AllocGlobal, I: Read + Drop>(
 ) -> u8 {
     match schedule(rt.alloc(), config, input, printed, &mut io::writer(rt)) {
         Ok(()) => 0,
-        Err(fault) => complain(rt, fault.complaint(path)),
+        Err(fault) => end_schedule(rt, &fault, path),
     }
 }
 

@@ -15,7 +15,7 @@ ghost use Rattle.clap.specs.Values.{kind_of};
 ghost use Rattle.command_line.specs.Requests.{AsksFor, HasVersion};
 
 use clap::error::ErrorKind;
-use clap::{Arg, ArgAction, ArgMatches, Command, Error};
+use clap::{Arg, ArgAction, ArgMatches, Command, Error, value_parser};
 use std::alloc::{AllocError, Global};
 use std::convert::AsStr;
 
@@ -58,8 +58,15 @@ pub enum Printed {
     Report,
     /// Each entry of the trace, and then the report.
     Trace,
-    /// The picture of the trace, and nothing else.
-    Picture,
+    /// The picture of the entries at these positions, and nothing else.
+    Picture(Positions),
+}
+
+/// Positions in a trace, counted from 0, with both ends. A trace may have fewer entries.
+#[derive(Clone, Copy, Debug, PartialEq, Eq)]
+pub struct Positions {
+    pub from: u64,
+    pub to: u64,
 }
 
 /// Why there is no request.
@@ -155,11 +162,19 @@ fn space_version(given: &ArgMatches<'_>) -> SpaceVersion
 // The two options exclude each other.
 fn printed_of(given: &ArgMatches<'_>) -> Printed {
     if given.get_flag("picture") {
-        Printed::Picture
+        Printed::Picture(positions_of(given))
     } else if given.get_flag("trace") {
         Printed::Trace
     } else {
         Printed::Report
+    }
+}
+
+// A picture is of all entries, if the words don't say of which.
+fn positions_of(given: &ArgMatches<'_>) -> Positions {
+    Positions {
+        from: given.get_one::<u64>("from").unwrap_or(0),
+        to: given.get_one::<u64>("to").unwrap_or(u64::MAX),
     }
 }
 
@@ -242,6 +257,16 @@ fn schedule<'a>(alloc: Global) -> Result<Command<'a>, AllocError> {
             "picture",
             "Print the run as an SVG message sequence chart in place of the report",
         ))?
+        .arg(position(
+            alloc,
+            "from",
+            "The position of the first entry that the chart shows [default: 0]",
+        )?)?
+        .arg(position(
+            alloc,
+            "to",
+            "The position of the last entry that the chart shows [default: the last one]",
+        )?)?
         .arg(required(alloc, "CONFIG", "The file of the configuration, in TOML"))?
         .arg(required(
             alloc,
@@ -269,6 +294,16 @@ fn flag<'a>(alloc: Global, name: &'a str, help: &'a str) -> Arg<'a> {
         .long(name)
         .action(ArgAction::SetTrue)
         .help(help)
+}
+
+// The position of an entry, for a picture.
+fn position<'a>(alloc: Global, name: &'a str, help: &'a str) -> Result<Arg<'a>, AllocError> {
+    Arg::new(alloc, name)
+        .long(name)
+        .value_name("POSITION")
+        .value_parser(value_parser!(u64))
+        .help(help)
+        .requires_arg("picture")
 }
 
 // Help and the version go to standard output, errors to standard error.

@@ -1,6 +1,6 @@
 //! Tests of the commands of the program: the words of the command line, the example scripts on a space of their own and
-//! on a cluster, runs whose nodes are held or stop, schedules with their reports and pictures, and what is shown while
-//! a run lasts.
+//! on a cluster, runs whose nodes are held or stop, schedules with their reports and pictures, what is said of refused
+//! files, and what is shown while a run lasts.
 #![tactic(auto)]
 
 #[cfg(test)]
@@ -15,6 +15,8 @@ mod examples;
 mod forged;
 #[cfg(test)]
 mod held;
+#[cfg(test)]
+mod refusals;
 #[cfg(test)]
 mod schedules;
 #[cfg(test)]

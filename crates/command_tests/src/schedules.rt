@@ -1,8 +1,8 @@
-//! The example schedules with their reports, and schedules that are refused.
+//! The example schedules with their reports and pictures.
 
-use command_line::Printed;
+use command_line::{Positions, Printed};
 use schedule_command::{ScheduleFault, read_settings, schedule};
-use std::alloc::{AllocError, Global};
+use std::alloc::Global;
 use std::process::Abort;
 
 // Schedules in other files run in it too.
@@ -95,17 +95,11 @@ static ROWS: [Row<'static>; 5] = [
     ),
 ];
 
-// Schedules, and the line that is refused.
-static REFUSED: [(&str, u64); 3] = [
-    ("# no step\nwait\n", 2),
-    ("tick r0\ntick r4\n", 2),
-    ("flush\n\ndeliver 0 r0\nwait\n", 3),
-];
-
 /// The configuration, the schedule, whether it is traced, and its output.
 pub type Row<'a> = (&'a str, &'a str, bool, &'a str);
 
-fn run(
+/// Runs a schedule in a configuration.
+pub fn run(
     alloc: Global,
     settings: &str,
     text: &str,
@@ -139,56 +133,32 @@ fn runs_the_schedules(rt: HostRuntime) {
     are_reported(&rt, rt.alloc(), &ROWS);
 }
 
-fn is_refused_at(alloc: Global, text: &str, refused: u64) -> bool {
+// Whether the output is a picture of the schedule with so many titles, and nothing else.
+fn is_drawn(alloc: Global, text: &str, from: u64, to: u64, titles: usize) -> bool {
     let mut written = Vec::new(alloc);
-    match run(alloc, FOUR_SETTINGS, text, Printed::Report, &mut written) {
-        Err(ScheduleFault::Step { line }) => line == refused && written.is_empty(),
-        _ => false,
-    }
-}
-
-#[test]
-fn names_the_line_that_is_refused(rt: HostRuntime) {
-    for (text, line) in &REFUSED {
-        assert!(rt; is_refused_at(rt.alloc(), text, *line), "{text}");
-    }
-}
-
-// Whether the output is the picture of the schedule, and nothing else.
-fn is_drawn(alloc: Global, text: &str) -> bool {
-    let mut written = Vec::new(alloc);
-    run(alloc, FOUR_SETTINGS, text, Printed::Picture, &mut written).is_ok()
+    let printed = Printed::Picture(Positions { from, to });
+    run(alloc, FOUR_SETTINGS, text, printed, &mut written).is_ok()
         && written.starts_with(b"<?xml ")
         && written.ends_with(b"</svg>\n")
+        && count(written.as_slice(), b"<title>") == titles
 }
 
+fn count(bytes: &[u8], text: &[u8]) -> usize {
+    let mut count = 0usize;
+    for start in 0..bytes.len() {
+        if bytes[start..].starts_with(text) {
+            count = count.saturating_add(1);
+        }
+    }
+    count
+}
+
+// The picture has a title, and so has each entry and each point that it shows. The report above tells the points.
 #[test]
 fn draws_a_schedule(rt: HostRuntime) {
-    assert!(rt; is_drawn(rt.alloc(), "tick r3\ntick c0\n"));
-}
-
-fn is_no_configuration(alloc: Global, text: &[u8]) -> bool {
-    matches!(
-        read_settings(alloc, text),
-        Err(ScheduleFault::Configuration)
-    )
-}
-
-// Puts a configuration that line feeds lengthen to so many bytes.
-fn put_padded(len: usize, text: &mut Vec<u8>) -> Result<(), AllocError> {
-    text.extend_from_slice(FOUR_SETTINGS.as_bytes())?;
-    text.resize(len, b'\n')
-}
-
-// Whether that is read, or is too long.
-fn is_judged(alloc: Global, len: usize, is_read: bool) -> bool {
-    let mut text = Vec::new(alloc);
-    put_padded(len, &mut text).is_ok() && is_no_configuration(alloc, text.as_slice()) != is_read
-}
-
-#[test]
-fn refuses_what_is_no_configuration(rt: HostRuntime) {
     let alloc = rt.alloc();
-    assert!(rt; is_no_configuration(alloc, b"f = 4"));
-    assert!(rt; is_judged(alloc, 65_536, true) && is_judged(alloc, 65_537, false));
+    assert!(rt; is_drawn(alloc, "tick r3\ntick c0\n", 0, u64::MAX, 3));
+    assert!(rt; is_drawn(alloc, "tick r3\ntick c0\n", 1, 1, 2));
+    assert!(rt; is_drawn(alloc, FIRST_READ_SCHEDULE, 0, u64::MAX, 1 + 66 + 2));
+    assert!(rt; is_drawn(alloc, FIRST_READ_SCHEDULE, 38, 50, 1 + 13 + 1));
 }

@@ -1,6 +1,6 @@
 //! The words of the command line, and the output for them.
 
-use command_line::{NoRequest, Printed, Request, SpaceVersion, read_words};
+use command_line::{NoRequest, Positions, Printed, Request, SpaceVersion, read_words};
 use std::alloc::Global;
 use std::cell::RefCell;
 use std::fmt::Display;
@@ -80,7 +80,7 @@ struct Row {
     errors: &'static str,
 }
 
-static ROWS: [Row; 15] = [
+static ROWS: [Row; 18] = [
     Row {
         words: &["btspace", "--help"],
         why: NoRequest::Shown,
@@ -200,6 +200,55 @@ For more information, try '--help'.
 ",
     },
     Row {
+        words: &["btspace", "schedule", "-h"],
+        why: NoRequest::Shown,
+        output: "Runs a schedule in a world of replicas and clients and prints what was accepted
+
+Usage: btspace schedule [OPTIONS] <CONFIG> <FILE>
+
+Arguments:
+  <CONFIG>  The file of the configuration, in TOML
+  <FILE>    The file of the schedule, a line for each step
+
+Options:
+      --trace            Print the entries of the trace before the report, a line each
+      --picture          Print the run as an SVG message sequence chart in place of the report
+      --from <POSITION>  The position of the first entry that the chart shows [default: 0]
+      --to <POSITION>    The position of the last entry that the chart shows [default: the last one]
+  -h, --help             Print help
+",
+        errors: "",
+    },
+    Row {
+        words: &["btspace", "schedule", "--from", "1", "a.toml", "b"],
+        why: NoRequest::Wrong,
+        output: "",
+        errors: "error: the following required arguments were not provided:
+  --picture
+
+Usage: btspace schedule --picture --from <POSITION> <CONFIG> <FILE>
+
+For more information, try '--help'.
+",
+    },
+    Row {
+        words: &[
+            "btspace",
+            "schedule",
+            "--picture",
+            "--to",
+            "last",
+            "a.toml",
+            "b",
+        ],
+        why: NoRequest::Wrong,
+        output: "",
+        errors: "error: invalid value 'last' for '--to <POSITION>': invalid digit found in string
+
+For more information, try '--help'.
+",
+    },
+    Row {
         words: &["btspace", "local", "a", "b"],
         why: NoRequest::Wrong,
         output: "",
@@ -291,7 +340,7 @@ fn prints_help_and_mistakes(rt: HostRuntime) {
 }
 
 // Words, and what they ask for.
-static ASKED: [(&[&str], Request<'static>); 9] = [
+static ASKED: [(&[&str], Request<'static>); 10] = [
     (
         &["btspace", "local", "a.bts"],
         Request::Local {
@@ -349,7 +398,27 @@ static ASKED: [(&[&str], Request<'static>); 9] = [
         Request::Schedule {
             config: "a.toml",
             file: "b",
-            printed: Printed::Picture,
+            printed: Printed::Picture(Positions {
+                from: 0,
+                to: u64::MAX,
+            }),
+        },
+    ),
+    (
+        &[
+            "btspace",
+            "schedule",
+            "--picture",
+            "a.toml",
+            "b",
+            "--from",
+            "7",
+            "--to=19",
+        ],
+        Request::Schedule {
+            config: "a.toml",
+            file: "b",
+            printed: Printed::Picture(Positions { from: 7, to: 19 }),
         },
     ),
 ];

@@ -1,3 +1,3 @@
-pub mod Faults
 pub mod Judging
+pub mod Keys
 pub mod Reading

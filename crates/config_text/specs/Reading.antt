@@ -1,10 +1,11 @@
 -- The settings that the table of a configuration's text says, each under its key.
-use Rattle.std.specs.Prelude.{◌≡◌, ◌≤◌, ℕ, pos, List, [], ◌∷◌, codes, Option, Some, None, option_and_then, Ok, All, Contains}
+use Rattle.std.specs.Prelude.{◌≡◌, ◌≤◌, ℕ, length, pos, List, [], ◌∷◌, codes, Option, Some, None, option_and_then, Ok, All, Contains}
 use Rattle.std.specs.Str.{IsUtf8}
 use Rattle.hex.specs.Hex.{decode_sized}
 use Rattle.toml.specs.Data.{Data, Items, no_items, item, Members, no_members, member, get_member, as_integer, as_str, as_array}
 use Rattle.toml.specs.Parse.{parse_document}
 use Rattle.protocol.specs.System.Configuration.{Configuration, IsConfiguration}
+use Rattle.config_text.specs.declared.reading.TheConstants.{MAX_CONFIG}
 
 -- The number stands under the key.
 abbrev pub KeyHasNumber : Members → List ℕ → ℕ → Type 0
@@ -74,9 +75,10 @@ pub record SaysAll (table : Members) (c : Configuration) (journal : ℕ) : Type 
   pub journal_is : HasNumberOr table (codes "journal") 65536 journal
   pub range : IsJournal journal
 
--- The text is TOML, and its table is that of the configuration and the journal.
+-- The text is TOML and not too long, and its table is that of the configuration and the journal.
 pub record SaysSettings (text : List ℕ) (c : Configuration) (journal : ℕ) : Type 0 where
   pub table : Members
+  pub size : length text ≤ MAX_CONFIG
   pub utf8 : IsUtf8 text
   pub parsed : parse_document text ≡ Some table
   pub all : SaysAll table c journal

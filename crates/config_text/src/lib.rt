@@ -9,9 +9,12 @@
 #![tactic(auto)]
 
 mod fault;
+mod key;
+mod place;
 mod reading;
 mod settings;
 
-pub use fault::ConfigFault;
-pub use reading::read_config;
+pub use fault::{ConfigFault, ShownKey};
+pub use key::Key;
+pub use reading::{MAX_CONFIG, read_config};
 pub use settings::Settings;

@@ -27,6 +27,6 @@ mod session;
 pub use commands::{STANDARD_INPUT, complain, print_tuple, run_script, script_at, words_of};
 pub use complaints::Complaint;
 pub use digits::{ShowFault, show};
-pub use pieces::{PieceEnd, ReadFault, drop_return, read_piece};
+pub use pieces::{PieceEnd, ReadFault, drop_return, is_blank, read_piece};
 pub use script::read_script;
 pub use session::{LocalFault, local};

@@ -1,23 +1,132 @@
 //! Arrows from sendings to deliveries.
 
-use crate::labels::put_title;
-use crate::lanes::{Lanes, Standing, row};
+use crate::judge::Judge;
+use crate::labels::{put_dropped_title, put_title};
+use crate::lanes::{Lanes, Standing, standing_of};
 use crate::messages::{MessageKind, Shown, read_shown};
+use crate::run::{Rows, Run};
+use crate::shapes::{Spot, put_cross};
 use events::{Entry, EntryKind};
 use std::alloc::Global;
 use std::collections::HashMap;
 use std::fmt::Write;
 use terms::{NoMemory, Party};
 
-// Where an arrow begins if no party sent the frame and it names no faulty sender.
+// Where an arrow begins that begins at no lane.
 const MARGIN: u64 = 48;
 
-// The last sending of a frame.
+/// Where an arrow begins.
 #[derive(Clone, Copy, Drop)]
-struct Sending {
+pub(crate) enum Origin {
+    /// At the last sending of the same bytes before.
+    Sending { party: u16, position: u64 },
+    /// Nobody sent the bytes; they name a faulty party as their sender.
+    Faulty { party: u16 },
+    Nowhere,
+}
+
+impl Origin {
+    /// The party at whose lane the arrow begins.
+    pub(crate) fn party(self) -> Option<u16> {
+        match self {
+            Origin::Sending { party, .. } | Origin::Faulty { party } => Some(party),
+            Origin::Nowhere => None,
+        }
+    }
+}
+
+/// A delivery. Its bytes count for nothing if they are no frame that is authentic to its party.
+#[derive(Clone, Copy, Drop)]
+pub(crate) struct Arrow {
     position: u64,
     party: u16,
     kind: MessageKind,
+    pub(crate) origin: Origin,
+    is_dropped: bool,
+}
+
+/// The arrows to the deliveries among these rows. A sending is found by the frame's bytes, also above the rows.
+pub(crate) fn arrows_of(alloc: Global, run: Run<'_>, rows: Rows) -> Result<Vec<Arrow>, NoMemory> {
+    let mut sendings = HashMap::new(alloc);
+    let mut judge = Judge::new(alloc, run.config)?;
+    let mut arrows = Vec::new(alloc);
+    for (position, entry) in run.trace.iter().enumerate() {
+        let position = position as u64;
+        match entry.kind() {
+            EntryKind::Sent(party, bytes) => {
+                let party = party.number();
+                sendings.insert(bytes.as_slice(), Origin::Sending { party, position })?;
+            }
+            EntryKind::Got(party, bytes) if rows.has(position) => {
+                let sending = sendings.get(&bytes.as_slice()).copied();
+                let shown = read_shown(alloc, bytes.as_slice())?;
+                arrows.push(Arrow {
+                    position,
+                    party: party.number(),
+                    kind: shown.kind,
+                    origin: sending.unwrap_or(source(run, &shown)),
+                    is_dropped: !judge.is_authentic(bytes.as_slice(), *party),
+                })?;
+            }
+            _ => {}
+        }
+    }
+    Ok(arrows)
+}
+
+// Where the arrow of a frame begins that no party sent.
+fn source(run: Run<'_>, shown: &Shown) -> Origin {
+    match shown.sender {
+        Some(party) if standing_of(run.config, party.number()) == Standing::Faulty => {
+            Origin::Faulty {
+                party: party.number(),
+            }
+        }
+        _ => Origin::Nowhere,
+    }
+}
+
+/// Draws the arrows, and a cross at the end of one whose bytes count for nothing.
+pub(crate) fn put_arrows(
+    alloc: Global,
+    lanes: &Lanes,
+    trace: &[Entry],
+    arrows: &[Arrow],
+    svg: &mut String,
+) -> Result<(), NoMemory> {
+    writeln!(svg, "<g class=\"arrows\">")?;
+    for arrow in arrows {
+        if let Some(entry) = trace.get(arrow.position as usize) {
+            put_arrow(alloc, lanes, entry, *arrow, svg)?;
+        }
+    }
+    Ok(writeln!(svg, "</g>")?)
+}
+
+fn put_arrow(
+    alloc: Global,
+    lanes: &Lanes,
+    entry: &Entry,
+    arrow: Arrow,
+    svg: &mut String,
+) -> Result<(), NoMemory> {
+    let (class, line) = line_of(lanes, arrow);
+    put_line(arrow.kind, class, line, svg)?;
+    put_title(alloc, arrow.position, entry, svg)?;
+    writeln!(svg, "</path>")?;
+    if !arrow.is_dropped {
+        return Ok(());
+    }
+    write!(svg, "<g>")?;
+    put_dropped_title(alloc, arrow.position, entry, svg)?;
+    put_cross(
+        Spot {
+            x: line.x,
+            y: line.y,
+        },
+        svg,
+    )?;
+    Ok(writeln!(svg, "</g>")?)
 }
 
 // Where an arrow begins and ends.
@@ -29,101 +138,26 @@ struct Line {
     y: u64,
 }
 
-/// Draws an arrow to each delivery, a short one if no party sent the bytes. A sending is found by the frame's bytes.
-pub(crate) fn put_arrows(
-    alloc: Global,
-    lanes: &Lanes,
-    trace: &[Entry],
-    svg: &mut String,
-) -> Result<(), NoMemory> {
-    let mut sendings = HashMap::new(alloc);
-    writeln!(svg, "<g class=\"arrows\">")?;
-    for (position, entry) in trace.iter().enumerate() {
-        let position = position as u64;
-        match entry.kind() {
-            EntryKind::Sent(party, bytes) => {
-                let sending = sending_at(alloc, position, *party, bytes.as_slice())?;
-                sendings.insert(bytes.as_slice(), sending)?;
-            }
-            EntryKind::Got(party, bytes) => {
-                let x = lanes.x(party.number());
-                let y = row(position);
-                put_arrow(
-                    alloc,
-                    lanes,
-                    sendings.get(&bytes.as_slice()),
-                    bytes.as_slice(),
-                    x,
-                    y,
-                    svg,
-                )?;
-                put_title(alloc, position, entry, svg)?;
-                writeln!(svg, "</path>")?;
-            }
-            _ => {}
+// The arrow of a frame that was sent above the rows, or never, begins a little higher than it ends.
+fn line_of(lanes: &Lanes, arrow: Arrow) -> (&'static str, Line) {
+    let (x, y) = (lanes.x(arrow.party), lanes.y(arrow.position));
+    let (class, from_x, from_y) = match arrow.origin {
+        Origin::Sending { party, position } if lanes.has_row(position) => {
+            ("", lanes.x(party), lanes.y(position))
         }
-    }
-    Ok(writeln!(svg, "</g>")?)
-}
-
-fn sending_at(
-    alloc: Global,
-    position: u64,
-    party: Party,
-    bytes: &[u8],
-) -> Result<Sending, NoMemory> {
-    let shown = read_shown(alloc, bytes)?;
-    Ok(Sending {
-        position,
-        party: party.number(),
-        kind: shown.kind,
-    })
-}
-
-fn put_arrow(
-    alloc: Global,
-    lanes: &Lanes,
-    sending: Option<&Sending>,
-    bytes: &[u8],
-    x: u64,
-    y: u64,
-    svg: &mut String,
-) -> Result<(), NoMemory> {
-    match sending {
-        Some(sending) => {
-            let line = Line {
-                from_x: lanes.x(sending.party),
-                from_y: row(sending.position),
-                x,
-                y,
-            };
-            put_line(sending.kind, "", line, svg)
-        }
-        None => {
-            let shown = read_shown(alloc, bytes)?;
-            let line = Line {
-                from_x: source(lanes, &shown),
-                from_y: y.saturating_sub(6),
-                x,
-                y,
-            };
-            put_line(shown.kind, " fed", line, svg)
-        }
-    }
-}
-
-// Where the arrow of a frame begins that no party sent in the run: at the faulty sender that it names.
-fn source(lanes: &Lanes, shown: &Shown) -> u64 {
-    match shown.sender {
-        Some(party) => {
-            if lanes.standing(party.number()) == Standing::Faulty {
-                lanes.x(party.number())
-            } else {
-                MARGIN
-            }
-        }
-        None => MARGIN,
-    }
+        Origin::Sending { party, .. } => (" before", lanes.x(party), y.saturating_sub(6)),
+        Origin::Faulty { party } => (" fed", lanes.x(party), y.saturating_sub(6)),
+        Origin::Nowhere => (" fed", MARGIN, y.saturating_sub(6)),
+    };
+    (
+        class,
+        Line {
+            from_x,
+            from_y,
+            x,
+            y,
+        },
+    )
 }
 
 // Opens the element of an arrow. It is a curve if it ends on its own lane.

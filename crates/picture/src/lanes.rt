@@ -1,6 +1,8 @@
 //! The lanes of the parties, and the places of all parts on the page.
 
-use events::{Config, Entry, EntryKind};
+use crate::arrows::Arrow;
+use crate::run::{Rows, Run};
+use events::{Config, EntryKind};
 use std::alloc::{AllocError, Global};
 use std::fmt::{self, Write};
 use terms::{FIRST_CLIENT, NoMemory, Party};
@@ -13,15 +15,27 @@ const LANE: u64 = 150;
 
 const RIGHT: u64 = 240;
 
+// The legend has this width.
+const LEAST_WIDTH: u64 = 900;
+
 // The height of an entry's row, and the heights above the first row and below the last.
 const ROW: u64 = 14;
 
-const ABOVE: u64 = 128;
+const ABOVE: u64 = 146;
 
 const BELOW: u64 = 44;
 
 // How far down the names are.
-const HEADS: u64 = 98;
+const HEADS: u64 = 116;
+
+// No picture is wider or higher: programs that draw such files take no more than 32,767 pixels.
+const MOST_PIXELS: u64 = 30_000;
+
+/// Most entries of a picture.
+pub const MAX_ROWS: u64 = (MOST_PIXELS - ABOVE - BELOW) / ROW;
+
+/// Most lanes of a picture.
+pub(crate) const MAX_LANES: u64 = (MOST_PIXELS - LEFT - RIGHT) / LANE + 1;
 
 /// Whether the configuration has the party, and as faulty.
 #[derive(Clone, Copy, Debug, PartialEq, Eq, Drop)]
@@ -31,29 +45,35 @@ pub(crate) enum Standing {
     Unknown,
 }
 
-/// A lane for each party of the configuration and each that occurs, by their numbers: replicas, then clients.
+/// A lane for each party that takes part, by their numbers: replicas, then clients. A party takes part if an entry in
+/// the rows is its own, if an arrow begins at it, or if an operation of it acts there.
 #[derive(Drop)]
 pub(crate) struct Lanes {
     parties: Vec<u16>,
     standings: Vec<Standing>,
-    rows: u64,
+    rows: Rows,
 }
 
 impl Lanes {
-    pub(crate) fn of(alloc: Global, config: &Config, trace: &[Entry]) -> Result<Lanes, AllocError> {
-        let numbers = numbers(alloc, config, trace)?;
+    pub(crate) fn of(
+        alloc: Global,
+        run: Run<'_>,
+        rows: Rows,
+        arrows: &[Arrow],
+    ) -> Result<Lanes, AllocError> {
+        let numbers = numbers(alloc, run, rows, arrows)?;
         let mut parties = Vec::new(alloc);
         let mut standings = Vec::new(alloc);
         for number in numbers.as_slice() {
             if parties.last() != Some(number) {
                 parties.push(*number)?;
-                standings.push(standing_of(config, *number))?;
+                standings.push(standing_of(run.config, *number))?;
             }
         }
         Ok(Lanes {
             parties,
             standings,
-            rows: trace.len() as u64,
+            rows,
         })
     }
 
@@ -80,28 +100,36 @@ impl Lanes {
         }
     }
 
+    /// How far down the row of an entry is.
+    pub(crate) fn y(&self, position: u64) -> u64 {
+        after(ABOVE, position.saturating_sub(self.rows.first), ROW)
+    }
+
+    /// Whether the entry at this position is drawn.
+    pub(crate) fn has_row(&self, position: u64) -> bool {
+        self.rows.has(position)
+    }
+
     /// Whether no lane is to the right of a party's.
     pub(crate) fn is_last(&self, party: u16) -> bool {
         self.parties.last() == Some(&party)
     }
 
-    pub(crate) fn rows(&self) -> u64 {
+    pub(crate) fn rows(&self) -> Rows {
         self.rows
     }
 
+    pub(crate) fn count(&self) -> u64 {
+        self.parties.len() as u64
+    }
+
     pub(crate) fn width(&self) -> u64 {
-        let lanes = (self.parties.len() as u64).saturating_sub(1);
-        after(LEFT + RIGHT, lanes, LANE)
+        after(LEFT + RIGHT, self.count().saturating_sub(1), LANE).max(LEAST_WIDTH)
     }
 
     pub(crate) fn height(&self) -> u64 {
-        after(ABOVE + BELOW, self.rows, ROW)
+        after(ABOVE + BELOW, self.rows.count(), ROW)
     }
-}
-
-/// How far down the row of an entry is.
-pub(crate) fn row(position: u64) -> u64 {
-    after(ABOVE, position, ROW)
 }
 
 fn after(start: u64, count: u64, step: u64) -> u64 {
@@ -109,16 +137,27 @@ fn after(start: u64, count: u64, step: u64) -> u64 {
 }
 
 // The numbers of the parties, ascending, some of them several times.
-fn numbers(alloc: Global, config: &Config, trace: &[Entry]) -> Result<Vec<u16>, AllocError> {
+fn numbers(
+    alloc: Global,
+    run: Run<'_>,
+    rows: Rows,
+    arrows: &[Arrow],
+) -> Result<Vec<u16>, AllocError> {
     let mut numbers = Vec::new(alloc);
-    for replica in 0..config.replicas() {
-        numbers.push(u16::from(replica))?;
+    for (position, entry) in run.trace.iter().enumerate() {
+        if rows.has(position as u64) {
+            numbers.push(party(entry.kind()).number())?;
+        }
     }
-    for client in 0..config.clients() {
-        numbers.push(FIRST_CLIENT.saturating_add(client))?;
+    for arrow in arrows {
+        if let Some(party) = arrow.origin.party() {
+            numbers.push(party)?;
+        }
     }
-    for entry in trace {
-        numbers.push(party(entry.kind()).number())?;
+    for point in run.points {
+        if rows.has(point.position as u64) {
+            numbers.push(Party::Client(point.client).number())?;
+        }
     }
     numbers.sort()?;
     Ok(numbers)
@@ -137,7 +176,8 @@ pub(crate) fn party(kind: &EntryKind) -> Party {
     }
 }
 
-fn standing_of(config: &Config, number: u16) -> Standing {
+/// How a configuration has a party.
+pub(crate) fn standing_of(config: &Config, number: u16) -> Standing {
     if config.is_correct_replica(number) || config.is_correct_client(number) {
         Standing::Correct
     } else if is_configured(config, number) {
@@ -168,8 +208,8 @@ pub(crate) fn put_lanes(lanes: &Lanes, svg: &mut String) -> Result<(), NoMemory>
 fn put_tens(lanes: &Lanes, svg: &mut String) -> Result<(), NoMemory> {
     let right = lanes.width().saturating_sub(RIGHT - LANE);
     writeln!(svg, "<g class=\"tens\">")?;
-    for ten in 0..lanes.rows().div_ceil(10) {
-        let y = row(ten.saturating_mul(10));
+    for ten in 0..lanes.rows().count().div_ceil(10) {
+        let y = lanes.y(lanes.rows().first.saturating_add(ten.saturating_mul(10)));
         writeln!(svg, "<path d=\"M46 {y}H{right}\"/>")?;
     }
     Ok(writeln!(svg, "</g>")?)
@@ -180,8 +220,9 @@ fn put_lane(lanes: &Lanes, number: u16, svg: &mut String) -> Result<(), NoMemory
     let (x, class) = (lanes.x(number), class(lanes.standing(number)));
     let foot = lanes.height().saturating_sub(BELOW - 10);
     writeln!(svg, "<path class=\"{class}\" d=\"M{x} {HEADS}V{foot}\"/>")?;
-    for fifty in 1..lanes.rows().div_ceil(50) {
-        put_small_name(x, row(fifty.saturating_mul(50)), number, svg)?;
+    for fifty in 1..lanes.rows().count().div_ceil(50) {
+        let position = lanes.rows().first.saturating_add(fifty.saturating_mul(50));
+        put_small_name(x, lanes.y(position), number, svg)?;
     }
     put_name(x, HEADS, number, lanes.standing(number), svg)?;
     put_name(x, foot, number, lanes.standing(number), svg)

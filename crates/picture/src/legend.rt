@@ -20,7 +20,10 @@ svg{font:10px ui-monospace,Menlo,Consolas,'DejaVu Sans Mono',monospace;fill:#333
 .lanes .small{fill:#9aa1ac;font-size:9px;font-weight:normal}
 .arrows{stroke-width:1.2;opacity:.85}
 .fed{stroke-dasharray:4 3}
-.marks .fed{stroke:#4c5666;stroke-width:1.2}
+.before{stroke-dasharray:1 3;stroke-linecap:round}
+.marks .fed,.marks .before{stroke:#4c5666;stroke-width:1.2}
+.dropped{fill:none;stroke:#c2453f;stroke-width:1.8}
+.point{fill:#d99a00;stroke:#fff;stroke-width:.8}
 .at{fill:#9aa1ac;font-size:9px;text-anchor:end}
 .marks text{paint-order:stroke;stroke:#fff;stroke-width:3px;stroke-linejoin:round}
 .tick{fill:#fff;stroke:#8a919c;stroke-width:1.3}
@@ -76,7 +79,7 @@ pub(crate) fn put_legend(svg: &mut String) -> Result<(), NoMemory> {
     }
     writeln!(svg, "</g>\n<g class=\"names\">")?;
     for (place, kind) in KINDS.iter().enumerate() {
-        let (x, y, name) = (column(place) + 34, line(place) + 3, kind.name());
+        let (x, y, name) = (column(place) + 39, line(place) + 3, kind.name());
         writeln!(svg, "<text x=\"{x}\" y=\"{y}\">{name}</text>")?;
     }
     Ok(writeln!(svg, "</g>")?)

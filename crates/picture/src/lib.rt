@@ -19,17 +19,24 @@
 //! - Labels are cut, titles are trace lines, and both go through `escape`.
 #![tactic(auto)]
 
+mod acts;
 mod arrows;
 mod drawing;
 mod escaping;
+mod fault;
+mod judge;
 mod labels;
 mod lanes;
 mod laws;
 mod legend;
 mod marks;
 mod messages;
+mod run;
 mod shapes;
 
 pub use drawing::write_picture;
 pub use escaping::escape;
+pub use fault::PictureFault;
+pub use lanes::MAX_ROWS;
 pub use laws::escaped_is_plain;
+pub use run::Run;

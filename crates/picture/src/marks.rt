@@ -1,9 +1,12 @@
 //! The marks of a party's entries, on its lane.
 
 use crate::labels::{put_label, put_title};
-use crate::lanes::{Lanes, party, row};
+use crate::lanes::{Lanes, party};
 use crate::messages::{MessageKind, read_shown};
-use crate::shapes::{Spot, put_bar, put_check, put_circle, put_dashes, put_diamond, put_triangle};
+use crate::shapes::{
+    Spot, put_bar, put_check, put_circle, put_cross, put_dashes, put_diamond, put_dots, put_star,
+    put_triangle,
+};
 use events::{Entry, EntryKind};
 use std::alloc::Global;
 use std::fmt::Write;
@@ -16,7 +19,7 @@ const BETWEEN: usize = 20;
 
 const BEHIND: usize = 36;
 
-/// Draws the mark of each entry except deliveries, at which arrows end.
+/// Draws the mark of each entry in the rows, except deliveries, at which arrows end.
 pub(crate) fn put_marks(
     alloc: Global,
     lanes: &Lanes,
@@ -25,8 +28,9 @@ pub(crate) fn put_marks(
 ) -> Result<(), NoMemory> {
     writeln!(svg, "<g class=\"marks\">")?;
     for (position, entry) in trace.iter().enumerate() {
-        if !matches!(entry.kind(), EntryKind::Got(..)) {
-            put_mark(alloc, lanes, position as u64, entry, svg)?;
+        let position = position as u64;
+        if lanes.has_row(position) && !matches!(entry.kind(), EntryKind::Got(..)) {
+            put_mark(alloc, lanes, position, entry, svg)?;
         }
     }
     Ok(writeln!(svg, "</g>")?)
@@ -44,7 +48,7 @@ fn put_mark(
     let number = party(entry.kind()).number();
     let spot = Spot {
         x: lanes.x(number),
-        y: row(position),
+        y: lanes.y(position),
     };
     let most = if lanes.is_last(number) {
         BEHIND
@@ -156,44 +160,51 @@ fn put_note(
     Ok(write!(svg, "<text x=\"{x}\" y=\"{y}\">{word}{number}</text>")?)
 }
 
-/// Appends the meanings of the marks, in a line of the legend.
+/// Appends the meanings of the marks, in two lines of the legend.
 pub(crate) fn put_meanings(svg: &mut String) -> Result<(), NoMemory> {
     writeln!(svg, "<g class=\"marks\">")?;
     put_triangle(meaning(0), svg)?;
     put_check(meaning(1), svg)?;
-    put_circle("executed", 4, meaning(2), svg)?;
-    put_diamond(meaning(3), svg)?;
-    put_bar("view-change", 11, meaning(4), svg)?;
-    put_bar("new-view", 16, meaning(5), svg)?;
-    put_circle("tick", 3, meaning(6), svg)?;
-    put_dashes(meaning(7), svg)?;
+    put_star(meaning(2), svg)?;
+    put_circle("executed", 4, meaning(3), svg)?;
+    put_diamond(meaning(4), svg)?;
+    put_circle("tick", 3, meaning(5), svg)?;
+    put_bar("view-change", 11, meaning(6), svg)?;
+    put_bar("new-view", 16, meaning(7), svg)?;
+    put_dashes(meaning(8), svg)?;
+    put_dots(meaning(9), svg)?;
+    put_cross(meaning(10), svg)?;
     put_words(svg)?;
     Ok(writeln!(svg, "</g>")?)
 }
 
-const MEANINGS: [&str; 8] = [
+const MEANINGS: [&str; 11] = [
     "invoked",
     "accepted",
+    "point",
     "executed",
     "installed",
+    "tick",
     "view change",
     "new view",
-    "tick",
-    "no sending",
+    "not sent",
+    "sent above",
+    "dropped",
 ];
 
 fn put_words(svg: &mut String) -> Result<(), NoMemory> {
     for (place, word) in MEANINGS.iter().enumerate() {
         let Spot { x, y } = meaning(place as u64);
-        let (x, y) = (x.saturating_add(22), y.saturating_add(3));
+        let (x, y) = (x.saturating_add(26), y.saturating_add(3));
         write!(svg, "<text x=\"{x}\" y=\"{y}\">{word}</text>")?;
     }
     Ok(())
 }
 
+// Six stand in a line, below the kinds of messages.
 fn meaning(place: u64) -> Spot {
     Spot {
-        x: place.saturating_mul(112).saturating_add(61),
-        y: 58,
+        x: (place % 6).saturating_mul(140).saturating_add(61),
+        y: (place / 6).saturating_mul(18).saturating_add(60),
     }
 }

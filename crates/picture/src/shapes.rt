@@ -72,3 +72,27 @@ pub(crate) fn put_dashes(spot: Spot, svg: &mut String) -> Result<(), NoMemory> {
     let (left, y) = (spot.x.saturating_sub(10), spot.y);
     Ok(write!(svg, "<path class=\"fed\" d=\"M{left} {y}h28\"/>")?)
 }
+
+/// The line of an arrow from a sending above the rows.
+pub(crate) fn put_dots(spot: Spot, svg: &mut String) -> Result<(), NoMemory> {
+    let (left, y) = (spot.x.saturating_sub(10), spot.y);
+    Ok(write!(svg, "<path class=\"before\" d=\"M{left} {y}h28\"/>")?)
+}
+
+/// The end of an arrow that counts for nothing.
+pub(crate) fn put_cross(spot: Spot, svg: &mut String) -> Result<(), NoMemory> {
+    let (left, top) = (spot.x.saturating_sub(4), spot.y.saturating_sub(4));
+    Ok(write!(
+        svg,
+        "<path class=\"dropped\" d=\"M{left} {top}l8 8m0-8l-8 8\"/>"
+    )?)
+}
+
+/// A star of five points.
+pub(crate) fn put_star(spot: Spot, svg: &mut String) -> Result<(), NoMemory> {
+    let (x, top) = (spot.x, spot.y.saturating_sub(6));
+    Ok(write!(
+        svg,
+        "<path class=\"point\" d=\"M{x} {top}l1.8 3.9 4.2 .5-3.1 2.9.8 4.2-3.7-2.1-3.7 2.1.8-4.2-3.1-2.9 4.2-.5z\"/>"
+    )?)
+}

@@ -1,19 +1,34 @@
 //! Why no report was printed.
 
-use one_space::{Complaint, ReadFault};
-use std::alloc::{AllocError, AllocFailed};
+ghost use Rattle.std.specs.Prelude.{◌≡◌};
+ghost use Rattle.schedule_command.specs.Faults.{HasComplaint, IsPictureFault, status_of};
+
+use crate::allowed::NotAllowed;
+use config_text::ConfigFault;
+use one_space::{Complaint, ReadFault, complain};
+use picture::PictureFault;
+use schedule_text::Reason;
 use std::io;
 use terms::NoMemory;
 use thiserror::Error;
 
-/// Why no report was printed.
+/// Why no report was printed. What is shown of it stands on one line.
 #[derive(Debug, Drop, Error)]
 pub enum ScheduleFault {
-    #[error("the configuration is refused")]
-    Configuration,
-    /// The line of this number, from 1, is no step that may come there.
-    #[error("line {line} is refused")]
-    Step { line: u64 },
+    /// The text is no configuration.
+    #[error("{0}")]
+    Configuration(ConfigFault),
+    /// The line of this number, from 1, is no step, or one that may not come there.
+    #[error("{reason}")]
+    Step { line: u64, reason: StepReason },
+    /// The trace has no entry at the positions that the picture is to show.
+    #[error("the trace has {entries} entries, counted from 0, and none of them is to be drawn")]
+    NoEntry { entries: u64 },
+    /// The entries from the first one on are more than a picture has room for.
+    #[error("{entries} entries are too many for a picture; choose a part, as by --from {first} --to {last}")]
+    TooHigh { entries: u64, first: u64, last: u64 },
+    #[error("{parties} parties are too many for a picture; choose a part by --from and --to in which at most {most} take part")]
+    TooWide { parties: u64, most: u64 },
     #[error("out of memory")]
     NoMemory,
     #[error("not read: {0}")]
@@ -22,37 +37,84 @@ pub enum ScheduleFault {
     Write(io::Error),
 }
 
+/// Why a line is refused.
+#[derive(Clone, Copy, Debug, Error)]
+pub enum StepReason {
+    /// It is the text of no step, which its byte of this place, from 0, shows.
+    #[error("byte {byte}: {reason}")]
+    NoStep { byte: u64, reason: Reason },
+    /// Lines have no greater numbers.
+    #[error("there are too many lines")]
+    LastLine,
+    /// Its step may not come there.
+    #[error("{0}")]
+    NotAllowed(NotAllowed),
+}
+
 impl ScheduleFault {
-    /// The complaint about this fault of the file at this path.
-    pub fn complaint<'a>(&self, path: &'a str) -> Complaint<'a> {
+    /// The fault of a picture that begins at this position.
+    pub(crate) fn of_picture(fault: PictureFault, first: u64) -> ScheduleFault
+        ensures { IsPictureFault result }
+    {
+        match fault {
+            PictureFault::NoEntry { entries } => ScheduleFault::NoEntry { entries },
+            PictureFault::TooHigh { entries, most } => ScheduleFault::TooHigh {
+                entries,
+                first,
+                last: first.saturating_add(most).saturating_sub(1),
+            },
+            PictureFault::TooWide { parties, most } => ScheduleFault::TooWide { parties, most },
+            PictureFault::NoMemory => ScheduleFault::NoMemory,
+        }
+    }
+
+    /// The complaint about this fault of the file at this path. `None` if the words ask for what can't be drawn.
+    pub fn complaint<'a>(&self, path: &'a str) -> Option<Complaint<'a>>
+        ensures { HasComplaint self.now path.now result }
+    {
         match self {
-            ScheduleFault::Configuration => Complaint::Configuration,
-            ScheduleFault::Step { line } => Complaint::Step { line: *line },
-            ScheduleFault::Read(_) => Complaint::Unreadable { path },
-            ScheduleFault::NoMemory | ScheduleFault::Write(_) => Complaint::Stopped,
+            ScheduleFault::Configuration(_) => Some(Complaint::Configuration),
+            ScheduleFault::Step { line, .. } => Some(Complaint::Step { line: *line }),
+            ScheduleFault::NoEntry { .. }
+            | ScheduleFault::TooHigh { .. }
+            | ScheduleFault::TooWide { .. } => None,
+            ScheduleFault::Read(_) => Some(Complaint::Unreadable { path }),
+            ScheduleFault::NoMemory | ScheduleFault::Write(_) => Some(Complaint::Stopped),
         }
     }
 }
 
+/// Complains about the file at this path, and tells why on a line of its own. What can't be drawn is a mistake in the
+/// words. Returns the status of the program.
+pub fn end_schedule<R: Eprint>(rt: &R, fault: &ScheduleFault, path: &str) -> u8
+    ensures { result ≡ status_of fault.now }
+{
+    let Some(complaint) = fault.complaint(path) else {
+        let _ = eprintln!(rt; "error: {fault}");
+        return 2;
+    };
+    let status = complain(rt, complaint);
+    let _ = eprintln!(rt; "{fault}");
+    status
+}
+
 impl From<NoMemory> for ScheduleFault {
+    ghost use Rattle.std.specs.Prelude.{◌≡◌};
+    ghost use Rattle.schedule_command.specs.declared.fault.ScheduleFault.TheVariants.{NoMemory as no_memory};
+
+    ghost from_gives = { λ _ fault. fault ≡ no_memory };
+
     fn from(_failed: NoMemory) -> ScheduleFault {
         ScheduleFault::NoMemory
     }
 }
 
-impl From<AllocError> for ScheduleFault {
-    fn from(_failed: AllocError) -> ScheduleFault {
-        ScheduleFault::NoMemory
-    }
-}
-
-impl<T: Drop> From<AllocFailed<T>> for ScheduleFault {
-    fn from(_failed: AllocFailed<T>) -> ScheduleFault {
-        ScheduleFault::NoMemory
-    }
-}
-
 impl From<ReadFault> for ScheduleFault {
+    ghost use Rattle.std.specs.Prelude.{◌≡◌};
+    ghost use Rattle.schedule_command.specs.Faults.{fault_of_reader};
+
+    ghost from_gives = { λ read fault. fault ≡ fault_of_reader read };
+
     fn from(fault: ReadFault) -> ScheduleFault {
         match fault {
             ReadFault::NoMemory => ScheduleFault::NoMemory,

@@ -5,10 +5,15 @@
 //! own (`schedule_world`, `trace_text`, `picture`); how they are put together is tested (`command_tests`).
 #![tactic(auto)]
 
+mod allowed;
 mod fault;
+mod lines;
+mod reading;
 mod running;
 mod settings;
+mod writing;
 
-pub use fault::ScheduleFault;
+pub use allowed::NotAllowed;
+pub use fault::{ScheduleFault, StepReason, end_schedule};
 pub use running::schedule;
 pub use settings::read_settings;

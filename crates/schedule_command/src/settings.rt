@@ -1,34 +1,38 @@
 //! The configuration that a command names.
 
+ghost use Rattle.std.specs.Prelude.{◌≡◌, IfErr, IfSome};
+ghost use Rattle.schedule_command.specs.Settings.{IsReadFault, TellsSettings};
+
 use crate::fault::ScheduleFault;
-use config_text::{ConfigFault, Settings, read_config};
+use config_text::{ConfigFault, MAX_CONFIG, Settings, read_config};
 use std::alloc::Global;
 use std::io::{self, Read};
 
-// Most bytes of a configuration. Its values take under 4,000; the others are room for comments.
-const CONFIGURATION_LEN: u64 = 65_536;
-
-/// Reads a configuration, and how many entries a journal takes. A text that is too long is refused.
-pub fn read_settings<R: Read>(alloc: Global, reader: R) -> Result<Settings, ScheduleFault>
-where
-    R: Drop,
+/// Reads a configuration, and how many entries a journal takes. Of a text that is too long one byte more than may be is
+/// read.
+///
+/// # Errors
+///
+/// Why the reader gave no configuration: the text is none, it was not read, or memory ran out.
+pub fn read_settings<R: Read + Drop>(alloc: Global, reader: R) -> Result<Settings, ScheduleFault>
+    // The given settings are those that the text says, and a refused text says no configuration.
+    ensures { IfSome (R.remaining reader) (λ text. TellsSettings text result) }
 {
     let mut text = Vec::new(alloc);
-    let mut front = reader.take(CONFIGURATION_LEN + 1);
+    let mut front = reader.take(MAX_CONFIG as u64 + 1);
     if let Err(error) = front.read_to_end(&mut text) {
         return Err(read_fault(error));
     }
-    if text.len() as u64 > CONFIGURATION_LEN {
-        return Err(ScheduleFault::Configuration);
-    }
     match read_config(alloc, text.as_slice()) {
         Ok(settings) => Ok(settings),
-        Err(ConfigFault::Refused) => Err(ScheduleFault::Configuration),
         Err(ConfigFault::NoMemory) => Err(ScheduleFault::NoMemory),
+        Err(fault) => Err(ScheduleFault::Configuration(fault)),
     }
 }
 
-fn read_fault(error: io::Error) -> ScheduleFault {
+fn read_fault(error: io::Error) -> ScheduleFault
+    ensures { IsReadFault result }
+{
     if error.kind() == io::ErrorKind::OutOfMemory {
         ScheduleFault::NoMemory
     } else {

@@ -14,7 +14,7 @@ number_utf8 n word h = subst IsUtf8 (sym h.0) (IsUtf8-from_ascii (decimal n) (Is
 
 -- a reason to refuse Q is a reason to refuse P, if P implies Q
 pub because : (fault : StepFault) {P Q : Type 0} → (P → Q) → Because fault P → Because fault Q
-because Refused f h = f h
+because (Refused byte reason) f h = f h
 because NoMemory f h = tt
 
 heads : (a b : ℕ) (xs ys : List ℕ) → a ∷ xs ≡ b ∷ ys → a ≡ b

@@ -44,6 +44,21 @@ starts : (xs : List ℕ) → Starts (trimmed xs)
 starts [] = tt
 starts (b ∷ bs) = starts_case b bs (b == 32) refl (starts bs)
 
+trimmed_of : (xs : List ℕ) → Starts xs → trimmed xs ≡ xs
+trimmed_of [] h = refl
+trimmed_of (b ∷ bs) h = ap (λ s. cond s (trimmed bs) (b ∷ bs)) h
+
+pub trimmed_twice : (xs : List ℕ) → trimmed (trimmed xs) ≡ trimmed xs
+trimmed_twice xs = trimmed_of (trimmed xs) (starts xs)
+
+-- the first word is that of the line without the blanks in front
+pub first_of_trimmed : (line word rest : List ℕ) → IsFirstWord (trimmed line) word rest → IsFirstWord line word rest
+first_of_trimmed line word rest h = record {
+  some = h.some;
+  first = ap before_blank (sym (trimmed_twice line)) ∙ h.first;
+  behind = h.behind ∙ ap (λ t. trimmed (from_blank t)) (trimmed_twice line);
+}
+
 some_before : (xs : List ℕ) → Starts xs → xs ≢ [] → before_blank xs ≢ []
 some_before [] h k e = k refl
 some_before (b ∷ bs) h k e = let g : b ∷ before_blank bs ≡ [] = sym (ap (λ s. cond s [] (b ∷ before_blank bs)) h) ∙ e in cc

@@ -1,5 +1,5 @@
 -- Lines that are skipped, and lines that are none of a step.
-use Rattle.std.proofs.Common.{◌≡◌, ℕ, ◌==◌, Bool, true, false, cond, List, [], ◌∷◌, inl, inr, refl, ap, sym, subst, ◌∙◌}
+use Rattle.std.proofs.Common.{◌≡◌, ℕ, ◌<◌, ◌≤◌, length, arith, ◌==◌, Bool, true, false, cond, List, [], ◌∷◌, inl, inr, refl, ap, sym, subst, ◌∙◌}
 use Rattle.std.proofs.lemmas.Bool.{eq-eqb, eqb-true}
 use Rattle.tuple_text.specs.Texts.{AreBlanks}
 use Rattle.tuple_text.specs.Lines.{IsSkipped, IsComment}
@@ -8,10 +8,11 @@ use Rattle.schedule_text.specs.Words.{trimmed, before_blank}
 use Rattle.schedule_text.specs.Steps.{IsStepLine, Arguments}
 use Rattle.schedule_text.specs.Reading.{IsFirstWord, IsNamed, Because}
 use Rattle.schedule_text.specs.Judged.{IsNone, RefusesStep}
+use Rattle.schedule_text.specs.declared.lines.TheConstants.{MAX_STEP}
 use Rattle.schedule_text.specs.declared.fault.StepFault.{StepFault}
 use Rattle.schedule_text.specs.declared.fault.StepFault.TheVariants.{Refused, NoMemory}
 
-blanks_trimmed : (line : List ℕ) → AreBlanks line → trimmed line ≡ []
+pub blanks_trimmed : (line : List ℕ) → AreBlanks line → trimmed line ≡ []
 blanks_trimmed [] h = refl
 blanks_trimmed (b ∷ bs) h = ap (λ s. cond s (trimmed bs) (b ∷ bs)) (eq-eqb b 32 h.0) ∙ blanks_trimmed bs h.1
 
@@ -44,5 +45,25 @@ is_none line word rest first plain none = (
 -- a reason to refuse the words after the name is one to refuse the line
 pub refuses : (line word rest : List ℕ) → IsFirstWord line word rest → (IsComment line → ⊥) → (fault : StepFault)
     → Because fault ((step : schedules.Step) → IsNamed word rest step → ⊥) → RefusesStep fault line
-refuses line word rest first plain Refused h = is_none line word rest first plain h
+refuses line word rest first plain (Refused byte reason) h = is_none line word rest first plain h
 refuses line word rest first plain NoMemory h = tt
+
+-- A line that is too long is none.
+pub too_long : (line : List ℕ) → (IsComment line → ⊥) → MAX_STEP < length (trimmed line) → IsNone line
+too_long line plain long = (unskipped, λ step h. omega (arith, h.size, long))
+  where
+    unskipped : IsSkipped line → ⊥
+    unskipped (inl blanks) = let none : length (trimmed line) ≡ 0 = ap length (blanks_trimmed line blanks) in omega (arith, none, long)
+    unskipped (inr comment) = plain comment
+
+pub not_blank : (line : List ℕ) → (IsComment line → ⊥) → MAX_STEP < length (trimmed line) → IsSkipped line → ⊥
+not_blank line plain long skipped = (too_long line plain long).0 skipped
+
+-- the step of the words after the name is that of the line
+pub reads : (line word rest : List ℕ) (step : schedules.Step) → IsFirstWord line word rest → length (trimmed line) ≤ MAX_STEP → IsNamed word rest step → IsStepLine step line
+reads line word rest step first short h = record {
+  named = first.first ∙ sym h.named;
+  arguments = subst (Arguments step) first.behind h.arguments;
+  range = h.range;
+  size = short;
+}

@@ -17,7 +17,7 @@ abbrev pub IsNone : List ℕ → Type 0
 IsNone line = (IsSkipped line → ⊥) × ((step : schedules.Step) → IsStepLine step line → ⊥)
 
 abbrev pub RefusesStep : StepFault → List ℕ → Type 0
-RefusesStep Refused line = IsNone line
+RefusesStep (Refused byte reason) line = IsNone line
 RefusesStep NoMemory line = Unit {0}
 
 abbrev pub JudgesStepLine : List ℕ → Result (Option Step) StepFault → Type 0

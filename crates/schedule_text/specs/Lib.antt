@@ -1,4 +1,3 @@
-pub mod Faults
 pub mod Judged
 pub mod Reading
 pub mod StepView

@@ -1,5 +1,5 @@
 -- The results of reading words of a line, for the contracts of private functions.
-use Rattle.std.specs.Prelude.{◌≡◌, ◌≢◌, ℕ, List, [], Result, MatchResult, All}
+use Rattle.std.specs.Prelude.{◌≡◌, ◌≢◌, ℕ, List, [], Option, MatchOption, Result, MatchResult, All}
 use Rattle.std.specs.Fmt.{decimal}
 use Rattle.terms.specs.Parties.{client_party}
 use Rattle.protocol.specs.System.Schedule as schedules
@@ -25,10 +25,14 @@ PartiesText ps word = (ps ≢ []) × (word ≡ parties_text ps) × All IsPartyNu
 
 -- a refusal says why, unless memory ran out
 abbrev pub Because : StepFault → Type 0 → Type 0
-Because Refused why = why
+Because (Refused byte reason) why = why
 Because NoMemory why = Unit {0}
 
 -- The text is that of the value, or of no value.
+abbrev pub FindsValue : {V S : Type 0} → (V → S) → (S → List ℕ → Type 0) → List ℕ → Option V → Type 0
+FindsValue view IsText text found = MatchOption found ((s : _) → IsText s text → ⊥) (λ v. IsText (view v) text)
+
+-- The same, unless memory ran out.
 abbrev pub JudgesWord : {V S : Type 0} → (V → S) → (S → List ℕ → Type 0) → List ℕ → Result V StepFault → Type 0
 JudgesWord view IsText text result =
     MatchResult result (λ v. IsText (view v) text) (λ fault. Because fault ((s : _) → IsText s text → ⊥))

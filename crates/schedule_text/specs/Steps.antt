@@ -1,6 +1,6 @@
 -- The lines of a schedule. A step is a name and its arguments, words with one or more blanks between them and blanks
 -- at both ends; the last argument of a call is the line of an operation.
-use Rattle.std.specs.Prelude.{◌≡◌, ℕ, ◌^◌, ◌<◌, nat_lt, if◌then◌else◌, List, [], ◌∷◌, ◌++◌, codes, Ok, All}
+use Rattle.std.specs.Prelude.{◌≡◌, ℕ, ◌^◌, ◌<◌, ◌≤◌, length, nat_lt, if◌then◌else◌, List, [], ◌∷◌, ◌++◌, codes, Ok, All}
 use Rattle.std.specs.Fmt.{decimal}
 use Rattle.terms.specs.declared.parties.TheConstants.{FIRST_CLIENT}
 use Rattle.terms.specs.Parties.{client_number, client_party}
@@ -8,7 +8,8 @@ use Rattle.hex.specs.Hex.{decode_of}
 use Rattle.tuple_text.specs.Lines.{IsLine}
 use Rattle.protocol.specs.System.Schedule.{Step}
 use Rattle.protocol.specs.System.Schedule.Step.{calls, deliver, feed, seal, sign, ticks, flush}
-use Rattle.schedule_text.specs.Words.{first_word, after_word, HasWords}
+use Rattle.schedule_text.specs.declared.lines.TheConstants.{MAX_STEP}
+use Rattle.schedule_text.specs.Words.{trimmed, first_word, after_word, HasWords}
 
 -- replica 0 stands as r0, client 0 as c0
 abbrev pub party_text : ℕ → List ℕ
@@ -67,8 +68,10 @@ HasRange (sign replica leaf receivers body) = IsPartyNumber replica × IsWord le
 HasRange (ticks party) = IsPartyNumber party
 HasRange flush = Unit {0}
 
--- the line is the text of the step
+-- The line is the text of the step. From its first word on it has at most as many bytes as one that brings a frame of
+-- the greatest length.
 pub record IsStepLine (step : Step) (line : List ℕ) : Type 0 where
   pub named : first_word line ≡ step_name step
   pub arguments : Arguments step (after_word line)
   pub range : HasRange step
+  pub size : length (trimmed line) ≤ MAX_STEP

@@ -12,6 +12,6 @@ mod lines;
 mod step;
 mod words;
 
-pub use fault::StepFault;
-pub use lines::read_step;
+pub use fault::{Argument, Reason, StepFault};
+pub use lines::{MAX_STEP, read_step};
 pub use step::Step;

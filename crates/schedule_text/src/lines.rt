@@ -6,20 +6,25 @@ ghost use Rattle.tuple_text.specs.Lines.{IsLine, IsSkipped, IsComment};
 ghost use Rattle.schedule_text.specs.Judged.{JudgesStepLine};
 ghost use Rattle.schedule_text.specs.Reading.{JudgesNamed, JudgesWord};
 
-use crate::fault::StepFault;
+use crate::fault::{Argument, Reason, StepFault};
 use crate::step::Step;
-use crate::words::Words;
+use crate::words::{Word, Words};
 use std::alloc::Global;
-use terms::ClientId;
 use tuple_codec::Op;
-use tuple_text::read_line;
+use tuple_text::{LineFault, read_line};
+use wire_format::MAX_FRAME;
+
+/// Most bytes of a step's line, from its first word on: those of `bytes c65279 HEX`, where HEX is a frame of the
+/// greatest length. Each other step that brings or makes a frame has a shorter line, if one blank stands before each
+/// argument.
+pub const MAX_STEP: usize = "bytes c65279 ".len() + 2 * MAX_FRAME;
 
 /// The step of a line, which comes without its line end. `None` if the line is empty, of blanks alone, or begins with
 /// a hash.
 ///
 /// # Errors
 ///
-/// Refused if the line is the text of no step, and NoMemory if memory runs out.
+/// Refused if the line is the text of no step, with the byte and the reason, and NoMemory if memory runs out.
 pub fn read_step(alloc: Global, line: &[u8]) -> Result<Option<Step>, StepFault>
     // The given step is that of the line, and a refused line is the text of no step.
     ensures answer { JudgesStepLine line.now result }
@@ -29,6 +34,12 @@ pub fn read_step(alloc: Global, line: &[u8]) -> Result<Option<Step>, StepFault>
         return Ok(None);
     }
     let mut words = Words::new(line);
+    if words.rest().len() > MAX_STEP {
+        return Err(StepFault::Refused {
+            byte: words.byte(),
+            reason: Reason::TooLong,
+        });
+    }
     match words.next() {
         None => Ok(None),
         Some(name) => Ok(Some(read_named(alloc, name, words)?)),
@@ -48,25 +59,28 @@ fn is_word(word: &[u8], name: &[u8]) -> bool
 }
 
 // The step of this name, from the words after it.
-fn read_named(alloc: Global, name: &[u8], words: Words<'_>) -> Result<Step, StepFault>
-    ensures { JudgesNamed name.now words.entry.rest.now result }
+fn read_named(alloc: Global, name: Word<'_>, words: Words<'_>) -> Result<Step, StepFault>
+    ensures { JudgesNamed name.entry.text.now words.entry.rest.now result }
 {
-    if is_word(name, b"invoke") {
+    if is_word(name.text, b"invoke") {
         read_invoke(alloc, words)
-    } else if is_word(name, b"deliver") {
+    } else if is_word(name.text, b"deliver") {
         read_deliver(words)
-    } else if is_word(name, b"bytes") {
+    } else if is_word(name.text, b"bytes") {
         read_feed(alloc, words)
-    } else if is_word(name, b"seal") {
+    } else if is_word(name.text, b"seal") {
         read_seal(alloc, words)
-    } else if is_word(name, b"sign") {
+    } else if is_word(name.text, b"sign") {
         read_sign(alloc, words)
-    } else if is_word(name, b"tick") {
+    } else if is_word(name.text, b"tick") {
         read_tick(words)
-    } else if is_word(name, b"flush") {
+    } else if is_word(name.text, b"flush") {
         read_flush(words)
     } else {
-        Err(StepFault::Refused)
+        Err(StepFault::Refused {
+            byte: name.byte,
+            reason: Reason::UnknownName,
+        })
     }
 }
 
@@ -75,23 +89,32 @@ fn read_invoke(alloc: Global, mut words: Words<'_>) -> Result<Step, StepFault>
     ensures { JudgesNamed (codes "invoke") words.entry.rest.now result }
 {
     let client = words.client()?;
-    let op = read_op(alloc, words.rest())?;
+    let op = read_op(alloc, words.rest(), words.byte())?;
     Ok(Step::Invoke { client, op })
 }
 
-fn read_op(alloc: Global, line: &[u8]) -> Result<Op<Global>, StepFault>
+// The operation of this line, whose first byte is at this place of the step's.
+fn read_op(alloc: Global, line: &[u8], byte: usize) -> Result<Op<Global>, StepFault>
     ensures { JudgesWord operation_of (λ op text. IsLine op text) line.now result }
 {
-    match read_line(alloc, line)? {
-        Some(op) => Ok(op),
-        None => Err(StepFault::Refused),
+    match read_line(alloc, line) {
+        Ok(Some(op)) => Ok(op),
+        Ok(None) => Err(StepFault::Refused {
+            byte,
+            reason: Reason::Missing(Argument::Line),
+        }),
+        Err(LineFault::NoMemory) => Err(StepFault::NoMemory),
+        Err(fault) => Err(StepFault::Refused {
+            byte,
+            reason: Reason::Operation(fault),
+        }),
     }
 }
 
 fn read_deliver(mut words: Words<'_>) -> Result<Step, StepFault>
     ensures { JudgesNamed (codes "deliver") words.entry.rest.now result }
 {
-    let frame = words.number()?;
+    let frame = words.number(Argument::Frame)?;
     let party = words.party()?;
     words.end()?;
     Ok(Step::Deliver { frame, party })
@@ -124,7 +147,7 @@ fn read_sign(alloc: Global, mut words: Words<'_>) -> Result<Step, StepFault>
     ensures { JudgesNamed (codes "sign") words.entry.rest.now result }
 {
     let signer = words.party()?;
-    let leaf = words.number()?;
+    let leaf = words.number(Argument::Leaf)?;
     let receivers = words.parties(alloc)?;
     let body = words.bytes(alloc)?;
     words.end()?;

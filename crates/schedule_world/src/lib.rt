@@ -37,6 +37,7 @@ mod stage;
 
 pub use laws::first_frame_may_come;
 pub use points::Point;
+pub use receivers::{is_correct, is_party, is_replica};
 pub use report::{Acceptance, Report};
 pub use running::{RunFault, run};
 pub use stage::Parties;

@@ -14,7 +14,7 @@ use terms::{FIRST_CLIENT, NoMemory, Party};
 use wire::MAX_RECEIVERS;
 
 /// Whether the configuration has the party.
-pub(crate) fn is_party(config: &Config, party: Party) -> bool
+pub fn is_party(config: &Config, party: Party) -> bool
     ensures { result ≡ is_party config.now (party_number party) }
 {
     let number = party.number();
@@ -23,14 +23,14 @@ pub(crate) fn is_party(config: &Config, party: Party) -> bool
 }
 
 /// Whether the party is a replica of the configuration.
-pub(crate) fn is_replica(config: &Config, party: Party) -> bool
+pub fn is_replica(config: &Config, party: Party) -> bool
     ensures { result ≡ is_replica config.now (party_number party) }
 {
     party.number() < u16::from(config.replicas())
 }
 
 /// Whether the configuration has the party and doesn't name it as faulty.
-pub(crate) fn is_correct(config: &Config, party: Party) -> bool
+pub fn is_correct(config: &Config, party: Party) -> bool
     ensures { result ≡ is_correct config.now (party_number party) }
 {
     config.is_correct_replica(party.number()) || config.is_correct_client(party.number())

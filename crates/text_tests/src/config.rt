@@ -1,7 +1,7 @@
 //! Texts that are configurations, and texts that are none.
 
 use config_text::{ConfigFault, Settings, read_config};
-use std::alloc::Global;
+use std::alloc::{AllocError, Global};
 use std::test::Fail;
 
 const SEED: &str = "seed = \"000102030405060708090a0b0c0d0e0f101112131415161718191A1B1C1D1E1F\"\n";
@@ -57,78 +57,238 @@ static ROWS: [Row; 4] = [
     },
 ];
 
-// Texts before a right seed.
-static REFUSED: [&str; 55] = [
-    "",
-    "f = 1\n",
-    "clients = 1\n",
-    "f = 0\nclients = 1\n",
-    "f = 4\nclients = 1\n",
-    "f = -1\nclients = 1\n",
-    "f = 257\nclients = 1\n",
-    "f = 4294967297\nclients = 1\n",
-    "f = 1.0\nclients = 1\n",
-    "f = \"1\"\nclients = 1\n",
-    "f = true\nclients = 1\n",
-    "f = [1]\nclients = 1\n",
-    "f = 1\nclients = 0\n",
-    "f = 1\nclients = 257\n",
-    "f = 1\nclients = 65537\n",
-    "f = 1\nclients = 1\ncheckpoint = 0\n",
-    "f = 1\nclients = 1\ncheckpoint = 17\n",
-    "f = 1\nclients = 1\njournal = 0\n",
-    "f = 1\nclients = 1\njournal = 65537\n",
-    "f = 1\nclients = 1\nfaulty_replicas = [0, 1]\n",
-    "f = 1\nclients = 1\nfaulty_replicas = [4]\n",
-    "f = 1\nclients = 2\nfaulty_clients = [0, 0]\n",
-    "f = 1\nclients = 1\nfaulty_clients = 0\n",
-    "f = 1\nclients = 1\nF = 1\n",
-    "f = 1\nf = 1\nclients = 1\n",
-    "f = 1\nclients = 1e2\n",
-    "f = 1\nclients = 2024-01-01\n",
-    "f = { a = 1 }\nclients = 1\n",
-    "f.a = 1\nclients = 1\n",
-    "f = 1\nclients = \n",
-    "f = 01\nclients = 1\n",
-    "f = 1\nclients = 1\ncheckpoint = \"1\"\n",
-    "f = 1\nclients = 1\ncheckpoint = -1\n",
-    "f = 1\nclients = 1\ncheckpoint = 272\n",
-    "f = 1\nclients = 1\njournal = \"1\"\n",
-    "f = 1\nclients = 1\njournal = -1\n",
-    "f = 1\nclients = 1\njournal = 4294967297\n",
-    "f = 1\nclients = 1\njournal = [1]\n",
-    "f = 1\nclients = 1\nfaulty_replicas = 0\n",
-    "f = 1\nclients = 1\nfaulty_replicas = [true]\n",
-    "f = 1\nclients = 1\nfaulty_replicas = [\"0\"]\n",
-    "f = 1\nclients = 1\nfaulty_replicas = [-1]\n",
-    "f = 1\nclients = 1\nfaulty_replicas = [65536]\n",
-    "f = 1\nclients = 1\nfaulty_replicas = [[0]]\n",
-    "f = 2\nclients = 1\nfaulty_replicas = [1, 1]\n",
-    "f = 1\nclients = 1\nfaulty_clients = [1]\n",
-    "f = 1\nclients = 1\nfaulty_clients = [-1]\n",
-    "f = 1\nclients = 1\nfaulty_clients = [256]\n",
-    "f = 1\nclients = 1\nfaulty_clients = [0.0]\n",
-    "f = 1\nclients = 1\nfaulty_clients = {}\n",
-    "f = 1\nclients = 1\nkey = 1\n",
-    "f = 1\nclients = 1\n\"\" = 1\n",
-    "f = 1\nclients = 1\ncheckpoints = 1\n",
-    "f = 1\nclients = 1\ncheck = 1\n",
-    "f = 1\nclients = 1\n[more]\n",
+// Texts before a right seed, and how the reason begins.
+static REFUSED: [(&str, &str); 56] = [
+    ("", "`f` is missing"),
+    ("f = 1\n", "`clients` is missing"),
+    ("clients = 1\n", "`f` is missing"),
+    (
+        "f = 0\nclients = 1\n",
+        "`f` is 0, and has to be from 1 to 3",
+    ),
+    (
+        "f = 4\nclients = 1\n",
+        "`f` is 4, and has to be from 1 to 3",
+    ),
+    (
+        "f = -1\nclients = 1\n",
+        "`f` is -1, and has to be from 1 to 3",
+    ),
+    (
+        "f = 257\nclients = 1\n",
+        "`f` is 257, and has to be from 1 to 3",
+    ),
+    (
+        "f = 4294967297\nclients = 1\n",
+        "`f` is 4294967297, and has to be from 1 to 3",
+    ),
+    ("f = 1.0\nclients = 1\n", "`f` is no whole number"),
+    ("f = \"1\"\nclients = 1\n", "`f` is no whole number"),
+    ("f = true\nclients = 1\n", "`f` is no whole number"),
+    ("f = [1]\nclients = 1\n", "`f` is no whole number"),
+    (
+        "f = 1\nclients = 0\n",
+        "`clients` is 0, and has to be from 1 to 256",
+    ),
+    (
+        "f = 1\nclients = 257\n",
+        "`clients` is 257, and has to be from 1 to 256",
+    ),
+    (
+        "f = 1\nclients = 65537\n",
+        "`clients` is 65537, and has to be from 1 to 256",
+    ),
+    (
+        "f = 1\nclients = 1\ncheckpoint = 0\n",
+        "`checkpoint` is 0, and has to be from 1 to 16",
+    ),
+    (
+        "f = 1\nclients = 1\ncheckpoint = 17\n",
+        "`checkpoint` is 17, and has to be from 1 to 16",
+    ),
+    (
+        "f = 1\nclients = 1\njournal = 0\n",
+        "`journal` is 0, and has to be from 1 to 65536",
+    ),
+    (
+        "f = 1\nclients = 1\njournal = 65537\n",
+        "`journal` is 65537, and has to be from 1 to 65536",
+    ),
+    (
+        "f = 1\nclients = 1\nfaulty_replicas = [0, 1]\n",
+        "`faulty_replicas` names 2 replicas, and `f` is 1",
+    ),
+    (
+        "f = 1\nclients = 1\nfaulty_replicas = [4]\n",
+        "`faulty_replicas` names 4, and the numbers are below 4",
+    ),
+    (
+        "f = 1\nclients = 2\nfaulty_clients = [0, 0]\n",
+        "`faulty_clients` names 0 twice",
+    ),
+    (
+        "f = 1\nclients = 1\nfaulty_clients = 0\n",
+        "`faulty_clients` is no array of whole numbers",
+    ),
+    (
+        "f = 1\nclients = 1\nF = 1\n",
+        "`F` is no key of a configuration",
+    ),
+    (
+        "f = 1\nf = 1\nclients = 1\n",
+        "line 2, column 1: duplicate key",
+    ),
+    ("f = 1\nclients = 1e2\n", "`clients` is no whole number"),
+    (
+        "f = 1\nclients = 2024-01-01\n",
+        "`clients` is no whole number",
+    ),
+    ("f = { a = 1 }\nclients = 1\n", "`f` is no whole number"),
+    ("f.a = 1\nclients = 1\n", "`f` is no whole number"),
+    ("f = 1\nclients = \n", "line 2, column 11: "),
+    ("f = 01\nclients = 1\n", "line 1, column 5: "),
+    (
+        "f = 1\nclients = 1\ncheckpoint = \"1\"\n",
+        "`checkpoint` is no whole number",
+    ),
+    (
+        "f = 1\nclients = 1\ncheckpoint = -1\n",
+        "`checkpoint` is -1, and has to be from 1 to 16",
+    ),
+    (
+        "f = 1\nclients = 1\ncheckpoint = 272\n",
+        "`checkpoint` is 272, and has to be from 1 to 16",
+    ),
+    (
+        "f = 1\nclients = 1\njournal = \"1\"\n",
+        "`journal` is no whole number",
+    ),
+    (
+        "f = 1\nclients = 1\njournal = -1\n",
+        "`journal` is -1, and has to be from 1 to 65536",
+    ),
+    (
+        "f = 1\nclients = 1\njournal = 4294967297\n",
+        "`journal` is 4294967297, and has to be from 1 to 65536",
+    ),
+    (
+        "f = 1\nclients = 1\njournal = [1]\n",
+        "`journal` is no whole number",
+    ),
+    (
+        "f = 1\nclients = 1\nfaulty_replicas = 0\n",
+        "`faulty_replicas` is no array of whole numbers",
+    ),
+    (
+        "f = 1\nclients = 1\nfaulty_replicas = [true]\n",
+        "`faulty_replicas` is no array of whole numbers",
+    ),
+    (
+        "f = 1\nclients = 1\nfaulty_replicas = [\"0\"]\n",
+        "`faulty_replicas` is no array of whole numbers",
+    ),
+    (
+        "f = 1\nclients = 1\nfaulty_replicas = [-1]\n",
+        "`faulty_replicas` names -1, and the numbers are below 4",
+    ),
+    (
+        "f = 1\nclients = 1\nfaulty_replicas = [65536]\n",
+        "`faulty_replicas` names 65536, and the numbers are below 4",
+    ),
+    (
+        "f = 1\nclients = 1\nfaulty_replicas = [[0]]\n",
+        "`faulty_replicas` is no array of whole numbers",
+    ),
+    (
+        "f = 2\nclients = 1\nfaulty_replicas = [1, 1]\n",
+        "`faulty_replicas` names 1 twice",
+    ),
+    (
+        "f = 1\nclients = 1\nfaulty_clients = [1]\n",
+        "`faulty_clients` names 1, and the numbers are below 1",
+    ),
+    (
+        "f = 1\nclients = 1\nfaulty_clients = [-1]\n",
+        "`faulty_clients` names -1, and the numbers are below 1",
+    ),
+    (
+        "f = 1\nclients = 1\nfaulty_clients = [256]\n",
+        "`faulty_clients` names 256, and the numbers are below 1",
+    ),
+    (
+        "f = 1\nclients = 1\nfaulty_clients = [0.0]\n",
+        "`faulty_clients` is no array of whole numbers",
+    ),
+    (
+        "f = 1\nclients = 1\nfaulty_clients = {}\n",
+        "`faulty_clients` is no array of whole numbers",
+    ),
+    (
+        "f = 1\nclients = 1\nkey = 1\n",
+        "`key` is no key of a configuration",
+    ),
+    (
+        "f = 1\nclients = 1\n\"\" = 1\n",
+        "`` is no key of a configuration",
+    ),
+    (
+        "f = 1\nclients = 1\n\"\\u001b[2J\\u009b\" = 1\n",
+        "`\\u{1b}[2J\\u{9b}` is no key of a configuration",
+    ),
+    (
+        "f = 1\nclients = 1\ncheckpoints = 1\n",
+        "`checkpoints` is no key of a configuration",
+    ),
+    (
+        "f = 1\nclients = 1\ncheck = 1\n",
+        "`check` is no key of a configuration",
+    ),
+    (
+        "f = 1\nclients = 1\n[more]\n",
+        "`more` is no key of a configuration",
+    ),
 ];
 
-// Whole texts, with seeds that are none.
-static REFUSED_SEEDS: [&str; 11] = [
-    "f = 1\nclients = 1\n",
-    "f = 1\nclients = 1\nseed = 0\n",
-    "f = 1\nclients = 1\nseed = \"\"\n",
-    "f = 1\nclients = 1\nseed = \"00010203040506070809\"\n",
-    "f = 1\nclients = 1\nseed = \"000102030405060708090a0b0c0d0e0f101112131415161718191A1B1C1D1E1g\"\n",
-    "f = 1\nclients = 1\nseed = \"000000000000000000000000000000000000000000000000000000000000000\"\n",
-    "f = 1\nclients = 1\nseed = \"00000000000000000000000000000000000000000000000000000000000000000\"\n",
-    "f = 1\nclients = 1\nseed = \"000000000000000000000000000000000000000000000000000000000000000000\"\n",
-    "f = 1\nclients = 1\nseed = [\"0000000000000000000000000000000000000000000000000000000000000000\"]\n",
-    "f = 1\nclients = 1\nseed = \"x000000000000000000000000000000000000000000000000000000000000000\"\n",
-    "f = 1\nclients = 1\nseed = \" 0000000000000000000000000000000000000000000000000000000000000000\"\n",
+// The same behind two right values, with what is no seed.
+static REFUSED_SEEDS: [(&str, &str); 11] = [
+    ("f = 1\nclients = 1\n", "`seed` is missing"),
+    ("f = 1\nclients = 1\nseed = 0\n", "`seed` is no string"),
+    (
+        "f = 1\nclients = 1\nseed = \"\"\n",
+        "`seed` has 0 digits, and has to have 64",
+    ),
+    (
+        "f = 1\nclients = 1\nseed = \"00010203040506070809\"\n",
+        "`seed` has 20 digits, and has to have 64",
+    ),
+    (
+        "f = 1\nclients = 1\nseed = \"000102030405060708090a0b0c0d0e0f101112131415161718191A1B1C1D1E1g\"\n",
+        "`seed` has no hexadecimal digit at place 63, counted from 0",
+    ),
+    (
+        "f = 1\nclients = 1\nseed = \"000000000000000000000000000000000000000000000000000000000000000\"\n",
+        "`seed` has 63 digits, and has to have 64",
+    ),
+    (
+        "f = 1\nclients = 1\nseed = \"00000000000000000000000000000000000000000000000000000000000000000\"\n",
+        "`seed` has 65 digits, and has to have 64",
+    ),
+    (
+        "f = 1\nclients = 1\nseed = \"000000000000000000000000000000000000000000000000000000000000000000\"\n",
+        "`seed` has 66 digits, and has to have 64",
+    ),
+    (
+        "f = 1\nclients = 1\nseed = [\"0000000000000000000000000000000000000000000000000000000000000000\"]\n",
+        "`seed` is no string",
+    ),
+    (
+        "f = 1\nclients = 1\nseed = \"x000000000000000000000000000000000000000000000000000000000000000\"\n",
+        "`seed` has no hexadecimal digit at place 0, counted from 0",
+    ),
+    (
+        "f = 1\nclients = 1\nseed = \" 0000000000000000000000000000000000000000000000000000000000000000\"\n",
+        "`seed` has 65 digits, and has to have 64",
+    ),
 ];
 
 fn is_as_said(alloc: Global, row: Row) -> Result<bool, Fail> {
@@ -155,33 +315,22 @@ fn has_seed(settings: &Settings) -> bool {
         .all(|(i, byte)| usize::from(*byte) == i)
 }
 
-// Whether these bytes are refused. Out of memory is no answer, and is handed on.
-fn are_refused(alloc: Global, text: &[u8]) -> Result<bool, ConfigFault> {
+// Whether these bytes are refused for this reason, or one that begins so. Out of memory is no answer, and is handed on.
+fn are_refused(alloc: Global, text: &[u8], reason: &str) -> Result<bool, Fail> {
     match read_config(alloc, text) {
         Ok(_) => Ok(false),
-        Err(ConfigFault::Refused) => Ok(true),
-        Err(ConfigFault::NoMemory) => Err(ConfigFault::NoMemory),
-    }
-}
-
-// Whether the two together are no configuration.
-fn is_none(alloc: Global, front: &str, seed: &str) -> Result<bool, ConfigFault> {
-    let text = format!(in alloc; "{front}{seed}")?;
-    are_refused(alloc, text.as_bytes())
-}
-
-// The first of these texts that is a configuration together with this seed.
-fn first_taken(
-    alloc: Global,
-    fronts: &[&'static str],
-    seed: &str,
-) -> Result<Option<&'static str>, ConfigFault> {
-    for front in fronts {
-        if !is_none(alloc, front, seed)? {
-            return Ok(Some(*front));
+        Err(ConfigFault::NoMemory) => Err(Fail::from(AllocError)),
+        Err(fault) => {
+            let told = format!(in alloc; "{fault}")?;
+            Ok(told.as_str().starts_with(reason))
         }
     }
-    Ok(None)
+}
+
+// Whether the two together are refused so.
+fn is_none(alloc: Global, front: &str, seed: &str, reason: &str) -> Result<bool, Fail> {
+    let text = format!(in alloc; "{front}{seed}")?;
+    are_refused(alloc, text.as_bytes(), reason)
 }
 
 // The last byte is no UTF-8.
@@ -196,26 +345,59 @@ fn reads_configurations(rt: HostRuntime) -> Result<(), Fail> {
     Ok(())
 }
 
-// The first of all texts here that are none that is a configuration.
-fn first_that_is_some(alloc: Global) -> Result<Option<&'static str>, ConfigFault> {
-    let seed_first = [SEED];
-    let groups: [(&[&'static str], &str); 3] = [
-        (&REFUSED, SEED),
-        (&REFUSED_SEEDS, ""),
-        (&seed_first, "f = 1\nclients = 1\n\u{1}\n"),
-    ];
-    for (fronts, seed) in groups {
-        if let Some(text) = first_taken(alloc, fronts, seed)? {
-            return Ok(Some(text));
-        }
+#[test]
+fn refuses_what_is_none(rt: HostRuntime) -> Result<(), Fail> {
+    for &(text, reason) in &REFUSED {
+        assert!(rt; is_none(rt.alloc(), text, SEED, reason)?, "{text}");
     }
-    Ok(None)
+    for &(text, reason) in &REFUSED_SEEDS {
+        assert!(rt; is_none(rt.alloc(), text, "", reason)?, "{text}");
+    }
+    Ok(())
+}
+
+// Places are told by lines and characters.
+#[test]
+fn refuses_what_is_no_toml(rt: HostRuntime) -> Result<(), Fail> {
+    let alloc = rt.alloc();
+    assert!(rt; are_refused(alloc, NO_UTF8, "line 4, column 3: invalid UTF-8")?);
+    assert!(rt;
+        are_refused(
+            alloc,
+            "f = 1\n# ä\näf = 1\n".as_bytes(),
+            "line 3, column 1: "
+        )?
+    );
+    assert!(rt;
+        are_refused(
+            alloc,
+            "# äöü\nf = \"äöü\" 1\n".as_bytes(),
+            "line 2, column 11: "
+        )?
+    );
+    Ok(())
+}
+
+// So many line feeds behind a configuration.
+fn padded(alloc: Global, len: usize) -> Result<Vec<u8>, Fail> {
+    let mut text = Vec::from_slice(alloc, WHOLE)?;
+    text.resize(len, b'\n')?;
+    Ok(text)
 }
 
 #[test]
-fn refuses_what_is_none(rt: HostRuntime) -> Result<(), Fail> {
-    assert_eq!(rt; first_that_is_some(rt.alloc())?, None);
-    assert!(rt; are_refused(rt.alloc(), NO_UTF8)?);
+fn refuses_what_is_too_long(rt: HostRuntime) -> Result<(), Fail> {
+    let alloc = rt.alloc();
+    let text = padded(alloc, 65_536)?;
+    assert!(rt; read_config(alloc, text.as_slice()).is_ok());
+    let text = padded(alloc, 65_537)?;
+    assert!(rt;
+        are_refused(
+            alloc,
+            text.as_slice(),
+            "the configuration has more than 65536 bytes"
+        )?
+    );
     Ok(())
 }
 
@@ -252,7 +434,7 @@ fn refused_memory(rt: HostRuntime) {
         Err(_) => assert!(rt; false),
     }
     match read_again(rt.alloc(), OUT_OF_RANGE) {
-        Err(ConfigFault::Refused) => (),
+        Err(ConfigFault::NoParty { number: 7, .. }) => (),
         _ => assert!(rt; false),
     }
 }

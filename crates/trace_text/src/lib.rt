@@ -14,3 +14,4 @@ mod names;
 mod putting;
 
 pub use entries::write_entry;
+pub use names::Name;

@@ -10,9 +10,9 @@ use std::alloc::Global;
 use std::fmt;
 use terms::{Digest, FIRST_CLIENT, Level, Mode, NoMemory, Party};
 
-/// Replica 0 is `r0`, client 0 is `c0`.
+/// A party as it is shown: replica 0 is `r0`, client 0 is `c0`.
 #[derive(Clone, Copy, Drop)]
-pub(crate) struct Name(pub(crate) Party);
+pub struct Name(pub Party);
 
 impl fmt::Display for Name {
     ghost output = { λ name. Some (party_text (party_number name.0)) };
@@ -25,6 +25,12 @@ impl fmt::Display for Name {
             let client = number - FIRST_CLIENT;
             write!(f, "c{client}")
         }
+    }
+}
+
+impl fmt::Debug for Name {
+    fn fmt<W: fmt::Write>(&self, f: &mut fmt::Formatter<W>) -> fmt::Result {
+        write!(f, "{self}")
     }
 }
 

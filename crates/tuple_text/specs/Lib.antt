@@ -9,3 +9,4 @@ pub mod Literals
 pub mod Written
 pub mod Laws
 pub mod Walks
+pub mod Refusals

@@ -28,6 +28,23 @@ pub enum LineFault {
     NoMemory,
 }
 
+impl LineFault {
+    ghost use Rattle.tuple_text.specs.Refusals.{line_refusal};
+
+    /// The number of the refusal.
+    pub fn number(self) -> u8
+        ensures { result ≡ line_refusal self }
+    {
+        match self {
+            LineFault::TooManyFields => 1,
+            LineFault::TooDeep => 2,
+            LineFault::TooLong => 3,
+            LineFault::NoMemory => 4,
+            LineFault::BadByte { .. } => 6,
+        }
+    }
+}
+
 impl From<AllocError> for LineFault {
     ghost use Rattle.std.specs.Prelude.{◌≡◌};
     ghost use Rattle.tuple_text.specs.declared.faults.LineFault.TheVariants.{NoMemory};

@@ -1,10 +1,11 @@
 //! Lines that are steps, and lines that are none.
 
-use schedule_text::{Step, StepFault, read_step};
+use schedule_text::{Argument, MAX_STEP, Reason, Step, StepFault, read_step};
 use std::alloc::{AllocError, Global};
 use std::test::Fail;
 use terms::{NoMemory, Party};
 use tuple_codec::{Op, encode_op};
+use tuple_text::LineFault;
 
 // Lines, and their steps: the number of the step's kind, its numbers and parties, and its bytes.
 static STEPS: [(&[u8], u8, &[u64], &[u8]); 19] = [
@@ -41,67 +42,99 @@ static STEPS: [(&[u8], u8, &[u64], &[u8]); 19] = [
 
 static SKIPPED: [&[u8]; 5] = [b"", b" ", b"     ", b"#", b"# flush"];
 
-static REFUSED: [&[u8]; 60] = [
-    b" # flush",
-    b"Flush",
-    b"flushh",
-    b"flush now",
-    b"flush\r",
-    b"flush\t",
-    b"tick",
-    b"tick r0 r1",
-    b"tick x0",
-    b"tick R0",
-    b"tick r",
-    b"tick r01",
-    b"tick r+1",
-    b"tick r-1",
-    b"tick r256",
-    b"tick c65280",
-    b"tick r99999999999999999999",
-    b"tick 0",
-    b"deliver 0",
-    b"deliver r0 0",
-    b"deliver 00 r0",
-    b"deliver -1 r0",
-    b"deliver +1 r0",
-    b"deliver 18446744073709551616 r0",
-    b"deliver 0 r0 1",
-    b"deliver 0 r0,r1",
-    b"deliver0 r0",
-    b"bytes r0",
-    b"bytes r0 0",
-    b"bytes r0 0g",
-    b"bytes r0 00 00",
-    b"bytes 00",
-    b"seal r0 r1",
-    b"seal r0 r1, 00",
-    b"seal r0 ,r1 00",
-    b"seal r0 r1,,r2 00",
-    b"seal r0 r1 r2 00",
-    b"seal r0 r1, r2 00",
-    b"seal r0 , 00",
-    b"seal r0  00",
-    b"seal r0 r1 00 00",
-    b"sign r0 r1 00",
-    b"sign r0 00 r1 00",
-    b"sign r0 0 r1",
-    b"sign r0 0 r1 00 1",
-    b"invoke",
-    b"invoke 0",
-    b"invoke 0 ",
-    b"invoke 0 # x",
-    b"invoke c0 out (1)",
-    b"invoke 01 out (1)",
-    b"invoke 65280 out (1)",
-    b"invoke 0 out (1",
-    b"invoke 0 rdAll 65 (*)",
-    b"invoke 0 out (1) (2)",
-    b"invoke 0 out (((((((((1)))))))))",
-    b"invoke out (1)",
-    b"invoke0 out (1)",
-    b"\xff",
-    b"tick r\xff",
+// Lines, the byte at which each shows to be none, and why.
+// Lines, the byte at which each shows to be none, and why.
+static REFUSED: [(&[u8], usize, Reason); 62] = [
+    (b" # flush", 1, Reason::UnknownName),
+    (b"Flush", 0, Reason::UnknownName),
+    (b"flushh", 0, Reason::UnknownName),
+    (b"flush now", 6, Reason::SpareWord),
+    (b"flush\r", 0, Reason::UnknownName),
+    (b"flush\t", 0, Reason::UnknownName),
+    (b"tick", 4, Reason::Missing(Argument::Party)),
+    (b"tick  ", 6, Reason::Missing(Argument::Party)),
+    (b"tick r0 r1", 8, Reason::SpareWord),
+    (b"tick x0", 5, Reason::NoParty(Argument::Party)),
+    (b"tick R0", 5, Reason::NoParty(Argument::Party)),
+    (b"tick r", 5, Reason::NoParty(Argument::Party)),
+    (b"tick r01", 5, Reason::NoParty(Argument::Party)),
+    (b"tick r+1", 5, Reason::NoParty(Argument::Party)),
+    (b"tick r-1", 5, Reason::NoParty(Argument::Party)),
+    (b"tick r256", 5, Reason::NoParty(Argument::Party)),
+    (b"tick c65280", 5, Reason::NoParty(Argument::Party)),
+    (
+        b"tick r99999999999999999999",
+        5,
+        Reason::NoParty(Argument::Party),
+    ),
+    (b"tick 0", 5, Reason::NoParty(Argument::Party)),
+    (b"deliver 0", 9, Reason::Missing(Argument::Party)),
+    (b"deliver r0 0", 8, Reason::NoNumber(Argument::Frame)),
+    (b"deliver 00 r0", 8, Reason::NoNumber(Argument::Frame)),
+    (b"deliver -1 r0", 8, Reason::NoNumber(Argument::Frame)),
+    (b"deliver +1 r0", 8, Reason::NoNumber(Argument::Frame)),
+    (
+        b"deliver 18446744073709551616 r0",
+        8,
+        Reason::NoNumber(Argument::Frame),
+    ),
+    (b"deliver 0 r0 1", 13, Reason::SpareWord),
+    (b"deliver 0 r0,r1", 10, Reason::NoParty(Argument::Party)),
+    (b"deliver0 r0", 0, Reason::UnknownName),
+    (b"bytes r0", 8, Reason::Missing(Argument::Hex)),
+    (b"bytes r0 0", 9, Reason::OddDigits),
+    (b"bytes r0 0g", 10, Reason::NoDigit),
+    (b"bytes r0 0g0", 9, Reason::OddDigits),
+    (b"bytes r0 00 00", 12, Reason::SpareWord),
+    (b"bytes 00", 6, Reason::NoParty(Argument::Party)),
+    (b"seal r0 r1", 10, Reason::Missing(Argument::Hex)),
+    (b"seal r0 r1, 00", 11, Reason::NoParty(Argument::Parties)),
+    (b"seal r0 ,r1 00", 8, Reason::NoParty(Argument::Parties)),
+    (b"seal r0 r1,,r2 00", 11, Reason::NoParty(Argument::Parties)),
+    (b"seal r0 r1 r2 00", 11, Reason::NoDigit),
+    (b"seal r0 r1, r2 00", 11, Reason::NoParty(Argument::Parties)),
+    (b"seal r0 , 00", 8, Reason::NoParty(Argument::Parties)),
+    (b"seal r0  00", 9, Reason::NoParty(Argument::Parties)),
+    (b"seal r0 r1 00 00", 14, Reason::SpareWord),
+    (b"sign r0 r1 00", 8, Reason::NoNumber(Argument::Leaf)),
+    (b"sign r0 00 r1 00", 8, Reason::NoNumber(Argument::Leaf)),
+    (b"sign r0 0 r1", 12, Reason::Missing(Argument::Hex)),
+    (b"sign r0 0 r1 00 1", 16, Reason::SpareWord),
+    (b"invoke", 6, Reason::Missing(Argument::Client)),
+    (b"invoke 0", 8, Reason::Missing(Argument::Line)),
+    (b"invoke 0 ", 9, Reason::Missing(Argument::Line)),
+    (b"invoke 0 # x", 9, Reason::Missing(Argument::Line)),
+    (b"invoke c0 out (1)", 7, Reason::NoNumber(Argument::Client)),
+    (b"invoke 01 out (1)", 7, Reason::NoNumber(Argument::Client)),
+    (
+        b"invoke 65280 out (1)",
+        7,
+        Reason::NoNumber(Argument::Client),
+    ),
+    (
+        b"invoke 0 out (1",
+        9,
+        Reason::Operation(LineFault::BadByte { offset: 6 }),
+    ),
+    (
+        b"invoke 0 rdAll 65 (*)",
+        9,
+        Reason::Operation(LineFault::BadByte { offset: 7 }),
+    ),
+    (
+        b"invoke 0 out (1) (2)",
+        9,
+        Reason::Operation(LineFault::BadByte { offset: 8 }),
+    ),
+    (
+        b"  invoke  0   out (((((((((1)))))))))",
+        14,
+        Reason::Operation(LineFault::TooDeep),
+    ),
+    (b"invoke out (1)", 7, Reason::NoNumber(Argument::Client)),
+    (b"invoke0 out (1)", 0, Reason::UnknownName),
+    (b"\xff", 0, Reason::UnknownName),
+    (b"tick r\xff", 5, Reason::NoParty(Argument::Party)),
 ];
 
 fn party_number(party: &Party) -> u64 {
@@ -235,10 +268,39 @@ fn skips_lines(rt: HostRuntime) {
 
 #[test]
 fn refuses_lines(rt: HostRuntime) {
-    for &line in &REFUSED {
+    for &(line, byte, reason) in &REFUSED {
         let fault = read_step(rt.alloc(), line).err();
-        assert_eq!(rt; fault, Some(StepFault::Refused), "{line:?}");
+        assert_eq!(rt;
+            fault,
+            Some(StepFault::Refused { byte, reason }),
+            "{line:?}"
+        );
     }
+}
+
+// Bytes for replica 0, with so many digits, after a blank.
+fn long_line(alloc: Global, digits: usize) -> Result<Vec<u8>, AllocError> {
+    let mut line = Vec::from_slice(alloc, b" bytes r0 ")?;
+    line.resize(10usize.saturating_add(digits), b'0')?;
+    Ok(line)
+}
+
+// The longest line has as many bytes as `bytes c65279`, a blank, and two digits for each of 4,194,304 bytes.
+fn is_too_long(alloc: Global, digits: usize) -> Result<bool, AllocError> {
+    let line = long_line(alloc, digits)?;
+    match read_step(alloc, line.as_slice()) {
+        Err(StepFault::NoMemory) => Err(AllocError),
+        Err(StepFault::Refused { byte, reason }) => Ok(byte == 1 && reason == Reason::TooLong),
+        Ok(_) => Ok(false),
+    }
+}
+
+#[test]
+fn refuses_what_is_too_long(rt: HostRuntime) -> Result<(), Fail> {
+    assert_eq!(rt; MAX_STEP, 13 + 2 * 4_194_304);
+    assert!(rt; !is_too_long(rt.alloc(), MAX_STEP - 9)?);
+    assert!(rt; is_too_long(rt.alloc(), MAX_STEP - 8)?);
+    Ok(())
 }
 
 fn read_again(alloc: Global, line: &[u8]) -> Result<Option<Step>, StepFault> {
@@ -282,7 +344,11 @@ fn reads_seal(alloc: Global) -> bool {
 }
 
 fn refuses_half_a_byte(alloc: Global) -> bool {
-    read_again(alloc, b"seal c1 r0,r1,c0 414").err() == Some(StepFault::Refused)
+    let fault = StepFault::Refused {
+        byte: 17,
+        reason: Reason::OddDigits,
+    };
+    read_again(alloc, b"seal c1 r0,r1,c0 414").err() == Some(fault)
 }
 
 // Passes whichever growth is refused, as by `tools/growths`: a second try gives the same as the first one gives if

@@ -1,4 +1,4 @@
-use Rattle.std.proofs.Common.{◌∙◌, sym, arith}
+use Rattle.std.proofs.Common.{◌∙◌, sym}
 use Rattle.std.proofs.lemmas.Bool.{false≢true}
 use Rattle.std.proofs.lemmas.Result.{err_from_is_err_and}
 use Rattle.config_text.proofs.Refusals.{because}
@@ -12,7 +12,7 @@ returns-then-not-has_known_keys c d journal says =
 pub returns-in_err-journal : goal.returns-in_err-journal
 returns-in_err-journal c =
     let p = err_from_is_err_and c.from_residual.result c.from_residual.ensures.1 in
-    rw (p.1, p.2) (because c.in_err-journal.field-0.0 (λ none d journal says. let few = says.range.1 in none journal (omega arith) (says.journal_is, says.range)) (c.in_err-journal.ensures {u = tt}))
+    rw (p.1, p.2) (because c.in_err-journal.field-0.0 (λ none d journal says. none journal says.journal_is says.range) (c.in_err-journal.ensures {u = tt}))
 
 pub returns : goal.returns
 returns c = record {

@@ -1,0 +1,5 @@
+pub mod Reasons
+pub mod Trimmed
+pub mod Behind
+pub mod Pieces
+pub mod Reading

@@ -1,0 +1,23 @@
+-- The configuration that a command reads.
+use Rattle.std.specs.Prelude.{ℕ, List, Result, MatchResult, ⊤}
+use Rattle.config_text.specs.Reading.{SaysSettings}
+use Rattle.config_text.specs.declared.settings.Settings.{Settings}
+use Rattle.protocol.specs.System.Configuration.{Configuration}
+use Rattle.schedule_command.specs.declared.fault.ScheduleFault.{ScheduleFault}
+use Rattle.schedule_command.specs.declared.fault.ScheduleFault.TheVariants as faults
+
+-- The reader gave no text, or memory ran out.
+abbrev pub IsReadFault : ScheduleFault → Type 0
+IsReadFault faults.NoMemory = ⊤
+IsReadFault (faults.Read error) = ⊤
+IsReadFault _ = ⊥
+
+-- The text says no configuration, or the fault is another.
+abbrev pub RefusesSettings : List ℕ → ScheduleFault → Type 0
+RefusesSettings text (faults.Configuration fault) = (c : Configuration) (journal : ℕ) → SaysSettings text c journal → ⊥
+RefusesSettings text fault = IsReadFault fault
+
+-- The given settings are those that the text says, and a refused text says no configuration.
+abbrev pub TellsSettings : List ℕ → Result Settings ScheduleFault → Type 0
+TellsSettings text result =
+    MatchResult result (λ s. SaysSettings text s.config s.journal) (λ fault. RefusesSettings text fault)
