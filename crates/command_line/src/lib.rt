@@ -5,14 +5,16 @@
 //! # What is proved
 //!
 //! `read_words` is safe and returns, on any words. If `clap` runs out of memory, it gives `Stopped`. Only help and
-//! the version give `Shown`, and neither of them gives `Wrong` (`say`). A space is of version 2 exactly if `--space`
-//! has the value 2 (`request_in`). The tests of `btspace` show which words are a request, that not all others are
-//! `Stopped`, which values `--space` takes, and what the program prints.
+//! the version give `Shown`, and neither of them gives `Wrong` (`say`). A request is of the subcommand's name; each of
+//! its texts has the value of the argument that `IsRequest` names, and a space is of version 2 exactly if `--space` has
+//! the value 2 (`request_in`). `--picture` asks for the picture, and `--trace` for the trace (`printed_of`). The tests
+//! of `btspace` show which words are a request, that not all others are `Stopped`, which values `--space` takes, and
+//! what the program prints.
 #![tactic(auto)]
 
-ghost use Rattle.std.specs.Prelude.{◌≡◌, ◌≢◌, ◌⊎◌, IfSome};
+ghost use Rattle.std.specs.Prelude.{◌≡◌, ◌≢◌, ◌⊎◌, IfSome, codes};
 ghost use Rattle.clap.specs.Values.{kind_of};
-ghost use Rattle.command_line.specs.Requests.{AsksFor, HasVersion};
+ghost use Rattle.command_line.specs.Requests.{AsksFor, IsRequest, IsSet, IsUnset};
 
 use clap::error::ErrorKind;
 use clap::{Arg, ArgAction, ArgMatches, Command, Error, value_parser};
@@ -74,9 +76,9 @@ pub struct Positions {
 pub enum NoRequest {
     /// The words ask for help or the version, which was printed on standard output.
     Shown,
-    /// The words are wrong, and standard error says how.
+    /// The words are wrong, and standard error says how if it can be written.
     Wrong,
-    /// Memory ran out, or the text can't be printed.
+    /// Memory ran out, or the help or the version can't be printed.
     Stopped,
 }
 
@@ -123,7 +125,7 @@ fn missing_subcommand(program: &mut Command<'_>) -> Error {
 
 // The request of a subcommand, whose arguments are required.
 fn request_in<'a>(name: &str, given: &ArgMatches<'a>) -> Option<Request<'a>>
-    ensures version { IfSome result (HasVersion given.now) }
+    ensures { IfSome result (IsRequest name.now given.now) }
 {
     if name == "local" {
         Some(Request::Local {
@@ -139,12 +141,14 @@ fn request_in<'a>(name: &str, given: &ArgMatches<'a>) -> Option<Request<'a>>
         Some(Request::Show {
             digits: given.get_str("HEX")?,
         })
-    } else {
+    } else if name == "schedule" {
         Some(Request::Schedule {
             config: given.get_str("CONFIG")?,
             file: given.get_str("FILE")?,
             printed: printed_of(given),
         })
+    } else {
+        None
     }
 }
 
@@ -160,7 +164,13 @@ fn space_version(given: &ArgMatches<'_>) -> SpaceVersion
 }
 
 // The two options exclude each other.
-fn printed_of(given: &ArgMatches<'_>) -> Printed {
+fn printed_of(given: &ArgMatches<'_>) -> Printed
+    ensures picture { IsSet given.now (codes "picture") → result ≡ Printed.Picture }
+    ensures trace { IsUnset given.now (codes "picture") → IsSet given.now (codes "trace")
+        → result ≡ Printed.Trace }
+    ensures report { IsUnset given.now (codes "picture") → IsUnset given.now (codes "trace")
+        → result ≡ Printed.Report }
+{
     if given.get_flag("picture") {
         Printed::Picture(positions_of(given))
     } else if given.get_flag("trace") {
@@ -182,8 +192,7 @@ fn program<'a>(alloc: Global) -> Result<Command<'a>, AllocError> {
     let program = Command::new(alloc, "btspace")
         .version("0.1.0")
         .about("A tuple space")
-        .subcommand_required(true)
-        .disable_help_subcommand(true);
+        .subcommand_required(true);
     let program = with_subcommand(program, local(alloc))?;
     let program = with_subcommand(program, run(alloc))?;
     let program = with_subcommand(program, schedule(alloc))?;
@@ -306,7 +315,7 @@ fn position<'a>(alloc: Global, name: &'a str, help: &'a str) -> Result<Arg<'a>, 
         .requires_arg("picture")
 }
 
-// Help and the version go to standard output, errors to standard error.
+// Help and the version go to standard output, errors to standard error. Wrong words stay wrong where nobody reads why.
 fn say<R: Print + Eprint>(rt: &R, error: &Error) -> NoRequest
     ensures memory { kind_of error.now ≡ ErrorKind.OutOfMemory → result ≡ NoRequest.Stopped }
     ensures shown { result ≡ NoRequest.Shown → (kind_of error.now ≡ ErrorKind.DisplayHelp)
@@ -314,12 +323,15 @@ fn say<R: Print + Eprint>(rt: &R, error: &Error) -> NoRequest
     ensures wrong { result ≡ NoRequest.Wrong → (kind_of error.now ≢ ErrorKind.DisplayHelp)
         × (kind_of error.now ≢ ErrorKind.DisplayVersion) }
 {
-    if error.kind() == ErrorKind::OutOfMemory || error.print(rt).is_err() {
+    if error.kind() == ErrorKind::OutOfMemory {
         return NoRequest::Stopped;
     }
+    let is_printed = error.print(rt).is_ok();
     if error.use_stderr() {
         NoRequest::Wrong
-    } else {
+    } else if is_printed {
         NoRequest::Shown
+    } else {
+        NoRequest::Stopped
     }
 }
