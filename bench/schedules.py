@@ -1,7 +1,9 @@
 """Runs schedules by `btspace schedule`, and tells what they take: for bench/upgrade, bench/views and bench/world.
 
-How long a compression of SHA-256 takes is told by three signed frames with wrong signatures, of different replicas: for
-each the public key of its sender is made.
+How long a compression of SHA-256 takes at least is told by three signed frames with wrong signatures, of different
+replicas: for each the public key of its sender is made, nearly all of it by four compressions at once. Those that a
+program makes one at a time take longer. So a share of compressions is the least that it can be, and the time apart from
+them the most.
 """
 
 import os
@@ -73,5 +75,5 @@ class Bench:
 
 
 def compression_seconds(least):
-    """How long a compression takes."""
+    """How long a compression takes that is one of four at once."""
     return (least["signed"] - least["empty"]) / (len(SIGNERS) * (TREE + TESTING))

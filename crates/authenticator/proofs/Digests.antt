@@ -1,5 +1,5 @@
 -- The entries that are sealed.
-use Rattle.std.proofs.Common.{ℕ, List, [], ◌∷◌, ◌++◌, arith, zero, suc}
+use Rattle.std.proofs.Common.{ℕ, List, [], ◌∷◌, ◌++◌, take, arith, zero, suc}
 use Rattle.std.specs.Int.{w32, to_be_bytes}
 use Rattle.std.specs.Prelude.{slice_index}
 use Rattle.sha2.specs.Sha256.{sha256, digest_bytes}
@@ -32,8 +32,13 @@ pub hmac_of-digest : (key text : List ℕ) → IsDigest (hmac_of key text)
 unfolding hmac_of
 hmac_of-digest key text = sha256-digest _
 
--- ---- one more entry
+-- ---- the first of such entries, and more of them
 
-pub each_push : {A : Type 0} (P : A → Type 0) (xs : List A) (x : A) → Each P xs → P x → Each P (xs ++ x ∷ [])
-each_push P [] x none p = (p, tt)
-each_push P (y ∷ ys) x (q, more) p = (q, each_push P ys x more p)
+pub each_take : {A : Type 0} (P : A → Type 0) (n : ℕ) (xs : List A) → Each P xs → Each P (take n xs)
+each_take P zero xs all = tt
+each_take P (suc n) [] all = tt
+each_take P (suc n) (x ∷ xs) (p, others) = (p, each_take P n xs others)
+
+pub each_append : {A : Type 0} (P : A → Type 0) (xs ys : List A) → Each P xs → Each P ys → Each P (xs ++ ys)
+each_append P [] ys none all = all
+each_append P (x ∷ xs) ys (p, others) all = (p, each_append P xs ys others all)

@@ -1,9 +1,9 @@
 -- Looking through the entries of an authenticator.
-use Rattle.std.proofs.Common.{◌≡◌, arith, true, false, zero, Contains, refl, [], ◌∷◌, ◌++◌, take, ◌<◌, ℕ, suc, ◌+◌, Bool, ◌||◌, List, map, length, drop, get_or, slice_get, Some, ◌≤◌, ap, sym}
+use Rattle.std.proofs.Common.{◌≡◌, ◌∙◌, arith, true, false, zero, Contains, refl, [], ◌∷◌, ◌++◌, take, ℕ, suc, ◌+◌, Bool, ◌||◌, List, map, length, drop, slice_get, Some, ◌≤◌, ap, sym}
 use Rattle.std.proofs.Math.Bool.{or-true}
 use Rattle.std.proofs.lemmas.Bool.{and_from, eq-eqb}
 use Rattle.std.proofs.lemmas.Slice.Eq.{bytes_eq-Decides}
-use Rattle.std.proofs.lemmas.List.{map-append, take_more, drop_all}
+use Rattle.std.proofs.lemmas.List.{append_assoc, map-append, take-map, drop_all}
 use Rattle.terms.specs.declared.parties.Party.{Party}
 use Rattle.authenticator.specs.Keys.{mac_between}
 use Rattle.authenticator.specs.Sealing.{entry_for}
@@ -23,21 +23,30 @@ has_mac-step party mac entries i entry found here is = rw (drop_more entries i e
 pub has_mac-end : (party : ℕ) (mac : List ℕ) (entries : List MacData) (i : ℕ) → length entries ≤ i → has_mac party mac (drop i entries) ≡ false
 has_mac-end party mac entries i over = ap (has_mac party mac) (drop_all i entries over)
 
--- one more entry is made
-pub entries-push : (seed : List ℕ) (sender : ℕ) (text : List ℕ) (old : List ReceiverMac) (receivers : List Party) (i : ℕ) (receiver : Party) (mac : List ℕ)
-    → i < length receivers → receiver ≡ get_or receivers i receiver → mac ≡ mac_between seed sender (party_number receiver) text
-    → map mac_data old ≡ map (entry_for seed sender text) (map party_number (take i receivers))
-    → map mac_data (old ++ record { receiver = receiver; mac = mac } ∷ []) ≡ map (entry_for seed sender text) (map party_number (take (i + 1) receivers))
-entries-push seed sender text old receivers i receiver mac within here is made =
+-- the entries for the first of some receivers are the first of the entries
+pub entries-front : (seed : List ℕ) (sender : ℕ) (text : List ℕ) (n : ℕ) (receivers more : List Party) (entries : List ReceiverMac)
+    → map mac_data entries ≡ map (entry_for seed sender text) (map party_number more) → take n more ≡ receivers
+    → map mac_data (take n entries) ≡ map (entry_for seed sender text) (map party_number receivers)
+entries-front seed sender text n receivers more entries made front =
+    sym (take-map mac_data n entries)
+    ∙ ap (take n) made
+    ∙ take-map (entry_for seed sender text) n (map party_number more)
+    ∙ ap (map (entry_for seed sender text)) (take-map party_number n more ∙ ap (map party_number) front)
+
+-- the entries for one more group of receivers are made
+pub entries-group : (seed : List ℕ) (sender : ℕ) (text : List ℕ) (old made new : List ReceiverMac) (group rest left : List Party)
+    → map mac_data made ≡ map (entry_for seed sender text) (map party_number group) → new ≡ old ++ made → left ≡ group ++ rest
+    → map mac_data new ++ map (entry_for seed sender text) (map party_number rest)
+    ≡ map mac_data old ++ map (entry_for seed sender text) (map party_number left)
+entries-group seed sender text old made new group rest left right is splits =
     rw (
-      map-append mac_data old (record { receiver = receiver; mac = mac } ∷ []),
-      take_more receivers i receiver within,
-      ← here,
-      map-append party_number (take i receivers) (receiver ∷ []),
-      map-append (entry_for seed sender text) (map party_number (take i receivers)) (party_number receiver ∷ []),
       is,
-      made,
-    ) refl
+      splits,
+      map-append mac_data old made,
+      map-append party_number group rest,
+      map-append (entry_for seed sender text) (map party_number group) (map party_number rest),
+      right,
+    ) (append_assoc (map mac_data old) (map (entry_for seed sender text) (map party_number group)) (map (entry_for seed sender text) (map party_number rest)))
 
 here-is : (party : ℕ) (mac : List ℕ) → is_mac_for party mac (record { receiver = party; mac = mac }) ≡ true
 here-is party mac = and_from _ _ (eq-eqb party party refl) ((bytes_eq-Decides mac mac).1 refl)

@@ -2,6 +2,7 @@ pub mod Blocks
 pub mod Differences
 pub mod Digests
 pub mod Entries
+pub mod Fours
 pub mod Frames
 pub mod Keeping
 pub mod Lengths

@@ -5,6 +5,7 @@ pub mod Results
 pub mod Kept
 pub mod Keys
 pub mod Laws
+pub mod Made
 pub mod Mac
 pub mod Membership
 pub mod Opening

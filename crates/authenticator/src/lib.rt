@@ -2,9 +2,9 @@
 //!
 //! # What is proved
 //!
-//! `hmac` is RFC 2104's over FIPS 180-4, a `Key` that is made ready gives the same, and `same` holds exactly of equal
-//! MACs. `Ring::seal` gives the frame of a body with a MAC for each receiver, under the key from its sender. It
-//! refuses a frame as too large exactly if it is.
+//! `hmac` is RFC 2104's over FIPS 180-4, a `Key` that is made ready gives the same for one text or four at once, and
+//! `same` holds exactly of equal MACs. `Ring::seal` gives the frame of a body with a MAC for each receiver, under the
+//! key from its sender. It refuses a frame as too large exactly if it is.
 //!
 //! `Ring::open` gives the frame that the bytes spell, exactly if its sender takes part and may send such a message
 //! and the receiver's entry is right or the frame is signed. Otherwise the refusal holds; memory runs out only for a

@@ -1,11 +1,12 @@
 //! Message authentication codes: HMAC (RFC 2104) with the hash function SHA-256 (FIPS 180-4).
 
 ghost use Rattle.std.specs.Prelude.{◌≡◌, ◌↔◌, ◌-◌, ◌≤◌, ℕ, List, ◌++◌, IsTrue, length, replicate};
-ghost use Rattle.sha2.specs.Hashers.{Holds256};
+ghost use Rattle.hash_lanes.specs.Midstates.{AreShort, IsAfter};
 ghost use Rattle.authenticator.specs.Mac.{block_key, hmac_of, xor_each};
+ghost use Rattle.authenticator.specs.Made.{AreMacsOf, AreMacsUnder, IsMadeOf};
 
+use hash_lanes::{Midstate, finish_each, finish_four};
 use sha2::{Digest, Sha256};
-use std::marker::Model;
 
 /// The length of a block of SHA-256, in bytes.
 const BLOCK_LEN: usize = 64;
@@ -17,51 +18,53 @@ const INNER_PAD: u8 = 0x36;
 const OUTER_PAD: u8 = 0x5c;
 
 /// A key made ready for many texts: a code takes two blocks of SHA-256 and those of the text, in place of four and
-/// those of the text (RFC 2104, section 4).
+/// those of the text (RFC 2104, section 4). It keeps the two hashes that have taken in the key's block, mixed with the
+/// inner pad and with the outer one.
 #[derive(Drop)]
 pub struct Key {
-    block: [u8; 64],
-    inner: Sha256,
-    outer: Sha256,
-}
-
-impl Model for Key {
-    ghost use Rattle.std.specs.Prelude.{ℕ, List};
-    ghost use Rattle.authenticator.specs.Kept.{AreReady};
-
-    ghost Value = { List ℕ };
-
-    ghost view = { λ k. k.block };
-
-    ghost invariant = { λ k. AreReady k.inner k.outer k.block };
+    inner: Midstate,
+    outer: Midstate,
 }
 
 impl Key {
-    /// The key of these bytes, of any length.
+    /// The key made of these bytes, of any length.
     pub fn new(key: &[u8]) -> Key
-        ensures { result ≡ block_key key.now }
+        ensures { IsMadeOf result key.now }
     {
         let block = block_of(key);
-        let inner = keyed(&block, INNER_PAD);
-        let outer = keyed(&block, OUTER_PAD);
         Key {
-            block,
-            inner,
-            outer,
+            inner: after_mixed(&block, INNER_PAD),
+            outer: after_mixed(&block, OUTER_PAD),
         }
     }
 
     /// The authentication code of a text under this key.
     pub fn mac(&self, text: &[u8]) -> [u8; 32]
-        // It is the code under each key whose block is this one.
-        ensures { (key : List ℕ) → block_key key ≡ self.now → result ≡ hmac_of key text.now }
+        ensures { (key : List ℕ) → IsMadeOf self.now key → result ≡ hmac_of key text.now }
     {
-        let mut inner = copy_of(&self.inner);
-        inner.update(text);
-        let mut outer = copy_of(&self.outer);
-        outer.update(inner.finalize());
-        outer.finalize()
+        self.outer.finish(&self.inner.finish(text))
     }
+
+    /// The codes under this key of four texts, each of fewer than 56 bytes. Their hashes are computed together.
+    pub fn mac_each(&self, texts: [&[u8]; 4]) -> [[u8; 32]; 4]
+        requires { AreShort texts }
+        ensures { (key : List ℕ) → IsMadeOf self.now key → AreMacsOf key texts.entry result }
+    {
+        let [a, b, c, d] = finish_each([&self.inner, &self.inner, &self.inner, &self.inner], texts);
+        finish_each(
+            [&self.outer, &self.outer, &self.outer, &self.outer],
+            [&a, &b, &c, &d],
+        )
+    }
+}
+
+/// The codes of one text under four keys. Their hashes are computed together.
+pub(crate) fn mac_four(keys: [&Key; 4], text: &[u8]) -> [[u8; 32]; 4]
+    ensures { AreMacsUnder keys.entry text.now result }
+{
+    let [p, q, r, s] = keys;
+    let [a, b, c, d] = finish_four([&p.inner, &q.inner, &r.inner, &s.inner], text);
+    finish_each([&p.outer, &q.outer, &r.outer, &s.outer], [&a, &b, &c, &d])
 }
 
 /// The authentication code of a text under a key of any length (RFC 2104, section 2). It takes no memory.
@@ -101,25 +104,15 @@ fn padded(key: &[u8]) -> [u8; 64]
     block
 }
 
-// A hasher that holds the block mixed with the pad.
-fn keyed(block: &[u8; 64], pad: u8) -> Sha256
-    ensures { Holds256 result (xor_each pad block.now) }
+// The hash that has taken in the block mixed with the pad.
+fn after_mixed(block: &[u8; 64], pad: u8) -> Midstate
+    ensures { IsAfter result (xor_each pad block.now) }
 {
     let mut mixed = *block;
     for byte in mixed.iter_mut() {
         *byte ^= pad;
     }
-    let mut hasher = Sha256::new();
-    hasher.update(&mixed);
-    hasher
-}
-
-// A copy of a hasher's state.
-fn copy_of(hasher: &Sha256) -> Sha256
-    ensures { result ≡ hasher.now }
-{
-    match hasher.clone() {
-        Ok(copy) => copy,
-        Err(_) => unreachable!(),
-    }
+    let mut state = Midstate::new();
+    state.take(&mixed);
+    state
 }

@@ -3,14 +3,14 @@
 ghost use Rattle.std.specs.Prelude.{◌≡◌, ◌∷◌, ◌++◌, ◌<◌, IfSome};
 ghost use Rattle.std.specs.Int.{w16, to_be_bytes};
 ghost use Rattle.authenticator.specs.Kept.{KeepsOrTakesText};
-ghost use Rattle.authenticator.specs.Mac.{block_key};
 ghost use Rattle.authenticator.specs.Keys.{key_between, mac_between, signing_seed};
+ghost use Rattle.authenticator.specs.Made.{AreMacsTo};
 ghost use Rattle.authenticator.specs.Headers.{takes_part};
 ghost use Rattle.authenticator.specs.Membership.{has_sender};
 ghost use Rattle.terms.specs.Parties.{party_number};
 ghost use Rattle.wire_format.specs.Views.{body_data};
 
-use crate::mac::{Key, hmac};
+use crate::mac::{Key, hmac, mac_four};
 use std::alloc::Global;
 use std::collections::HashMap;
 use std::marker::Model;
@@ -55,9 +55,8 @@ pub struct Ring {
 }
 
 impl Model for Ring {
-    ghost use Rattle.std.specs.Prelude.{◌≡◌};
-    ghost use Rattle.authenticator.specs.Mac.{block_key};
     ghost use Rattle.authenticator.specs.Kept.{CodesFit, KeysFit};
+    ghost use Rattle.authenticator.specs.Made.{IsMadeOf};
     ghost use Rattle.authenticator.specs.Membership.{Membership};
 
     ghost Value = { Membership };
@@ -65,7 +64,7 @@ impl Model for Ring {
     ghost view = { λ r. record { seed = r.seed; faults = r.faults; clients = r.clients } };
 
     ghost invariant = { λ r.
-        (block_key r.seed ≡ r.source) × KeysFit r.seed r.kept × CodesFit r.seed r.requests };
+        IsMadeOf r.source r.seed × KeysFit r.seed r.kept × CodesFit r.seed r.requests };
 }
 
 impl Ring {
@@ -118,6 +117,36 @@ impl Ring {
             return key.mac(text);
         }
         self.first_mac(from, to, text)
+    }
+
+    /// The authentication codes of a text from one party to four others. They are made together, but for the first text:
+    /// then some key is not kept yet.
+    pub(crate) fn macs(&mut self, from: u16, to: [u16; 4], text: &[u8]) -> [[u8; 32]; 4]
+        ensures codes { AreMacsTo self.old.seed from to text.now result }
+        ensures same { self.new ≡ self.old }
+    {
+        if let Some(macs) = self.kept_macs(from, to, text) {
+            return macs;
+        }
+        let [a, b, c, d] = to;
+        [
+            self.mac(from, a, text),
+            self.mac(from, b, text),
+            self.mac(from, c, text),
+            self.mac(from, d, text),
+        ]
+    }
+
+    // The codes of a text from one party to four others, if all their keys are kept.
+    fn kept_macs(&self, from: u16, to: [u16; 4], text: &[u8]) -> Option<[[u8; 32]; 4]>
+        ensures { IfSome result (AreMacsTo self.now.seed from to text.now) }
+    {
+        let [a, b, c, d] = to;
+        let a = self.kept.get(&(from, a))?;
+        let b = self.kept.get(&(from, b))?;
+        let c = self.kept.get(&(from, c))?;
+        let d = self.kept.get(&(from, d))?;
+        Some(mac_four([a, b, c, d], text))
     }
 
     // The code under a key that is not kept yet. A function pays for the size of its locals at each call, so the key is

@@ -1,7 +1,6 @@
 //! Frames that parties seal for each other and open.
 
-ghost use Rattle.std.specs.Prelude.{◌≡◌, ◌+◌, ℕ, List, ◌++◌, IfOk, IfErr, IsTrue, map};
-ghost use Rattle.std.specs.Prelude.{◌≤◌, length};
+ghost use Rattle.std.specs.Prelude.{◌≡◌, ◌+◌, ◌<◌, ◌≤◌, ℕ, List, ◌++◌, IfOk, IfErr, IsTrue, length, map, take};
 ghost use Rattle.wire_format.specs.Spelling.{IsMac};
 ghost use Rattle.wire_format.specs.Lists.{Each};
 ghost use Rattle.authenticator.specs.Sealing.{IsSealable};
@@ -125,7 +124,7 @@ impl Ring {
         Ok(frame)
     }
 
-    // The MAC of the text for each receiver.
+    // The MAC of the text for each receiver. Those for up to four receivers are made together.
     fn entries(
         &mut self,
         sender: u16,
@@ -138,14 +137,51 @@ impl Ring {
         ensures same { self.new ≡ self.old }
     {
         let mut entries = ArrayVec::new();
-        for receiver in receivers {
-            let mac = self.mac(sender, receiver.number(), text);
-            entries.push(ReceiverMac {
-                receiver: *receiver,
-                mac,
-            });
+        for group in receivers.chunks(4) {
+            let made = self.group_entries(sender, text, group);
+            match entries.try_extend_from_slice(&made[..group.len()]) {
+                Ok(()) => {},
+                Err(_) => unreachable!(),
+            }
         }
         entries
+    }
+
+    // The MACs of the text for one to four receivers, in the first places.
+    fn group_entries(&mut self, sender: u16, text: &[u8], group: &[Party]) -> [ReceiverMac; 4]
+        requires some { 0 < length group.now }
+        requires few { length group.now ≤ 4 }
+        ensures made { AreMacsFor self.old.seed sender text.now group.now (take (length group.now) result) }
+        ensures formed { Each IsMac (map mac_data (take (length group.now) result)) }
+        ensures same { self.new ≡ self.old }
+    {
+        if let [receiver] = group {
+            let mac = self.mac(sender, receiver.number(), text);
+            let entry = ReceiverMac {
+                receiver: *receiver,
+                mac,
+            };
+            return [entry; 4];
+        }
+        let mut receivers = [group[0]; 4];
+        receivers[..group.len()].copy_from_slice(group);
+        self.four_entries(sender, text, receivers)
+    }
+
+    // The MACs of the text for four receivers, which are made together.
+    fn four_entries(&mut self, sender: u16, text: &[u8], receivers: [Party; 4]) -> [ReceiverMac; 4]
+        ensures made { AreMacsFor self.old.seed sender text.now receivers result }
+        ensures formed { Each IsMac (map mac_data result) }
+        ensures same { self.new ≡ self.old }
+    {
+        let [a, b, c, d] = receivers;
+        let [p, q, r, s] = self.macs(
+            sender,
+            [a.number(), b.number(), c.number(), d.number()],
+            text,
+        );
+        let entry = |receiver: Party, mac: [u8; 32]| ReceiverMac { receiver, mac };
+        [entry(a, p), entry(b, q), entry(c, r), entry(d, s)]
     }
 
     /// The frame that the bytes spell, if its sender takes part and may send such a message. Its authenticator must

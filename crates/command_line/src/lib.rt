@@ -147,12 +147,14 @@ fn request_in<'a>(name: &str, given: &ArgMatches<'a>) -> Option<Request<'a>>
         Some(Request::Show {
             digits: given.get_str("HEX")?,
         })
-    } else {
+    } else if name == "schedule" {
         Some(Request::Schedule {
             config: given.get_str("CONFIG")?,
             file: given.get_str("FILE")?,
             printed: printed_of(given),
         })
+    } else {
+        None
     }
 }
 

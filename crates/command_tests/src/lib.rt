@@ -4,9 +4,15 @@
 #![tactic(auto)]
 
 #[cfg(test)]
+mod answered;
+#[cfg(test)]
+mod answers;
+#[cfg(test)]
 mod checkpoints;
 #[cfg(test)]
 mod clusters;
+#[cfg(test)]
+mod deaths;
 #[cfg(test)]
 mod displays;
 #[cfg(test)]

@@ -80,7 +80,7 @@ struct Row {
     errors: &'static str,
 }
 
-static ROWS: [Row; 15] = [
+static ROWS: [Row; 18] = [
     Row {
         words: &["btspace", "--help"],
         why: NoRequest::Shown,
@@ -93,6 +93,27 @@ Commands:
   run       Runs a script on a running cluster and prints a result line for each operation
   schedule  Runs a schedule in a world of replicas and clients and prints what was accepted
   show      Prints the tuple that is encoded by these bytes
+  help      Print this message or the help of the given subcommand(s)
+
+Options:
+  -h, --help     Print help
+  -V, --version  Print version
+",
+        errors: "",
+    },
+    Row {
+        words: &["btspace", "help"],
+        why: NoRequest::Shown,
+        output: "A tuple space
+
+Usage: btspace <COMMAND>
+
+Commands:
+  local     Runs a script on a space of its own and prints a result line for each operation
+  run       Runs a script on a running cluster and prints a result line for each operation
+  schedule  Runs a schedule in a world of replicas and clients and prints what was accepted
+  show      Prints the tuple that is encoded by these bytes
+  help      Print this message or the help of the given subcommand(s)
 
 Options:
   -h, --help     Print help
@@ -102,6 +123,21 @@ Options:
     },
     Row {
         words: &["btspace", "show", "-h"],
+        why: NoRequest::Shown,
+        output: "Prints the tuple that is encoded by these bytes
+
+Usage: btspace show <HEX>
+
+Arguments:
+  <HEX>  The bytes of a tuple, two hexadecimal digits a byte
+
+Options:
+  -h, --help  Print help
+",
+        errors: "",
+    },
+    Row {
+        words: &["btspace", "help", "show"],
         why: NoRequest::Shown,
         output: "Prints the tuple that is encoded by these bytes
 
@@ -126,7 +162,18 @@ Options:
         why: NoRequest::Wrong,
         output: "",
         errors: "error: 'btspace' requires a subcommand but one was not provided
-  [subcommands: local, run, schedule, show]
+  [subcommands: local, run, schedule, show, help]
+
+Usage: btspace <COMMAND>
+
+For more information, try '--help'.
+",
+    },
+    Row {
+        words: &["btspace", "nope"],
+        why: NoRequest::Wrong,
+        output: "",
+        errors: "error: unrecognized subcommand 'nope'
 
 Usage: btspace <COMMAND>
 
@@ -277,15 +324,20 @@ fn is_printed(alloc: Global, row: &Row) -> bool {
     read == Err(row.why) && holds(&console.output, row.output) && holds(&console.errors, row.errors)
 }
 
-fn is_stopped(alloc: Global, words: &[&str]) -> bool {
+// Where nothing can be printed, the help stops the program, and wrong words stay wrong.
+fn is_unheard(alloc: Global, row: &Row) -> bool {
     let console = Console::new(alloc, false);
-    read_words(&(&console, alloc), words) == Err(NoRequest::Stopped)
+    let why = match row.why {
+        NoRequest::Wrong => NoRequest::Wrong,
+        NoRequest::Shown | NoRequest::Stopped => NoRequest::Stopped,
+    };
+    read_words(&(&console, alloc), row.words) == Err(why)
 }
 
 #[test]
 fn prints_help_and_mistakes(rt: HostRuntime) {
     for row in &ROWS {
-        let is_right = is_printed(rt.alloc(), row) && is_stopped(rt.alloc(), row.words);
+        let is_right = is_printed(rt.alloc(), row) && is_unheard(rt.alloc(), row);
         assert!(rt; is_right, "{}{}", row.output, row.errors);
     }
 }

@@ -13,3 +13,4 @@ pub mod Taking
 pub mod Stopping
 pub mod FirstFrame
 pub mod Concluding
+pub mod Entries

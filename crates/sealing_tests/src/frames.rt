@@ -184,6 +184,53 @@ fn a_request_for_four_replicas(rt: HostRuntime) -> Result<(), Fail> {
     Ok(())
 }
 
+// Of ten replicas three may be faulty.
+fn ring_of_ten(alloc: Global) -> Ring {
+    Ring::new(alloc, &seed(), 3, 2)
+}
+
+fn ten_replicas() -> [Party; 10]
+    ensures { map party_number result ≡ 0 ∷ 1 ∷ 2 ∷ 3 ∷ 4 ∷ 5 ∷ 6 ∷ 7 ∷ 8 ∷ 9 ∷ [] }
+{
+    [
+        Party::Replica(ReplicaId(0)),
+        Party::Replica(ReplicaId(1)),
+        Party::Replica(ReplicaId(2)),
+        Party::Replica(ReplicaId(3)),
+        Party::Replica(ReplicaId(4)),
+        Party::Replica(ReplicaId(5)),
+        Party::Replica(ReplicaId(6)),
+        Party::Replica(ReplicaId(7)),
+        Party::Replica(ReplicaId(8)),
+        Party::Replica(ReplicaId(9)),
+    ]
+}
+
+// The frame of the first client's request for the ten replicas: two groups of four MACs, and one of two.
+fn sealed_for_ten(ring: &mut Ring, alloc: Global) -> Result<Vec<u8>, Fail> {
+    let body = request(alloc, CLIENT)?;
+    let frame = ring.seal(alloc, &body, &ten_replicas());
+    drop(body);
+    Ok(frame?)
+}
+
+// The SHA-256 of that frame.
+const SEALED_FOR_TEN: &str = "e0081b3d7c762e59674b9143c550be3c1f87aa606c70b2b5fc65313ac077f499";
+
+// Whether a ring seals it so at first, when it derives its keys, and then, when it keeps them.
+fn seals_for_ten(ring: &mut Ring, alloc: Global) -> Result<bool, Fail> {
+    let first = sealed_for_ten(ring, alloc)?;
+    let second = sealed_for_ten(ring, alloc)?;
+    Ok(is_code(Sha256::digest(&first), SEALED_FOR_TEN) && first.as_slice() == second.as_slice())
+}
+
+#[test]
+fn a_request_for_ten_replicas(rt: HostRuntime) -> Result<(), Fail> {
+    let mut ring = ring_of_ten(rt.alloc());
+    assert!(rt; seals_for_ten(&mut ring, rt.alloc())?);
+    Ok(())
+}
+
 // Changes the last byte of the entry for replica 1, if the frame has its length.
 fn change_entry_of_1(frame: &mut [u8]) -> bool {
     if frame.len() != 165 {

@@ -95,6 +95,47 @@ fn a_key_serves_many_texts(rt: HostRuntime) {
     assert!(rt; serves(b"Jefe", &[b"", b"what do ya want for nothing?", b"another"]));
 }
 
+// Texts of one length with their codes under the key "Jefe". The first is of RFC 4231, the others of Python's hmac.
+static EACH: [(&[u8; 28], &str); 4] = [
+    (
+        b"what do ya want for nothing?",
+        "5bdcc146bf60754e6a042426089575c75a003f089d2739839dec58b964ec3843",
+    ),
+    (
+        b"what do ya want for nothing!",
+        "b3e375524094b7a3fd1c0bacdd4c1f327843ee972e67164831d35b68718cd2b2",
+    ),
+    (
+        b"sixteen and a dozen of bytes",
+        "b716b0f71e37960fb08820aec04408ab5f20f0ac71371afdfa9a8c5db63f2c90",
+    ),
+    (
+        &[
+            0, 1, 2, 3, 4, 5, 6, 7, 8, 9, 10, 11, 12, 13, 14, 15, 16, 17, 18, 19, 20, 21, 22, 23,
+            24, 25, 26, 27,
+        ],
+        "f11ade3dbd392773fa2c1420bcebb55e0cab03fc0d718827a3edde52736fc367",
+    ),
+];
+
+// Whether a key gives each text its code, with four computed together. The texts come in this order and turned round.
+fn serves_four(key: &[u8], rows: &[(&[u8; 28], &str); 4]) -> bool {
+    let made = Key::new(key);
+    let [(a, first), (b, second), (c, third), (d, fourth)] = *rows;
+    let [p, q, r, s] = made.mac_each([a, b, c, d]);
+    let [t, u, v, w] = made.mac_each([d, c, b, a]);
+    is_code(p, first)
+        && is_code(q, second)
+        && is_code(r, third)
+        && is_code(s, fourth)
+        && [t, u, v, w] == [s, r, q, p]
+}
+
+#[test]
+fn a_key_serves_four_texts_at_once(rt: HostRuntime) {
+    assert!(rt; serves_four(b"Jefe", &EACH));
+}
+
 #[test]
 fn each_byte_counts(rt: HostRuntime) {
     let code = code_of(b"Jefe", b"text");

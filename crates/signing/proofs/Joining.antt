@@ -57,3 +57,20 @@ joined_push_two base n f items first second appended is_next =
 
 pub append-joined_none : (base : List ℕ) (f : ℕ → List ℕ) → base ≡ base ++ end_to_end 0 f
 append-joined_none base f = rw (joined-none, append-nil) refl
+
+-- n parts, and m more
+pub joined_add : (n m : ℕ) (f : ℕ → List ℕ) → end_to_end (n + m) f ≡ end_to_end n f ++ end_to_end m (λ k. f (n + k))
+unfolding end_to_end
+joined_add n zero f = let none : n + 0 ≡ n = omega arith in rw (none, append-nil) refl
+joined_add n (suc m) f =
+    let next : n + suc m ≡ suc (n + m) = omega arith in
+    rw (next, joined_add n m f, append_assoc) refl
+
+pub joined_fours : (group : ℕ) (f : ℕ → List ℕ) → end_to_end (4 * (group + 1)) f ≡ end_to_end (4 * group) f ++ end_to_end 4 (λ k. f (4 * group + k))
+joined_fours group f = let next : 4 * (group + 1) ≡ 4 * group + 4 = omega arith in rw next (joined_add (4 * group) 4 f)
+
+-- the same if they are appended
+pub joined_push_four : (base : List ℕ) (group : ℕ) (f : ℕ → List ℕ) (was items : List ℕ) → was ≡ base ++ end_to_end (4 * group) f
+    → items ≡ was ++ end_to_end 4 (λ k. f (4 * group + k)) → items ≡ base ++ end_to_end (4 * (group + 1)) f
+joined_push_four base group f was items before appended =
+    appended ∙ rw (before, joined_fours group f) (append_assoc base (end_to_end (4 * group) f) (end_to_end 4 (λ k. f (4 * group + k))))

@@ -1,6 +1,7 @@
 pub mod Opened
 pub mod Requests
 pub mod AuthenticBody
+pub mod Fours
 pub mod Joining
 pub mod Nodes
 pub mod Parts

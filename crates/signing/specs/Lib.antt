@@ -1,4 +1,5 @@
 pub mod Faults
+pub mod Fours
 pub mod Results
 pub mod Hashing
 pub mod AuthenticBody

@@ -1,11 +1,13 @@
 //! Signatures, and whether they verify.
 
-ghost use Rattle.std.specs.Prelude.{◌≡◌, ◌↔◌, ◌+◌, ◌<◌, ◌≤◌, ℕ, List, IfOk, OnErr, IsTrue, length, slice_index};
+ghost use Rattle.std.specs.Prelude.{◌≡◌, ◌↔◌, ◌+◌, ◌<◌, ◌≤◌, ℕ, List, IfOk, OnErr, IsTrue, length, map, slice_index};
 ghost use Rattle.sha2.specs.Sha256.{sha256};
-ghost use Rattle.signing.specs.Signatures.{IsSignature, shown_digest, shown_pair, shown_root, Verifies};
+ghost use Rattle.signing.specs.Fours.{four_from, four_joined};
+ghost use Rattle.signing.specs.Signatures.{IsSignature, shown_digest, shown_pair, shown_root, shown_secret, Verifies};
 ghost use Rattle.signing.specs.Results.{FindsSignature};
 ghost use Rattle.signing.specs.Hashing.{TakesIn};
 
+use crate::hashing::digest_each;
 use crate::secrets::{BITS, bit_of};
 use crate::tree::{LEAVES, LEVELS, parent};
 use authenticator::same;
@@ -121,21 +123,58 @@ fn digest_shown(signature: &[u8], text: &[u8]) -> [u8; 32]
 {
     let hash = Sha256::digest(text);
     let mut hasher = Sha256::new();
-    for bit in 0..BITS {
-        add_pair(&mut hasher, signature, &hash, bit);
+    for group in 0..BITS / 4 {
+        add_pairs(&mut hasher, signature, &hash, 4 * group);
     }
     hasher.finalize()
 }
 
-// Adds the public hashes of both values of a bit that a signature of this hash shows.
-fn add_pair(hasher: &mut Sha256, signature: &[u8], hash: &[u8; 32], bit: u16)
+// Adds the public hashes of both values of four bits, from this one on, that a signature of this hash shows.
+fn add_pairs(hasher: &mut Sha256, signature: &[u8], hash: &[u8; 32], first: u16)
+    requires whole { length signature.now ≡ 16577 }
+    requires bits { first + 3 < BITS }
+    ensures { TakesIn (four_joined (shown_pair signature.now hash.now) first) hasher.old hasher.new }
+{
+    let own = hashes_of_shown(signature, first);
+    for i in 0..4 {
+        add_pair(hasher, signature, hash, first + i, &own[i as usize]);
+    }
+}
+
+// The hashes of the secrets that a signature shows of four bits, from this one on.
+fn hashes_of_shown(signature: &[u8], first: u16) -> [[u8; 32]; 4]
+    requires whole { length signature.now ≡ 16577 }
+    requires bits { first + 3 < BITS }
+    ensures { result ≡ map (λ bit. sha256 (shown_secret signature.now bit)) (four_from first) }
+{
+    digest_each([
+        secret_shown(signature, first),
+        secret_shown(signature, first + 1),
+        secret_shown(signature, first + 2),
+        secret_shown(signature, first + 3),
+    ])
+}
+
+// The secret that a signature shows of a bit.
+fn secret_shown(signature: &[u8], bit: u16) -> &[u8]
     requires whole { length signature.now ≡ 16577 }
     requires bit { bit < BITS }
-    ensures { TakesIn (shown_pair signature.now hash.now bit) hasher.old hasher.new }
+    ensures value { result.now ≡ shown_secret signature.now bit }
+    ensures length { length result.now ≡ 32 }
 {
     let at = 1 + 64 * bit as usize;
-    let own = Sha256::digest(&signature[at..at + 32]);
-    let other = &signature[at + 32..at + 64];
+    &signature[at..at + 32]
+}
+
+// Adds the public hashes of both values of a bit that a signature of this hash shows. One is the hash of its secret.
+fn add_pair(hasher: &mut Sha256, signature: &[u8], hash: &[u8; 32], bit: u16, own: &[u8; 32])
+    requires whole { length signature.now ≡ 16577 }
+    requires bit { bit < BITS }
+    requires own { own.now ≡ sha256 (shown_secret signature.now bit) }
+    ensures { TakesIn (shown_pair signature.now hash.now bit) hasher.old hasher.new }
+{
+    let at = 33 + 64 * bit as usize;
+    let other = &signature[at..at + 32];
     if bit_of(hash, bit) == 0 {
         hasher.update(own);
         hasher.update(other);

@@ -2,7 +2,7 @@ use Rattle.std.proofs.Common.{◌≡◌, ◌∙◌, ap, rules}
 use Rattle.terms.specs.Parties.{party_number}
 use Rattle.authenticator.specs.Keys.{mac_between}
 use Rattle.authenticator.specs.Mac.{hmac_of}
-use Rattle.authenticator.proofs.Entries.{entries-push}
+use Rattle.schedule_world.proofs.Entries.{entries-push}
 use Rattle.schedule_world.proofs.making.macs_for.Goals as goal
 
 pub loop-receiver-preserved : goal.loop-receiver-preserved

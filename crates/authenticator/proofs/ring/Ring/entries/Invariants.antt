@@ -1,4 +1,5 @@
-use Rattle.std.proofs.Common.{◌≡◌, map, take}
+use Rattle.std.proofs.Common.{◌≡◌, ◌++◌, map}
+use Rattle.std.specs.Slice.Iter.{chunks_rest, chunks_size}
 use Rattle.wire_format.specs.Lists.{Each}
 use Rattle.wire_format.specs.Spelling.{IsMac}
 use Rattle.terms.specs.Parties.{party_number}
@@ -6,9 +7,12 @@ use Rattle.wire_format.specs.Views.{mac_data}
 use Rattle.authenticator.specs.Sealing.{entry_for}
 use Rattle.authenticator.proofs.ring.Ring.entries.Given as goal
 
-abbrev pub invariant-loop-receiver : goal.invariant-loop-receiver
-invariant-loop-receiver l = record {
-  made : map mac_data l.entries.items ≡ map (entry_for l.self.seed l.sender l.text) (map party_number (take l.receiver-index l.receivers));
+-- the entries made, and those of the receivers that are left, are all
+abbrev pub invariant-loop-group : goal.invariant-loop-group
+invariant-loop-group l = record {
+  made : map mac_data l.entries.items ++ map (entry_for l.self.seed l.sender l.text) (map party_number (chunks_rest l.group-iterator))
+      ≡ map (entry_for l.self.seed l.sender l.text) (map party_number l.receivers);
   formed : Each IsMac (map mac_data l.entries.items);
+  size : chunks_size l.group-iterator ≡ 4;
   same : l.self ≡ l.fn.self;
 }

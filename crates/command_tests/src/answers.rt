@@ -1,0 +1,20 @@
+//! The program's answers to words that ask for nothing that has to run: help, the version, and what is wrong.
+//!
+//! Made by tools/manual of what the program answers. Where it isn't built, ./btspace takes its answers from here, and
+//! tools/manual makes the completions and the man page of them. The words of each command stand in a file of their own.
+
+mod local;
+mod program;
+mod run;
+mod schedule;
+mod show;
+
+/// Words as in a terminal, and the answer below them. In brackets stands what the answer names. A mistake begins with
+/// `error: `, and goes to standard error.
+pub static TABLES: [&str; 5] = [
+    program::ANSWERS,
+    local::ANSWERS,
+    run::ANSWERS,
+    schedule::ANSWERS,
+    show::ANSWERS,
+];

@@ -1,0 +1,245 @@
+//! Made by tools/manual.
+
+pub const ANSWERS: &str = r#"$ btspace
+error: 'btspace' requires a subcommand but one was not provided
+  [subcommands: local, run, schedule, show, help]
+
+Usage: btspace <COMMAND>
+
+For more information, try '--help'.
+$ btspace --help
+$ btspace -h
+$ btspace help
+A tuple space
+
+Usage: btspace <COMMAND>
+
+Commands:
+  local     Runs a script on a space of its own and prints a result line for each operation
+  run       Runs a script on a running cluster and prints a result line for each operation
+  schedule  Runs a schedule in a world of replicas and clients and prints what was accepted
+  show      Prints the tuple that is encoded by these bytes
+  help      Print this message or the help of the given subcommand(s)
+
+Options:
+  -h, --help     Print help
+  -V, --version  Print version
+$ btspace --version
+$ btspace -V
+btspace 0.1.0
+$ btspace [nope]
+$ btspace help [nope]
+error: unrecognized subcommand 'nope'
+
+Usage: btspace <COMMAND>
+
+For more information, try '--help'.
+$ btspace [-q]
+error: unexpected argument '-q' found
+
+Usage: btspace <COMMAND>
+
+For more information, try '--help'.
+$ btspace [--nope]
+error: unexpected argument '--nope' found
+
+Usage: btspace <COMMAND>
+
+For more information, try '--help'.
+$ btspace [locall]
+error: unrecognized subcommand 'locall'
+
+  tip: a similar subcommand exists: 'local'
+
+Usage: btspace <COMMAND>
+
+For more information, try '--help'.
+$ btspace [runn]
+error: unrecognized subcommand 'runn'
+
+  tip: a similar subcommand exists: 'run'
+
+Usage: btspace <COMMAND>
+
+For more information, try '--help'.
+$ btspace [schedulee]
+error: unrecognized subcommand 'schedulee'
+
+  tip: a similar subcommand exists: 'schedule'
+
+Usage: btspace <COMMAND>
+
+For more information, try '--help'.
+$ btspace [schedlue]
+error: unrecognized subcommand 'schedlue'
+
+  tip: some similar subcommands exist: 'help', 'schedule'
+
+Usage: btspace <COMMAND>
+
+For more information, try '--help'.
+$ btspace [showw]
+error: unrecognized subcommand 'showw'
+
+  tip: a similar subcommand exists: 'show'
+
+Usage: btspace <COMMAND>
+
+For more information, try '--help'.
+$ btspace [hepl]
+error: unrecognized subcommand 'hepl'
+
+  tip: some similar subcommands exist: 'schedule', 'help'
+
+Usage: btspace <COMMAND>
+
+For more information, try '--help'.
+$ btspace [helpp]
+error: unrecognized subcommand 'helpp'
+
+  tip: a similar subcommand exists: 'help'
+
+Usage: btspace <COMMAND>
+
+For more information, try '--help'.
+$ btspace -- local
+error: unexpected argument 'local' found
+
+  tip: subcommand 'local' exists; to use it, remove the '--' before it
+
+Usage: btspace <COMMAND>
+
+For more information, try '--help'.
+$ btspace -- run
+error: unexpected argument 'run' found
+
+  tip: subcommand 'run' exists; to use it, remove the '--' before it
+
+Usage: btspace <COMMAND>
+
+For more information, try '--help'.
+$ btspace -- schedule
+error: unexpected argument 'schedule' found
+
+  tip: subcommand 'schedule' exists; to use it, remove the '--' before it
+
+Usage: btspace <COMMAND>
+
+For more information, try '--help'.
+$ btspace -- show
+error: unexpected argument 'show' found
+
+  tip: subcommand 'show' exists; to use it, remove the '--' before it
+
+Usage: btspace <COMMAND>
+
+For more information, try '--help'.
+$ btspace -- help
+error: unexpected argument 'help' found
+
+  tip: subcommand 'help' exists; to use it, remove the '--' before it
+
+Usage: btspace <COMMAND>
+
+For more information, try '--help'.
+$ btspace [--helpp]
+error: unexpected argument '--helpp' found
+
+  tip: a similar argument exists: '--help'
+
+Usage: btspace --help <COMMAND>
+
+For more information, try '--help'.
+$ btspace [--versionn]
+error: unexpected argument '--versionn' found
+
+  tip: a similar argument exists: '--version'
+
+Usage: btspace --version <COMMAND>
+
+For more information, try '--help'.
+$ btspace --help=[nope]
+error: unexpected value 'nope' for '--help' found; no more were expected
+
+Usage: btspace --help <COMMAND>
+
+For more information, try '--help'.
+$ btspace --version=[nope]
+error: unexpected value 'nope' for '--version' found; no more were expected
+
+Usage: btspace --version <COMMAND>
+
+For more information, try '--help'.
+$ btspace help local
+Runs a script on a space of its own and prints a result line for each operation
+
+Usage: btspace local [OPTIONS] <SCRIPT>
+
+Arguments:
+  <SCRIPT>  The file of the script, a line for each operation
+
+Options:
+      --space <VERSION>  The version of the space; one of version 2 also takes wide numbers and inAll [default: 1] [possible values: 1, 2]
+  -h, --help             Print help
+$ btspace help run
+Runs a script on a running cluster and prints a result line for each operation
+
+Usage: btspace run <CONFIG> <SCRIPT>
+
+Arguments:
+  <CONFIG>  The file of the configuration, in TOML, which names no faulty party
+  <SCRIPT>  The file of the script, a line for each operation, which the clients take in turn
+
+Options:
+  -h, --help  Print help
+
+The journal takes 65,536 entries, or as many as the configuration says. One client's writes that fit:
+about 1,250 at f = 1, 490 at f = 2, 260 at f = 3. Reads that fit: about 4,300, 2,700, 1,980.
+$ btspace help schedule
+Runs a schedule in a world of replicas and clients and prints what was accepted
+
+Usage: btspace schedule [OPTIONS] <CONFIG> <FILE>
+
+Arguments:
+  <CONFIG>  The file of the configuration, in TOML
+  <FILE>    The file of the schedule, a line for each step
+
+Options:
+      --trace    Print the entries of the trace before the report, a line each
+      --picture  Print the run as an SVG message sequence chart in place of the report
+  -h, --help     Print help
+$ btspace help show
+Prints the tuple that is encoded by these bytes
+
+Usage: btspace show <HEX>
+
+Arguments:
+  <HEX>  The bytes of a tuple, two hexadecimal digits a byte
+
+Options:
+  -h, --help  Print help
+$ btspace [--spacee] local
+error: unexpected argument '--spacee' found
+
+  tip: 'local --space' exists
+
+Usage: btspace <COMMAND>
+
+For more information, try '--help'.
+$ btspace [--tracee] schedule
+error: unexpected argument '--tracee' found
+
+  tip: 'schedule --trace' exists
+
+Usage: btspace <COMMAND>
+
+For more information, try '--help'.
+$ btspace [--picturee] schedule
+error: unexpected argument '--picturee' found
+
+  tip: 'schedule --picture' exists
+
+Usage: btspace <COMMAND>
+
+For more information, try '--help'.
+"#;

@@ -1,0 +1,4 @@
+pub mod Lanes
+pub mod Midstates
+pub mod Rounds
+pub mod Tails

@@ -1,0 +1,3 @@
+mod Shortest
+mod Timing
+mod Lasting

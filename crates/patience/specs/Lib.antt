@@ -1,0 +1,4 @@
+pub mod Standings
+pub mod Moments
+pub mod PatienceView
+pub mod Laws

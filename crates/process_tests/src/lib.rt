@@ -1,0 +1,11 @@
+//! Tests of what a process of a party stands on: records (`records`) and timers (`patience`).
+#![tactic(auto)]
+
+#[cfg(test)]
+mod readers;
+#[cfg(test)]
+mod reading;
+#[cfg(test)]
+mod timers;
+#[cfg(test)]
+mod writing;

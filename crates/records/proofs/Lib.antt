@@ -1,0 +1,4 @@
+pub mod Framing
+mod Parts
+mod Telling
+mod Putting
