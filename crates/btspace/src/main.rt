@@ -12,16 +12,19 @@
 
 ghost use Rattle.std.specs.Prelude.{◌≡◌};
 
-use cluster_run::{Open, is_faultless};
-use command_line::{NoRequest, Printed, Request, SpaceVersion, read_words};
+use cluster_run::{Drill, Open};
+use command_line::{Drills, NoRequest, Printed, Request, SpaceVersion, read_words};
 use config_text::Settings;
 use events::Config;
 use journal::Opened;
 use one_space::{
-    Complaint, STANDARD_INPUT, complain, print_tuple, run_script, script_at, words_of,
+    Complaint, EscapedErrors, LocalRequest, StandardError, Terminals, complain, is_standard_input,
+    print_tuple, run_script, script_at, words_of,
 };
-use run_command::{Display, end_run, most_operations, run};
-use schedule_command::{end_schedule, read_settings, schedule};
+use run_command::{
+    Display, Forecast, RunFault, drilled, drills_of, end_run, most_operations, run,
+};
+use schedule_command::{ScheduleFault, end_schedule, read_settings, schedule};
 use space::Version;
 use std::alloc::Global;
 use std::io::{IsTerminal, Read};
@@ -35,11 +38,14 @@ use std::{fs, io};
 use tuple_codec::Op;
 
 fn main(rt: HostRuntime) -> ExitCode {
-    let is_terminal = rt.stderr().is_terminal();
-    ExitCode::from(act_on_words(&rt, is_terminal))
+    let terminals = Terminals {
+        input: rt.stdin().is_terminal(),
+        errors: rt.stderr().is_terminal(),
+    };
+    ExitCode::from(act_on_words(&rt, terminals))
 }
 
-// Does the request of the words, and gives the status. Standard error may be a terminal.
+// Does the request of the words, and gives the status.
 fn act_on_words<
     R: Files
         + Env
@@ -53,13 +59,13 @@ fn act_on_words<
         + Copy
         + Send
         + 'static,
->(rt: &R, is_terminal: bool) -> u8 {
+>(rt: &R, terminals: Terminals) -> u8 {
     let words = match words_of(rt) {
         Ok(words) => words,
         Err(status) => return status,
     };
-    match read_words(rt, words.as_slice()) {
-        Ok(request) => act_on(rt, is_terminal, request),
+    match read_words(&(EscapedErrors(rt), rt.alloc()), words.as_slice()) {
+        Ok(request) => act_on(rt, terminals, request),
         Err(why) => end_words(rt, why),
     }
 }
@@ -76,10 +82,35 @@ fn act_on<
         + Copy
         + Send
         + 'static,
->(rt: &R, is_terminal: bool, request: Request<'_>) -> u8 {
+>(rt: &R, terminals: Terminals, request: Request<'_>) -> u8 {
     match request {
-        Request::Local { script, space } => run_script(rt, version_of(space), script),
-        Request::Run { config, script } => run_on_cluster(rt, is_terminal, config, script),
+        Request::Local {
+            script,
+            space,
+            keeps_going,
+        } => {
+            let request = LocalRequest {
+                script,
+                version: version_of(space),
+                keeps_going,
+            };
+            run_script(rt, terminals, request)
+        }
+        Request::Run {
+            config,
+            script,
+            drills,
+            has_summary,
+        } => {
+            let asked = RunRequest {
+                config,
+                script,
+                drills,
+                has_summary,
+                is_terminal: terminals.errors,
+            };
+            run_on_cluster(rt, asked)
+        }
         Request::Show { digits } => print_tuple(rt, digits),
         Request::Schedule {
             config,
@@ -99,6 +130,16 @@ fn version_of(asked: SpaceVersion) -> Version
     }
 }
 
+// What `run` is asked for, and whether standard error is a terminal.
+#[derive(Clone, Copy)]
+struct RunRequest<'a> {
+    config: &'a str,
+    script: &'a str,
+    drills: Drills,
+    has_summary: bool,
+    is_terminal: bool,
+}
+
 // The configuration is read and judged before the script is read.
 fn run_on_cluster<
     R: Files
@@ -112,19 +153,24 @@ fn run_on_cluster<
         + Copy
         + Send
         + 'static,
->(rt: &R, is_terminal: bool, config: &str, script: &str) -> u8 {
-    if is_read_twice(config, script) {
-        return complain(rt, Complaint::Unreadable { path: script });
+>(rt: &R, asked: RunRequest<'_>) -> u8 {
+    if is_read_twice(asked.config, asked.script) {
+        return refuse_second(rt, asked.script);
     }
-    match settings_at(rt, config) {
-        Ok(settings) => run_cluster(rt, is_terminal, &settings, script),
+    match settings_at(rt, asked.config) {
+        Ok(settings) => run_cluster(rt, &settings, asked),
         Err(status) => status,
     }
 }
 
 // Standard input can be read only once.
 fn is_read_twice(config: &str, file: &str) -> bool {
-    config == STANDARD_INPUT && file == STANDARD_INPUT
+    is_standard_input(config) && is_standard_input(file)
+}
+
+fn refuse_second<R: Eprint>(rt: &R, path: &str) -> u8 {
+    let complaint = Complaint::Unreadable { path };
+    complain(&mut StandardError::new(rt), complaint, "the standard input is read for the first file")
 }
 
 // The configuration is read and judged before the schedule is read.
@@ -135,7 +181,7 @@ fn run_configured<R: Files + Input + Print + Eprint + AllocGlobal>(
     printed: Printed,
 ) -> u8 {
     if is_read_twice(config, file) {
-        return complain(rt, Complaint::Unreadable { path: file });
+        return refuse_second(rt, file);
     }
     match settings_at(rt, config) {
         Ok(settings) => run_schedule(rt, &settings.config, file, printed),
@@ -143,17 +189,14 @@ fn run_configured<R: Files + Input + Print + Eprint + AllocGlobal>(
     }
 }
 
-// Without a configuration it gives the status to end with.
-fn settings_at<R: Files + Input + Eprint + AllocGlobal>(
-    rt: &R,
-    path: &str,
-) -> Result<Settings, u8> {
-    let settings = if path == STANDARD_INPUT {
+// The settings in the file at this path, or the status after a complaint.
+fn settings_at<R: Files + Input + Eprint + AllocGlobal>(rt: &R, path: &str) -> Result<Settings, u8> {
+    let settings = if is_standard_input(path) {
         read_settings(rt.alloc(), rt.reader())
     } else {
         match fs::open(rt, path) {
             Ok(file) => read_settings(rt.alloc(), file),
-            Err(error) => return Err(complain(rt, Complaint::of_open(&error, path))),
+            Err(error) => Err(ScheduleFault::of_read(error)),
         }
     };
     match settings {
@@ -168,12 +211,12 @@ fn run_schedule<R: Files + Input + Print + Eprint + AllocGlobal>(
     path: &str,
     printed: Printed,
 ) -> u8 {
-    if path == STANDARD_INPUT {
+    if is_standard_input(path) {
         return run_steps(rt, config, rt.reader(), path, printed);
     }
     match fs::open(rt, path) {
         Ok(file) => run_steps(rt, config, file, path, printed),
-        Err(error) => complain(rt, Complaint::of_open(&error, path)),
+        Err(error) => end_schedule(rt, &ScheduleFault::of_read(error), path),
     }
 }
 
@@ -190,7 +233,7 @@ fn run_steps<R: Print + Eprint + AllocGlobal, I: Read + Drop>(
     }
 }
 
-// The whole script is read and judged before anything starts.
+// The script is read and judged before anything starts.
 fn run_cluster<
     R: Files
         + Input
@@ -203,35 +246,51 @@ fn run_cluster<
         + Copy
         + Send
         + 'static,
->(rt: &R, is_terminal: bool, settings: &Settings, path: &str) -> u8 {
-    if !is_faultless(&settings.config) {
-        return complain(rt, Complaint::Configuration);
-    }
-    match script_at(rt, path, most_operations(settings)) {
-        Ok(ops) => run_operations(rt, is_terminal, settings, ops),
-        Err(complaint) => complain(rt, complaint),
+>(rt: &R, settings: &Settings, asked: RunRequest<'_>) -> u8 {
+    let Ok(drills) = drills_of(rt.alloc(), &asked.drills) else {
+        return end_run(rt, &RunFault::NoMemory);
+    };
+    let settings = match drilled(rt.alloc(), settings, drills.as_slice()) {
+        Ok(settings) => settings,
+        Err(fault) => return end_run(rt, &fault),
+    };
+    match script_at(rt, asked.script, most_operations(&settings)) {
+        Ok(ops) => run_operations(rt, &settings, asked, drills, ops),
+        Err(status) => status,
     }
 }
 
 fn run_operations<R: Print + Eprint + AllocGlobal + Threads + Wait + Clock + Copy + Send + 'static>(
     rt: &R,
-    is_terminal: bool,
     settings: &Settings,
+    asked: RunRequest<'_>,
+    drills: Vec<(u16, Drill)>,
     ops: Vec<Op<Global>>,
 ) -> u8 {
-    let mut display = Display::new(rt, is_terminal, ops.len());
+    let forecast = Forecast::of(settings, ops.as_slice());
+    if asked.is_terminal && !forecast.fits() {
+        let _ = eprintln!(rt; "{forecast}");
+    }
+    let mut display = Display::new(rt, asked.is_terminal, ops.len());
     let ending = run::<Brand, R, _, _, _>(
         rt,
         rt.alloc(),
         Opened::new(),
         settings,
         Open,
+        drills,
         ops,
         &mut io::writer(rt),
         &mut display,
+        asked.has_summary,
     );
     match ending {
-        Ok(()) => 0,
+        Ok(summary) => {
+            if let Some(summary) = summary {
+                let _ = eprintln!(rt; "{summary}");
+            }
+            0
+        }
         Err(fault) => end_run(rt, &fault),
     }
 }
@@ -240,11 +299,13 @@ fn run_operations<R: Print + Eprint + AllocGlobal + Threads + Wait + Clock + Cop
 fn end_words<R: Eprint>(rt: &R, why: NoRequest) -> u8
     ensures shown { why ≡ NoRequest.Shown → result ≡ 0 }
     ensures wrong { why ≡ NoRequest.Wrong → result ≡ 2 }
-    ensures stopped { why ≡ NoRequest.Stopped → result ≡ 3 }
+    ensures memory { why ≡ NoRequest.NoMemory → result ≡ 3 }
 {
+    let mut console = StandardError::new(rt);
     match why {
         NoRequest::Shown => 0,
         NoRequest::Wrong => 2,
-        NoRequest::Stopped => complain(rt, Complaint::Stopped),
+        NoRequest::Unprinted(error) => complain(&mut console, Complaint::of_write(&error), error),
+        NoRequest::NoMemory => complain(&mut console, Complaint::Stopped, "out of memory"),
     }
 }

@@ -8,15 +8,15 @@ use thiserror::Error;
 /// Why a run has no answers.
 #[derive(Clone, Copy, Debug, PartialEq, Eq, Error)]
 pub enum RunFault {
-    /// The configuration names a faulty party.
+    /// The drills are not those of the configuration's faulty replicas, or a client is faulty.
     #[error("the configuration names a faulty party")]
     BadConfig,
     /// There are more hands than clients.
     #[error("no such client")]
     NoClient,
-    /// The journal takes fewer than two entries for each operation, one of its call and one of its answer.
-    #[error("the journal is too small for so many operations")]
-    NoRoom,
+    /// The journal takes fewer entries than the operations can't do without.
+    #[error("the journal is too small for so many operations: each takes at least {least} entries")]
+    NoRoom { least: u32 },
     /// A call was not answered.
     #[error("a call was not answered: {0}")]
     Call(CallFault),

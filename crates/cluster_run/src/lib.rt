@@ -24,10 +24,12 @@ mod fault;
 mod patience;
 mod progress;
 mod report;
+mod room;
 mod running;
 
 pub use fault::RunFault;
 pub use progress::{Unwatched, Watch};
 pub use report::{Parties, Report};
+pub use room::least_entries;
 pub use running::run;
-pub use space_node::{Gate, Open, is_faultless};
+pub use space_node::{Drill, Gate, Open, is_faultless};

@@ -1,8 +1,10 @@
 //! The report of a run.
 
+use events::Entry;
 use journal::Naming;
 use space_node::{ClientHandle, Run};
 use std::alloc::Global;
+use terms::Party;
 use tuple_codec::Answer;
 
 /// The report of a run.
@@ -20,4 +22,16 @@ pub struct Report<N: Naming> {
 pub struct Parties<N: Naming> {
     pub(crate) run: Run<N>,
     pub(crate) handles: Vec<ClientHandle<N>>,
+}
+
+impl<N: Naming> Parties<N> {
+    /// The entries of all parties, the oldest first.
+    pub fn trace(&self) -> &[Entry] {
+        self.run.trace.as_slice()
+    }
+
+    /// The parties that had stopped: the replicas by number, and then the clients.
+    pub fn stopped(&self) -> &[Party] {
+        self.run.stopped.as_slice()
+    }
 }

@@ -1,10 +1,11 @@
 //! A run, from the operations to their answers.
 
-ghost use Rattle.std.specs.Prelude.{◌≡◌, ◌↔◌, ◌<◌, ◌*◌, ◌/◌, ◌≤◌, [], IfOk, IsTrue, OnOk, length, map};
+ghost use Rattle.std.specs.Prelude.{◌≡◌, ◌↔◌, ◌<◌, ◌*◌, ◌≤◌, [], IfOk, IsTrue, OnOk, length, map};
 ghost use Rattle.tuple_codec.specs.OperationView.{operation_of, outcome_of};
 ghost use Rattle.cluster_run.specs.Answers.{AnswersRun};
+ghost use Rattle.cluster_run.specs.Room.{least_entries};
 ghost use Rattle.cluster_run.specs.declared.fault.RunFault.TheVariants as RunFault;
-ghost use Rattle.space_node.specs.Runs.{IsFaultless};
+ghost use Rattle.space_node.specs.Drills.{MayStart, replicas_of};
 ghost use Rattle.cluster_run.specs.Hands.{HandsAreCalled, HasTrace};
 
 use crate::calling::{AllCalled, Callers, Members, join_clients, start_clients, wait_for_clients};
@@ -14,7 +15,8 @@ use crate::progress::{Progress, Watch};
 use crate::report::{Parties, Report};
 use events::Config;
 use journal::{Naming, Opened};
-use space_node::{ClientHandle, Cluster, FinishFault, Gate, Run, StartFault, is_faultless};
+use crate::room::least_entries;
+use space_node::{ClientHandle, Cluster, Drill, FinishFault, Gate, Run, StartFault, may_start};
 use std::alloc::Global;
 use std::sync::{Arc, Wait};
 use std::thread::Threads;
@@ -22,9 +24,9 @@ use std::time::Clock;
 use tuple_codec::Op;
 
 /// Starts a cluster whose journal takes up to `limit` entries, 1 to 65,536 in the program, and has its clients call
-/// the operations. Client `i` modulo their number calls operation `i`, counted from 0. Each client calls its own in
-/// their order, in a thread of its own. The answers are in the order of the operations, and the parties are as the run
-/// left them.
+/// the operations. Each faulty replica of the configuration does the drill with its number. Client `i` modulo the number
+/// of clients calls operation `i`, counted from 0. Each client calls its own in their order, in a thread of its own. The
+/// answers are in the order of the operations, and the parties are as the run left them.
 ///
 /// About each second it tells each client that time went by, and then `watch` how many operations are answered. After
 /// three seconds without an answer, and each time after twice as many, it tells the replicas too. So they replace a
@@ -32,9 +34,9 @@ use tuple_codec::Op;
 ///
 /// # Errors
 ///
-/// BadConfig exactly if the configuration names a faulty party, and otherwise NoRoom exactly if the limit is below
-/// two entries an operation. Nothing has started then. The run ends at the first of the others, and all threads have
-/// ended then:
+/// BadConfig exactly if the drills are not those of the faulty replicas, each once and in any order, or a client is
+/// faulty. Otherwise NoRoom exactly if the limit is below [`least_entries`] for each operation. Nothing has started
+/// then. The run ends at the first of the others, and all threads have ended then:
 ///
 /// - Call if a call was not answered
 /// - TooManyStopped if more replicas have stopped than may fail
@@ -54,6 +56,7 @@ pub fn run<
     config: &Config,
     limit: u32,
     gate: G,
+    drills: Vec<(u16, Drill)>,
     ops: Vec<Op<Global>>,
     watch: &mut W,
 ) -> Result<Report<N>, RunFault>
@@ -61,30 +64,45 @@ pub fn run<
     requires book { opened ≡ N.book }
     ensures answers { IfOk result
         (λ report. AnswersRun N.config (map operation_of ops.items) (map outcome_of report.answers.items)) }
-    ensures faulty { (result ≡ Err RunFault.BadConfig) ↔ (¬ IsFaultless config.now) }
-    ensures room { (result ≡ Err RunFault.NoRoom) ↔ (IsFaultless config.now × (limit < length ops.items * 2)) }
+    ensures faulty { (result ≡ Err RunFault.BadConfig)
+        ↔ (¬ MayStart config.now (replicas_of drills.items)) }
+    ensures room { (result ≡ Err (RunFault.NoRoom (least_entries config.now))) ↔ (MayStart config.now (replicas_of drills.items)
+        × (limit < length ops.items * least_entries config.now)) }
 {
-    if !is_faultless(config) {
+    if !may_start(config, drills.as_slice()) {
         return Err(RunFault::BadConfig);
     }
-    if !has_room(limit, ops.len()) {
-        return Err(RunFault::NoRoom);
+    let least = least_entries(config);
+    if !has_room(limit, ops.len(), least) {
+        return Err(RunFault::NoRoom { least });
     }
-    Ok(run_faultless::<N, R, G, W>(rt, alloc, opened, config, limit, gate, ops, watch)?)
+    let run = run_drilled::<N, R, G, W>(
+        rt,
+        alloc,
+        opened,
+        config,
+        limit,
+        gate,
+        drills,
+        ops,
+        watch,
+    );
+    Ok(run?)
 }
 
-// Each operation takes at least an entry of its call and one of its answer.
-fn has_room(limit: u32, count: usize) -> bool
-    ensures { IsTrue result ↔ (count * 2 ≤ limit) }
+// Whether the journal may take so many operations, if each takes at least so many entries.
+fn has_room(limit: u32, count: usize, least: u32) -> bool
+    requires some { 0 < least }
+    ensures { IsTrue result ↔ (count * least ≤ limit) }
 {
     match u32::try_from(count) {
-        Ok(count) => count <= limit / 2,
+        Ok(count) => count <= limit / least,
         Err(_) => false,
     }
 }
 
-// The run of a cluster whose configuration names no faulty party.
-fn run_faultless<
+// The run of a cluster that may start with these drills.
+fn run_drilled<
     N: Naming + Send + Sync + 'static,
     R: Threads + Wait + Clock + Copy + Send + 'static,
     G: Gate + Send + Sync + Drop + 'static,
@@ -96,12 +114,13 @@ fn run_faultless<
     config: &Config,
     limit: u32,
     gate: G,
+    drills: Vec<(u16, Drill)>,
     ops: Vec<Op<Global>>,
     watch: &mut W,
 ) -> Result<Report<N>, LateFault>
     requires config { config.now ≡ N.config }
     requires book { opened ≡ N.book }
-    requires faultless { IsFaultless config.now }
+    requires may { MayStart config.now (replicas_of drills.items) }
     ensures { IfOk result
         (λ report. AnswersRun N.config (map operation_of ops.items) (map outcome_of report.answers.items)) }
 {
@@ -110,7 +129,9 @@ fn run_faultless<
     let hands = deal(alloc, clients, ops)?;
     let progress = Arc::new(alloc, Progress::new())?;
     let mut all = AllCalled::new(alloc);
-    let mut cluster = match Cluster::<N>::start(rt, alloc, opened, config, limit, gate) {
+    let started =
+        Cluster::<N>::start_with_drills(rt, alloc, opened, config, limit, gate, drills);
+    let mut cluster = match started {
         Ok(cluster) => cluster,
         Err(StartFault::BadConfig) => unreachable!(),
         Err(StartFault::NoThread) => return Err(LateFault::NoThread),
@@ -180,7 +201,6 @@ fn finish<N: Naming + Send + Sync + 'static, R: Threads + Wait>(
     cluster: Cluster<N>,
     clients: &[ClientHandle<N>],
 ) -> Result<Run<N>, LateFault>
-    requires faultless { IsFaultless N.config }
     ensures { OnOk result (HasTrace N.config clients.now) }
 {
     match cluster.finish(rt, alloc, clients) {

@@ -4,39 +4,48 @@
 //!
 //! # What is proved
 //!
-//! `read_words` is safe and returns, on any words. If `clap` runs out of memory, it gives `Stopped`. Only help and
-//! the version give `Shown`, and neither of them gives `Wrong` (`say`). A request is of the subcommand's name; each of
-//! its texts has the value of the argument that `IsRequest` names, and a space is of version 2 exactly if `--space` has
-//! the value 2 (`request_in`). `--picture` asks for the picture, and `--trace` for the trace (`printed_of`). The tests
-//! of `btspace` show which words are a request, that not all others are `Stopped`, which values `--space` takes, and
-//! what the program prints.
+//! `read_words` is safe and returns, on any words. If `clap` runs out of memory, it gives `NoMemory`. Only help and the
+//! version give `Shown`, and neither of them gives `Wrong` (`say`). A request has the values that `clap` found, each in
+//! its own field: `IsRequest` says which argument or option a field is of (`request_in`). A drill is the one that its
+//! text names (`drill_of`). The tests of `btspace` show which words are a request, that not all others are `NoMemory`,
+//! which values an option takes, and what the program prints.
 #![tactic(auto)]
 
-ghost use Rattle.std.specs.Prelude.{◌≡◌, ◌≢◌, ◌⊎◌, IfSome, codes};
-ghost use Rattle.clap.specs.Values.{kind_of};
-ghost use Rattle.command_line.specs.Requests.{AsksFor, IsRequest, IsSet, IsUnset};
+mod drills;
 
+ghost use Rattle.std.specs.Prelude.{◌≡◌, ◌≢◌, ◌⊎◌, IfSome, IfErr};
+ghost use Rattle.clap.specs.Values.{kind_of};
+ghost use Rattle.command_line.specs.Requests.{AsksFor, IsFlag, IsPrinted, IsRequest, IsShown};
+
+pub use crate::drills::{DrillKind, Drilled, Drills, MOST_DRILLS};
+
+use crate::drills::{DRILLS, drills_among};
 use clap::error::ErrorKind;
 use clap::{Arg, ArgAction, ArgMatches, Command, Error, value_parser};
 use std::alloc::{AllocError, Global};
 use std::convert::AsStr;
+use std::io;
 
 /// A request of the command line.
 #[derive(Clone, Copy, Debug, PartialEq, Eq)]
 pub enum Request<'a> {
-    /// Run the script at this path on a space of this version.
+    /// Run the script at this path on a space of this version, after refused lines too if it keeps going.
     Local {
         script: &'a str,
         space: SpaceVersion,
+        keeps_going: bool,
     },
     /// Show the tuple of these digits.
     Show {
         digits: &'a str,
     },
-    /// Run the script at the second path on a cluster of the configuration at the first.
+    /// Run the script at the second path on a cluster of the configuration at the first, whose drilled replicas lie.
+    /// Summarize the run at its end, if that is asked for.
     Run {
         config: &'a str,
         script: &'a str,
+        drills: Drills,
+        has_summary: bool,
     },
     /// Run the schedule at the second path in the configuration at the first.
     Schedule {
@@ -72,14 +81,15 @@ pub struct Positions {
 }
 
 /// Why there is no request.
-#[derive(Clone, Copy, Debug, PartialEq, Eq)]
+#[derive(Clone, Copy, Debug)]
 pub enum NoRequest {
     /// The words ask for help or the version, which was printed on standard output.
     Shown,
-    /// The words are wrong, and standard error says how if it can be written.
+    /// The words are wrong, and standard error says how, if it can be written.
     Wrong,
-    /// Memory ran out, or the help or the version can't be printed.
-    Stopped,
+    /// The help or the version can't be printed.
+    Unprinted(io::Error),
+    NoMemory,
 }
 
 /// Reads the words; the first is the program's name. Prints help or the version if the words ask for it, and the
@@ -131,11 +141,14 @@ fn request_in<'a>(name: &str, given: &ArgMatches<'a>) -> Option<Request<'a>>
         Some(Request::Local {
             script: given.get_str("SCRIPT")?,
             space: space_version(given),
+            keeps_going: flag_of(given, "keep-going"),
         })
     } else if name == "run" {
         Some(Request::Run {
             config: given.get_str("CONFIG")?,
             script: given.get_str("SCRIPT")?,
+            drills: drills_among(given.get_strs("drill").unwrap_or(&[])),
+            has_summary: flag_of(given, "summary"),
         })
     } else if name == "show" {
         Some(Request::Show {
@@ -163,17 +176,19 @@ fn space_version(given: &ArgMatches<'_>) -> SpaceVersion
     }
 }
 
+fn flag_of(given: &ArgMatches<'_>, name: &str) -> bool
+    ensures { IsFlag given.now name.now result }
+{
+    given.get_flag(name)
+}
+
 // The two options exclude each other.
 fn printed_of(given: &ArgMatches<'_>) -> Printed
-    ensures picture { IsSet given.now (codes "picture") → result ≡ Printed.Picture }
-    ensures trace { IsUnset given.now (codes "picture") → IsSet given.now (codes "trace")
-        → result ≡ Printed.Trace }
-    ensures report { IsUnset given.now (codes "picture") → IsUnset given.now (codes "trace")
-        → result ≡ Printed.Report }
+    ensures { IsPrinted given.now result }
 {
-    if given.get_flag("picture") {
+    if flag_of(given, "picture") {
         Printed::Picture(positions_of(given))
-    } else if given.get_flag("trace") {
+    } else if flag_of(given, "trace") {
         Printed::Trace
     } else {
         Printed::Report
@@ -214,10 +229,15 @@ fn local<'a>(alloc: Global) -> Result<Command<'a>, AllocError> {
     Command::new(alloc, "local")
         .about("Runs a script on a space of its own and prints a result line for each operation")
         .arg(space_option(alloc))?
+        .arg(flag(
+            alloc,
+            "keep-going",
+            "Go on after a refused line; the status is 1 at the end if there was one",
+        ))?
         .arg(required(
             alloc,
             "SCRIPT",
-            "The file of the script, a line for each operation",
+            "The file of the script, a line for each operation, or -",
         ))
 }
 
@@ -230,7 +250,7 @@ fn space_option<'a>(alloc: Global) -> Arg<'a> {
         .help("The version of the space; one of version 2 also takes wide numbers and inAll")
 }
 
-// The numbers were measured; docs/formats.md has the table.
+// The numbers were measured; docs/figures.md has the table.
 const ROOM: &str =
     "The journal takes 65,536 entries, or as many as the configuration says. One client's writes that fit:
 about 1,250 at f = 1, 490 at f = 2, 260 at f = 3. Reads that fit: about 4,300, 2,700, 1,980.";
@@ -239,16 +259,32 @@ fn run<'a>(alloc: Global) -> Result<Command<'a>, AllocError> {
     Command::new(alloc, "run")
         .about("Runs a script on a running cluster and prints a result line for each operation")
         .after_help(ROOM)
+        .arg(drill_option(alloc))?
+        .arg(flag(
+            alloc,
+            "summary",
+            "Tell the views, numbers, entries, stopped parties and time of the run on standard error",
+        ))?
         .arg(required(
             alloc,
             "CONFIG",
-            "The file of the configuration, in TOML, which names no faulty party",
+            "The file of the configuration, in TOML, which names no faulty party, or -",
         ))?
         .arg(required(
             alloc,
             "SCRIPT",
-            "The file of the script, a line for each operation, which the clients take in turn",
+            "The file of the script, a line for each operation, which the clients take in turn, or -",
         ))
+}
+
+fn drill_option<'a>(alloc: Global) -> Arg<'a> {
+    Arg::new(alloc, "drill")
+        .long("drill")
+        .value_name("REPLICA=DRILL")
+        .action(ArgAction::Append)
+        .value_parser(DRILLS.as_slice())
+        .hide_possible_values(true)
+        .help("Let a replica lie, up to f of them: 3=silent sends nothing, 3=stale answers reads from an empty space")
 }
 
 fn schedule<'a>(alloc: Global) -> Result<Command<'a>, AllocError> {
@@ -276,11 +312,15 @@ fn schedule<'a>(alloc: Global) -> Result<Command<'a>, AllocError> {
             "to",
             "The position of the last entry that the chart shows [default: the last one]",
         )?)?
-        .arg(required(alloc, "CONFIG", "The file of the configuration, in TOML"))?
+        .arg(required(
+            alloc,
+            "CONFIG",
+            "The file of the configuration, in TOML, or -",
+        ))?
         .arg(required(
             alloc,
             "FILE",
-            "The file of the schedule, a line for each step",
+            "The file of the schedule, a line for each step, or -",
         ))
 }
 
@@ -315,23 +355,23 @@ fn position<'a>(alloc: Global, name: &'a str, help: &'a str) -> Result<Arg<'a>, 
         .requires_arg("picture")
 }
 
-// Help and the version go to standard output, errors to standard error. Wrong words stay wrong where nobody reads why.
+// Help and the version go to standard output, errors to standard error. Nobody may read these.
 fn say<R: Print + Eprint>(rt: &R, error: &Error) -> NoRequest
-    ensures memory { kind_of error.now ≡ ErrorKind.OutOfMemory → result ≡ NoRequest.Stopped }
-    ensures shown { result ≡ NoRequest.Shown → (kind_of error.now ≡ ErrorKind.DisplayHelp)
+    ensures memory { kind_of error.now ≡ ErrorKind.OutOfMemory → result ≡ NoRequest.NoMemory }
+    ensures shown { IsShown result → (kind_of error.now ≡ ErrorKind.DisplayHelp)
         ⊎ (kind_of error.now ≡ ErrorKind.DisplayVersion) }
     ensures wrong { result ≡ NoRequest.Wrong → (kind_of error.now ≢ ErrorKind.DisplayHelp)
         × (kind_of error.now ≢ ErrorKind.DisplayVersion) }
 {
     if error.kind() == ErrorKind::OutOfMemory {
-        return NoRequest::Stopped;
+        return NoRequest::NoMemory;
     }
-    let is_printed = error.print(rt).is_ok();
+    let printed = error.print(rt);
     if error.use_stderr() {
-        NoRequest::Wrong
-    } else if is_printed {
-        NoRequest::Shown
-    } else {
-        NoRequest::Stopped
+        return NoRequest::Wrong;
+    }
+    match printed {
+        Ok(()) => NoRequest::Shown,
+        Err(error) => NoRequest::Unprinted(error),
     }
 }

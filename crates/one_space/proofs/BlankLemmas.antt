@@ -13,7 +13,7 @@ use Rattle.tuple_text.specs.Lines.{operation_name, IsSkipped, IsComment}
 use Rattle.tuple_text.specs.Faults.{RefusesLine, IsBadAt, LineBegins, EndsTooLong, KeepsBoth}
 use Rattle.tuple_text.specs.declared.faults.LineFault.TheVariants.{BadByte, NoMemory}
 use Rattle.one_space.specs.Pieces.{TakesPiece}
-use Rattle.one_space.specs.NextLines.{ReturnsLine, NextLineFails, IsJudged, IsRefused}
+use Rattle.one_space.specs.NextLines.{HoldsLine, ReturnsLine, NextLineFails, IsJudged, IsRefused}
 use Rattle.one_space.specs.declared.pieces.PieceEnd.TheVariants.{Full, LineFeed, InputEnd}
 use Rattle.one_space.specs.declared.input.NextLine.{NextLine}
 use Rattle.one_space.specs.declared.input.NextLine.TheVariants as next
@@ -21,7 +21,8 @@ use Rattle.one_space.specs.declared.input.NoLine.{NoLine}
 use Rattle.one_space.specs.declared.input.NoLine.TheVariants as no
 use Rattle.one_space.proofs.PieceLemmas.{NoLineFeed}
 use Rattle.one_space.proofs.LineLemmas.{NoLineFeed-cons, lines-at, lines-last, long_line_of}
-use Rattle.one_space.proofs.NextLemmas.{blanks-take, judged_of, refused_long}
+use Rattle.one_space.specs.LongLines.{JudgesEarly}
+use Rattle.one_space.proofs.NextLemmas.{blanks-take, judged_of, early_long}
 
 pub blanks_of : (l : List ℕ) → list_all (λ b. b == 32) l ≡ true → AreBlanks l
 blanks_of [] e = tt
@@ -129,22 +130,19 @@ refused_end p l blank many other = (
 )
 
 -- another byte before the last of a part
-pub refused_part : (p q ys : List ℕ) → AreBlanks p → 65537 ≤ length p → NoLineFeed q → 0 < length q → (AreBlanks (take (length q - 1) q) → ⊥)
-    → NextLineFails (no.Refused (BadByte 65536)) (p ++ (q ++ ys))
-refused_part p q ys blank many clean some other =
+pub refused_part : (p q ys buffer : List ℕ) → AreBlanks p → 65537 ≤ length p → NoLineFeed q → 0 < length q → (AreBlanks (take (length q - 1) q) → ⊥)
+    → NextLineFails (no.RefusedEarly (BadByte 65536)) (p ++ (q ++ ys)) (Some ys) buffer
+refused_part p q ys buffer blank many clean some other =
     let n = length p + (length q - 1) in
     let both = length-append p q in
     let whole = long_line_of (p ++ q) ys n (All-append (λ b. (b == 10) ≡ false) p q (blanks-clean p blank) clean) (omega (arith, both, some)) in
     let known : take n whole.line ≡ p ++ take (length q - 1) q = whole.front ∙ take-append-add p q (length q - 1) in
     let same : take (length p) whole.line ≡ p = sym (take-take (length p) n whole.line (omega arith)) ∙ ap (take (length p)) known ∙ take-append_seam p (take (length q - 1) q) in (
+      whole.line,
+      record { rest = ys; split = ap lines (sym (append_assoc p q ys)) ∙ whole.split; left_is = refl },
       bad_byte_said 65536,
-      record {
-        first = whole.line;
-        others = lines (drop_through 10 ys);
-        split = ap lines (sym (append_assoc p q ys)) ∙ whole.split;
-        holds = refused_blanks whole.line p same blank many (omega (arith, whole.long))
-            (λ h. other (blanks-back p (take (length q - 1) q) (subst AreBlanks known (blanks-take whole.line n h))));
-      },
+      refused_blanks whole.line p same blank many (omega (arith, whole.long)) (λ h. other (blanks-back p (take (length q - 1) q) (subst AreBlanks known (blanks-take whole.line n h)))),
+      omega (arith, whole.long, many),
     )
 
 -- Blanks were dropped in front of the bytes before and those read after them. Then these bytes are kept.
@@ -188,35 +186,40 @@ drops_more (Some xs) known left before mid full after limit d taken blank kept =
 abbrev pub OfBlanks : Option (List ℕ) → List ℕ → (List ℕ → Type 0) → Type 0
 OfBlanks start before Said = IfSome start (λ ys. (p : List ℕ) → AreBlanks p → 65537 ≤ length p → NoLineFeed before → Said (p ++ (before ++ ys)))
 
-part_refused : (xs before mid full : List ℕ) (known left : Option (List ℕ)) (limit : ℕ) → Drops xs known before mid → IfSome known (λ ys. TakesPiece (Some Full) limit ys left mid full)
+part_refused : (xs before mid full buffer : List ℕ) (known left : Option (List ℕ)) (limit : ℕ) → Drops xs known before mid → IfSome known (λ ys. TakesPiece (Some Full) limit ys left mid full)
     → (AreBlanks (take (length full - 1) full) → ⊥)
-    → (p : List ℕ) → AreBlanks p → 65537 ≤ length p → NoLineFeed before → NextLineFails (no.Refused (BadByte 65536)) (p ++ (before ++ xs))
-part_refused xs before mid full known left limit d taken other p blank many clean =
+    → (p : List ℕ) → AreBlanks p → 65537 ≤ length p → NoLineFeed before → NextLineFails (no.RefusedEarly (BadByte 65536)) (p ++ (before ++ xs)) left buffer
+part_refused xs before mid full buffer known left limit d taken other p blank many clean =
     let t = subst (λ o. IfSome o (λ ys. TakesPiece (Some Full) limit ys left mid full)) d.left_is taken in
     let some : 0 < length full = omega (arith, d.some, ap length t.kept, length-append mid t.part) in
     let whole : p ++ (before ++ xs) ≡ (p ++ d.blanks) ++ (full ++ t.rest) =
     ap (λ l. p ++ l) (d.whole ∙ ap (λ l. d.blanks ++ l) (ap (λ l. mid ++ l) t.taken ∙ sym (append_assoc mid t.part t.rest) ∙ ap (λ l. l ++ t.rest) (sym t.kept)))
     ∙ sym (append_assoc p d.blanks (full ++ t.rest)) in
-    subst (NextLineFails (no.Refused (BadByte 65536))) (sym whole)
-    (refused_part (p ++ d.blanks) full t.rest (blanks-append p d.blanks blank d.are) (omega (arith, many, length-append p d.blanks))
-    (subst NoLineFeed (sym t.kept) (All-append (λ b. (b == 10) ≡ false) mid t.part (d.clean clean) t.one_line)) some other)
+    let Fails : List ℕ → Option (List ℕ) → Type 0 = λ l o. NextLineFails (no.RefusedEarly (BadByte 65536)) l o buffer in
+    subst (λ o. Fails (p ++ (before ++ xs)) o) (sym t.left_is) (subst (λ l. Fails l (Some t.rest)) (sym whole)
+    (refused_part (p ++ d.blanks) full t.rest buffer (blanks-append p d.blanks blank d.are) (omega (arith, many, length-append p d.blanks))
+    (subst NoLineFeed (sym t.kept) (All-append (λ b. (b == 10) ≡ false) mid t.part (d.clean clean) t.one_line)) some other))
 
-pub part_refused_known : (start known left : Option (List ℕ)) (before mid full : List ℕ) (limit : ℕ) → IfSome start (λ xs. Drops xs known before mid)
+pub part_refused_known : (start known left : Option (List ℕ)) (before mid full buffer : List ℕ) (limit : ℕ) → IfSome start (λ xs. Drops xs known before mid)
     → IfSome known (λ ys. TakesPiece (Some Full) limit ys left mid full) → (AreBlanks (take (length full - 1) full) → ⊥)
-    → OfBlanks start before (NextLineFails (no.Refused (BadByte 65536)))
-part_refused_known None known left before mid full limit d taken other = tt
-part_refused_known (Some xs) known left before mid full limit d taken other = part_refused xs before mid full known left limit d taken other
+    → OfBlanks start before (λ l. NextLineFails (no.RefusedEarly (BadByte 65536)) l left buffer)
+part_refused_known None known left before mid full buffer limit d taken other = tt
+part_refused_known (Some xs) known left before mid full buffer limit d taken other = part_refused xs before mid full buffer known left limit d taken other
 
 -- the result for such a line, by its end l
 abbrev pub EndJudged : {A : Type 0} → Result (NextLine A) NoLine → List ℕ → Type 0
 EndJudged r l = (p : List ℕ) → AreBlanks p → 65537 ≤ length p → MatchResult r (λ given. IsJudged given (p ++ l)) (λ failed. IsRefused failed (p ++ l))
 
-abbrev pub Answers : {A : Type 0} → Option (List ℕ) → Result (NextLine A) NoLine → List ℕ → Type 0
-Answers left r xs = MatchResult r (λ given. ReturnsLine given xs left) (λ failed. NextLineFails failed xs)
+abbrev pub Answers : {A : Type 0} → Option (List ℕ) → List ℕ → Result (NextLine A) NoLine → List ℕ → Type 0
+Answers left buffer r xs = MatchResult r (λ given. ReturnsLine given xs left) (λ failed. NextLineFails failed xs left buffer)
+
+-- such a line is too long, and nothing of it is kept
+none_held : (p l : List ℕ) → 65537 ≤ length p → HoldsLine [] (p ++ l)
+none_held p l many = inr (refl, omega (arith, many, length-append p l))
 
 end_at : {A : Type 0} (xs before mid full : List ℕ) (known left : Option (List ℕ)) (limit : ℕ) (r : Result (NextLine A) NoLine)
     → Drops xs known before mid → IfSome known (λ ys. TakesPiece (Some LineFeed) limit ys left mid full) → EndJudged r (strip_carriage_return full)
-    → (p : List ℕ) → AreBlanks p → 65537 ≤ length p → NoLineFeed before → Answers left r (p ++ (before ++ xs))
+    → (p : List ℕ) → AreBlanks p → 65537 ≤ length p → NoLineFeed before → Answers left [] r (p ++ (before ++ xs))
 end_at xs before mid full known left limit r d taken judged p blank many clean =
     let t = subst (λ o. IfSome o (λ ys. TakesPiece (Some LineFeed) limit ys left mid full)) d.left_is taken in
     let q = p ++ d.blanks in
@@ -226,22 +229,23 @@ end_at xs before mid full known left limit r d taken judged p blank many clean =
     let whole : p ++ (before ++ xs) ≡ (q ++ full) ++ 10 ∷ t.rest =
     ap (λ l. p ++ l) (d.whole ∙ ap (λ l. d.blanks ++ l) (ap (λ l. mid ++ l) t.taken ∙ sym (append_assoc mid t.part (10 ∷ t.rest)) ∙ ap (λ l. l ++ 10 ∷ t.rest) (sym t.kept)))
     ∙ sym (append_assoc p d.blanks (full ++ 10 ∷ t.rest)) ∙ sym (append_assoc q full (10 ∷ t.rest)) in
-    judged_of (q ++ strip_carriage_return full) (p ++ (before ++ xs)) left r
+    judged_of (q ++ strip_carriage_return full) (p ++ (before ++ xs)) left [] r
     (record {
       rest = t.rest;
       split = ap lines whole ∙ lines-at (q ++ full) t.rest (All-append (λ b. (b == 10) ≡ false) q full (blanks-clean q are) pure) ∙ ap (λ l. l ∷ lines t.rest) (strip-behind q full some);
       left_is = t.left_is;
     })
+    (none_held q (strip_carriage_return full) (omega (arith, many, length-append p d.blanks)))
     (judged q are (omega (arith, many, length-append p d.blanks)))
 
 pub end_at_known : {A : Type 0} (start known left : Option (List ℕ)) (before mid full : List ℕ) (limit : ℕ) (r : Result (NextLine A) NoLine) → IfSome start (λ xs. Drops xs known before mid)
-    → IfSome known (λ ys. TakesPiece (Some LineFeed) limit ys left mid full) → EndJudged r (strip_carriage_return full) → OfBlanks start before (Answers left r)
+    → IfSome known (λ ys. TakesPiece (Some LineFeed) limit ys left mid full) → EndJudged r (strip_carriage_return full) → OfBlanks start before (Answers left [] r)
 end_at_known None known left before mid full limit r d taken judged = tt
 end_at_known (Some xs) known left before mid full limit r d taken judged = end_at xs before mid full known left limit r d taken judged
 
 end_last : {A : Type 0} (xs before mid full : List ℕ) (known left : Option (List ℕ)) (limit : ℕ) (r : Result (NextLine A) NoLine)
     → Drops xs known before mid → IfSome known (λ ys. TakesPiece (Some InputEnd) limit ys left mid full) → EndJudged r full
-    → (p : List ℕ) → AreBlanks p → 65537 ≤ length p → NoLineFeed before → Answers left r (p ++ (before ++ xs))
+    → (p : List ℕ) → AreBlanks p → 65537 ≤ length p → NoLineFeed before → Answers left [] r (p ++ (before ++ xs))
 end_last xs before mid full known left limit r d taken judged p blank many clean =
     let t = subst (λ o. IfSome o (λ ys. TakesPiece (Some InputEnd) limit ys left mid full)) d.left_is taken in
     let q = p ++ d.blanks in
@@ -251,16 +255,17 @@ end_last xs before mid full known left limit r d taken judged p blank many clean
     let whole : p ++ (before ++ xs) ≡ q ++ full =
     ap (λ l. p ++ l) (d.whole ∙ ap (λ l. d.blanks ++ l) (ap (λ l. mid ++ l) (t.taken ∙ ap (λ l. t.part ++ l) t.ending ∙ append-nil t.part) ∙ sym t.kept))
     ∙ sym (append_assoc p d.blanks full) in
-    judged_of (q ++ full) (p ++ (before ++ xs)) left r
+    judged_of (q ++ full) (p ++ (before ++ xs)) left [] r
     (record {
       rest = t.rest;
       split = ap lines whole ∙ lines-last (q ++ full) (All-append (λ b. (b == 10) ≡ false) q full (blanks-clean q are) pure) some ∙ ap (λ l. (q ++ full) ∷ lines l) (sym t.ending);
       left_is = t.left_is;
     })
+    (none_held q full (omega (arith, many, length-append p d.blanks)))
     (judged q are (omega (arith, many, length-append p d.blanks)))
 
 pub end_last_known : {A : Type 0} (start known left : Option (List ℕ)) (before mid full : List ℕ) (limit : ℕ) (r : Result (NextLine A) NoLine) → IfSome start (λ xs. Drops xs known before mid)
-    → IfSome known (λ ys. TakesPiece (Some InputEnd) limit ys left mid full) → EndJudged r full → OfBlanks start before (Answers left r)
+    → IfSome known (λ ys. TakesPiece (Some InputEnd) limit ys left mid full) → EndJudged r full → OfBlanks start before (Answers left [] r)
 end_last_known None known left before mid full limit r d taken judged = tt
 end_last_known (Some xs) known left before mid full limit r d taken judged = end_last xs before mid full known left limit r d taken judged
 
@@ -276,15 +281,16 @@ judged_none line next.Skipped long other hash (inl blank) = other blank
 judged_none line next.Skipped long other hash (inr comment) = hash (comment_first line 65537 comment)
 judged_none line (next.Operation op) long other hash judged = omega (arith, long, judged.size, length-take-le 65537 line (omega (arith, long)))
 
-pub judged_long : {A : Type 0} (start left : Option (List ℕ)) (line : List ℕ) (r : Result (NextLine A) NoLine) → 65538 ≤ length line → (AreBlanks (take 65537 line) → ⊥) → (get_or line 0 0 ≡ 35 → ⊥)
-    → MatchResult r (λ given. IsJudged given (take 65537 line)) (λ failed. IsRefused failed (take 65537 line)) → IfSome start (λ ys. NoLineFeed line → Answers left r (line ++ ys))
-judged_long None left line r long other hash judged = tt
-judged_long (Some ys) left line (Ok given) long other hash judged = absurd (judged_none line given long other hash judged)
-judged_long (Some ys) left line (Err failed) long other hash judged = refused_long (Some ys) line failed long judged
+pub judged_long : {A : Type 0} (start : Option (List ℕ)) (line buffer : List ℕ) (judged result : Result (NextLine A) NoLine) → 65538 ≤ length line → (AreBlanks (take 65537 line) → ⊥)
+    → (get_or line 0 0 ≡ 35 → ⊥) → MatchResult judged (λ given. IsJudged given (take 65537 line)) (λ failed. IsRefused failed (take 65537 line)) → JudgesEarly judged result
+    → IfSome start (λ ys. NoLineFeed line → Answers start buffer result (line ++ ys))
+judged_long None line buffer judged result long other hash h e = tt
+judged_long (Some ys) line buffer (Ok given) result long other hash h e = absurd (judged_none line given long other hash h)
+judged_long (Some ys) line buffer (Err failed) result long other hash h e = λ clean. early_long ys line buffer failed result long clean h e
 
-refused_front : (n : ℕ) (line ys : List ℕ) → 65537 ≤ n → n + 1 ≤ length line → AreBlanks (take n line) → (AreBlanks (take (length line - 1) line) → ⊥) → NoLineFeed line
-    → NextLineFails (no.Refused (BadByte 65536)) (line ++ ys)
-refused_front n line ys many long blank other clean =
+refused_front : (n : ℕ) (line ys buffer : List ℕ) → 65537 ≤ n → n + 1 ≤ length line → AreBlanks (take n line) → (AreBlanks (take (length line - 1) line) → ⊥) → NoLineFeed line
+    → NextLineFails (no.RefusedEarly (BadByte 65536)) (line ++ ys) (Some ys) buffer
+refused_front n line ys buffer many long blank other clean =
     let p = take n line in
     let q = drop n line in
     let whole : p ++ q ≡ line = take-append-drop n line in
@@ -292,21 +298,21 @@ refused_front n line ys many long blank other clean =
     let second : length q ≡ length line - n = length-drop n line in
     let place : length p + (length q - 1) ≡ length line - 1 = omega (arith, first, second, long) in
     let same : p ++ take (length q - 1) q ≡ take (length line - 1) line = sym (take-append-add p q (length q - 1)) ∙ ap (λ i. take i (p ++ q)) place ∙ ap (take (length line - 1)) whole in
-    subst (NextLineFails (no.Refused (BadByte 65536))) (sym (append_assoc p q ys) ∙ ap (λ l. l ++ ys) whole)
-    (refused_part p q ys blank (omega (arith, first, many)) (All-drop (λ b. (b == 10) ≡ false) n line clean) (omega (arith, second, long))
+    subst (λ l. NextLineFails (no.RefusedEarly (BadByte 65536)) l (Some ys) buffer) (sym (append_assoc p q ys) ∙ ap (λ l. l ++ ys) whole)
+    (refused_part p q ys buffer blank (omega (arith, first, many)) (All-drop (λ b. (b == 10) ≡ false) n line clean) (omega (arith, second, long))
     (λ h. other (subst AreBlanks same (blanks-append p (take (length q - 1) q) blank h))))
 
-pub refused_first : (start : Option (List ℕ)) (line : List ℕ) → 65538 ≤ length line → AreBlanks (take 65537 line) → (AreBlanks (take (length line - 1) line) → ⊥)
-    → IfSome start (λ ys. NoLineFeed line → NextLineFails (no.Refused (BadByte 65536)) (line ++ ys))
-refused_first None line long blank other = tt
-refused_first (Some ys) line long blank other = refused_front 65537 line ys (omega arith) (omega (arith, long)) blank other
+pub refused_first : (start : Option (List ℕ)) (line buffer : List ℕ) → 65538 ≤ length line → AreBlanks (take 65537 line) → (AreBlanks (take (length line - 1) line) → ⊥)
+    → IfSome start (λ ys. NoLineFeed line → NextLineFails (no.RefusedEarly (BadByte 65536)) (line ++ ys) start buffer)
+refused_first None line buffer long blank other = tt
+refused_first (Some ys) line buffer long blank other = refused_front 65537 line ys buffer (omega arith) (omega (arith, long)) blank other
 
 -- Such a line goes on after its first blanks.
-pub goes_on : {A : Type 0} (start left : Option (List ℕ)) (line after : List ℕ) (r : Result (NextLine A) NoLine) → 65538 ≤ length line → AreBlanks (take (length line - 1) line)
-    → after ≡ drop (length line - 1) line → OfBlanks start after (Answers left r) → IfSome start (λ ys. NoLineFeed line → Answers left r (line ++ ys))
-goes_on None left line after r long blank kept told = tt
-goes_on (Some ys) left line after r long blank kept told = λ clean.
+pub goes_on : {A : Type 0} (start left : Option (List ℕ)) (line after buffer : List ℕ) (r : Result (NextLine A) NoLine) → 65538 ≤ length line → AreBlanks (take (length line - 1) line)
+    → after ≡ drop (length line - 1) line → OfBlanks start after (Answers left buffer r) → IfSome start (λ ys. NoLineFeed line → Answers left buffer r (line ++ ys))
+goes_on None left line after buffer r long blank kept told = tt
+goes_on (Some ys) left line after buffer r long blank kept told = λ clean.
     let n = length line - 1 in
     let p = take n line in
-    subst (Answers left r) (ap (λ l. p ++ (l ++ ys)) kept ∙ sym (append_assoc p (drop n line) ys) ∙ ap (λ l. l ++ ys) (take-append-drop n line))
+    subst (Answers left buffer r) (ap (λ l. p ++ (l ++ ys)) kept ∙ sym (append_assoc p (drop n line) ys) ∙ ap (λ l. l ++ ys) (take-append-drop n line))
     (told p blank (omega (arith, long, length-take-le n line (omega arith))) (subst NoLineFeed (sym kept) (All-drop (λ b. (b == 10) ≡ false) n line clean)))

@@ -1,6 +1,9 @@
 pub mod PieceLemmas
 pub mod LineLemmas
 pub mod NextLemmas
+pub mod SoFar
+pub mod Giving
 pub mod RunLemmas
 pub mod ScriptLemmas
 pub mod BlankLemmas
+pub mod HelpLemmas

@@ -8,7 +8,8 @@ use Rattle.tuple_text.specs.Faults.{Faults, PassesNoLimit, StopsAt, LineBegins, 
 use Rattle.tuple_text.specs.declared.faults.LineFault.{LineFault}
 use Rattle.tuple_text.specs.declared.faults.LineFault.TheVariants.{BadByte, TooDeep, TooManyFields, TooLong, NoMemory}
 use Rattle.one_space.specs.Pieces.{TakesPiece}
-use Rattle.one_space.specs.NextLines.{IsNextLine, BeginsWith, ReturnsLine, NextLineFails, IsJudged, IsRefused}
+use Rattle.one_space.specs.LongLines.{JudgesEarly}
+use Rattle.one_space.specs.NextLines.{IsNextLine, BeginsWith, HoldsLine, ReturnsLine, NextLineFails, IsJudged, IsRefused}
 use Rattle.one_space.specs.declared.pieces.PieceEnd.TheVariants.{Full, LineFeed, InputEnd}
 use Rattle.one_space.specs.declared.input.NextLine.{NextLine}
 use Rattle.one_space.specs.declared.input.NextLine.TheVariants as next
@@ -48,40 +49,42 @@ module _ (l xs : List ℕ) where
   given_of left next.Skipped first judged = (l, first, judged)
   given_of left (next.Operation op) first judged = (l, first, judged)
 
-  pub failed_of : (others : List (List ℕ)) (failed : NoLine) → lines xs ≡ l ∷ others → IsRefused failed l → NextLineFails failed xs
-  failed_of others (no.Refused fault) split refused = (refused.0, record { first = l; others = others; split = split; holds = refused.1 })
-  failed_of others no.NoMemory split refused = tt
-  failed_of others (no.Read error) split refused = absurd refused
+  pub failed_of : (left : Option (List ℕ)) (buffer : List ℕ) (failed : NoLine) → IsNextLine l xs left → HoldsLine buffer l → IsRefused failed l → NextLineFails failed xs left buffer
+  failed_of left buffer (no.Refused fault) first holds refused = (l, first, refused.0, refused.1, holds)
+  failed_of left buffer (no.RefusedEarly fault) first holds refused = absurd refused
+  failed_of left buffer no.NoMemory first holds refused = tt
+  failed_of left buffer (no.Read error) first holds refused = tt
 
-  pub judged_of : {A : Type 0} (left : Option (List ℕ)) (r : Result (NextLine A) NoLine) → IsNextLine l xs left
+  pub judged_of : {A : Type 0} (left : Option (List ℕ)) (buffer : List ℕ) (r : Result (NextLine A) NoLine) → IsNextLine l xs left → HoldsLine buffer l
       → MatchResult r (λ given. IsJudged given l) (λ failed. IsRefused failed l)
-      → MatchResult r (λ given. ReturnsLine given xs left) (λ failed. NextLineFails failed xs)
-  judged_of left (Ok given) first judged = given_of left given first judged
-  judged_of left (Err failed) first judged = failed_of (lines first.rest) failed first.split judged
+      → MatchResult r (λ given. ReturnsLine given xs left) (λ failed. NextLineFails failed xs left buffer)
+  judged_of left buffer (Ok given) first holds judged = given_of left given first judged
+  judged_of left buffer (Err failed) first holds judged = failed_of left buffer failed first holds judged
 
 pub next_at : (start left : Option (List ℕ)) (limit : ℕ) (line : List ℕ) → IfSome start (λ xs. TakesPiece (Some LineFeed) limit xs left [] line)
     → IfSome start (λ xs. IsNextLine (strip_carriage_return line) xs left)
 next_at None left limit line taken = tt
 next_at (Some xs) left limit line taken = begins_at limit xs left line taken
 
-pub judged_next : {A : Type 0} (start left : Option (List ℕ)) (l : List ℕ) (r : Result (NextLine A) NoLine) → IfSome start (λ xs. IsNextLine l xs left)
+pub judged_next : {A : Type 0} (start left : Option (List ℕ)) (l buffer : List ℕ) (r : Result (NextLine A) NoLine) → IfSome start (λ xs. IsNextLine l xs left) → HoldsLine buffer l
     → MatchResult r (λ given. IsJudged given l) (λ failed. IsRefused failed l)
-    → IfSome start (λ xs. MatchResult r (λ given. ReturnsLine given xs left) (λ failed. NextLineFails failed xs))
-judged_next None left l r first judged = tt
-judged_next (Some xs) left l r first judged = judged_of l xs left r first judged
+    → IfSome start (λ xs. MatchResult r (λ given. ReturnsLine given xs left) (λ failed. NextLineFails failed xs left buffer))
+judged_next None left l buffer r first holds judged = tt
+judged_next (Some xs) left l buffer r first holds judged = judged_of l xs left buffer r first holds judged
 
-pub judged_at : {A : Type 0} (start left : Option (List ℕ)) (limit : ℕ) (line : List ℕ) (r : Result (NextLine A) NoLine)
+pub judged_at : {A : Type 0} (start left : Option (List ℕ)) (limit : ℕ) (line buffer : List ℕ) (r : Result (NextLine A) NoLine) → buffer ≡ strip_carriage_return line
     → IfSome start (λ xs. TakesPiece (Some LineFeed) limit xs left [] line)
     → MatchResult r (λ given. IsJudged given (strip_carriage_return line)) (λ failed. IsRefused failed (strip_carriage_return line))
-    → IfSome start (λ xs. MatchResult r (λ given. ReturnsLine given xs left) (λ failed. NextLineFails failed xs))
-judged_at start left limit line r taken judged = judged_next start left (strip_carriage_return line) r (next_at start left limit line taken) judged
+    → IfSome start (λ xs. MatchResult r (λ given. ReturnsLine given xs left) (λ failed. NextLineFails failed xs left buffer))
+judged_at start left limit line buffer r same taken judged =
+    judged_next start left (strip_carriage_return line) buffer r (next_at start left limit line taken) (inl same) judged
 
 pub judged_last : {A : Type 0} (start left : Option (List ℕ)) (limit : ℕ) (line : List ℕ) (r : Result (NextLine A) NoLine) → 0 < length line
     → IfSome start (λ xs. TakesPiece (Some InputEnd) limit xs left [] line)
     → MatchResult r (λ given. IsJudged given line) (λ failed. IsRefused failed line)
-    → IfSome start (λ xs. MatchResult r (λ given. ReturnsLine given xs left) (λ failed. NextLineFails failed xs))
+    → IfSome start (λ xs. MatchResult r (λ given. ReturnsLine given xs left) (λ failed. NextLineFails failed xs left line))
 judged_last None left limit line r some taken judged = tt
-judged_last (Some xs) left limit line r some taken judged = judged_of line xs left r (begins_last limit xs left line taken some) judged
+judged_last (Some xs) left limit line r some taken judged = judged_of line xs left line r (begins_last limit xs left line taken some) (inl refl) judged
 
 pub ended : (start left : Option (List ℕ)) (limit : ℕ) (line : List ℕ) → length line ≡ 0
     → IfSome start (λ xs. TakesPiece (Some InputEnd) limit xs left [] line) → IfSome start (λ xs. lines xs ≡ [])
@@ -162,21 +165,27 @@ skipped_comment (Some ys) left line drops long hash = λ clean.
       inr (comment_front 65536 whole.line line whole.front (omega arith) hash (omega (arith, whole.long))),
     )
 
-refused_line : (l k : List ℕ) (failed : NoLine) → take 65537 l ≡ k → 65537 ≤ length l → IsRefused failed k → IsRefused failed l
-refused_line l k (no.Refused fault) same long refused = (refused.0, (unskipped, faults l k same long fault refused.1.1))
+refused_line : (l k : List ℕ) (fault : LineFault) → take 65537 l ≡ k → 65537 ≤ length l → IsRefused (no.Refused fault) k → IsRefused (no.Refused fault) l
+refused_line l k fault same long refused = (refused.0, (unskipped, faults l k same long fault refused.1.1))
   where
     unskipped : IsSkipped l → ⊥
     unskipped s = refused.1.0 (skips l k same long s)
-refused_line l k no.NoMemory same long refused = tt
-refused_line l k (no.Read error) same long refused = refused
 
-pub refused_long : (start : Option (List ℕ)) (line : List ℕ) (failed : NoLine) → 65538 ≤ length line → IsRefused failed (take 65537 line)
-    → IfSome start (λ ys. NoLineFeed line → NextLineFails failed (line ++ ys))
-refused_long None line failed long refused = tt
-refused_long (Some ys) line failed long refused = λ clean.
+-- A line is refused if its front is, and what is read of it so far goes on.
+refused_long : (ys line buffer : List ℕ) (fault : LineFault) → 65538 ≤ length line → NoLineFeed line → IsRefused (no.Refused fault) (take 65537 line)
+    → NextLineFails (no.RefusedEarly fault) (line ++ ys) (Some ys) buffer
+refused_long ys line buffer fault long clean refused =
     let whole = long_line_of line ys 65537 clean (omega arith) in
-    failed_of whole.line (line ++ ys) (lines (drop_through 10 ys)) failed whole.split
-    (refused_line whole.line (take 65537 line) failed whole.front whole.long refused)
+    let of_line = refused_line whole.line (take 65537 line) fault whole.front whole.long refused in
+    (whole.line, record { rest = ys; split = whole.split; left_is = refl }, of_line.0, of_line.1, whole.long)
+
+pub early_long : {A : Type 0} (ys line buffer : List ℕ) (failed : NoLine) (result : Result (NextLine A) NoLine) → 65538 ≤ length line → NoLineFeed line
+    → IsRefused failed (take 65537 line) → JudgesEarly (Err failed) result
+    → MatchResult result (λ given. ReturnsLine given (line ++ ys) (Some ys)) (λ failed. NextLineFails failed (line ++ ys) (Some ys) buffer)
+early_long ys line buffer (no.Refused fault) result long clean refused e = rw e (refused_long ys line buffer fault long clean refused)
+early_long ys line buffer (no.RefusedEarly fault) result long clean refused e = absurd refused
+early_long ys line buffer no.NoMemory result long clean refused e = rw e tt
+early_long ys line buffer (no.Read error) result long clean refused e = absurd refused
 
 pub has_first : (start left : Option (List ℕ)) (limit : ℕ) (line : List ℕ) → IfSome start (λ xs. TakesPiece (Some LineFeed) limit xs left [] line)
     → IfSome start (λ xs. BeginsWith (λ _. Unit {0}) xs)

@@ -1,219 +1,443 @@
 -- A run up to one of its lines.
-use Rattle.std.proofs.Common.{◌≡◌, ℕ, ◌+◌, ◌^◌, ◌<◌, ◌≤◌, Bool, true, false, cond, List, [], ◌++◌, Option, None, Some, IfSome, IfOk, Result, Ok, Err, MatchResult, MatchBool, OnOk, IfErr, ◌==◌, refl, sym, ap, subst, ◌∙◌, arith, append_assoc, append-nil}
+use Rattle.std.proofs.Common.{◌≡◌, ◌≢◌, if◌then◌else◌, append-nil, option_map, inl, inr, ℕ, ◌+◌, ◌-◌, ◌^◌, ◌<◌, ◌≤◌, Bool, true, false, cond, List, [], ◌∷◌, ◌++◌, Option, None, Some, IfSome, IfOk, Result, Ok, Err, MatchResult, MatchBool, OnOk, IfErr, ◌==◌, length, map, min, refl, sym, ap, subst, ◌∙◌, arith}
+use Rattle.std.proofs.lemmas.List.{length-append}
 use Rattle.std.specs.Str.Lines.{lines}
+use Rattle.std.specs.Io.BufRead.{DropsThrough, drop_through}
 use Rattle.std.specs.Io.KnownBytes.{Appends, prepend_known}
 use Rattle.std.specs.Io.Buffered.{reader_inner, reader_buffer, reader_capacity, reader_remaining}
 use Rattle.std.specs.declared.io.buffered.BufReader.{BufReader}
-use Rattle.std.proofs.KnownBytes.{Appends-nil, Appends-trans}
 use Rattle.tuple_codec.specs.Operations.{Operation}
 use Rattle.tuple_codec.specs.OperationView.{operation_of}
+use Rattle.tuple_codec.specs.declared.operations.Op.{Op}
 use Rattle.tuple_text.specs.Lines.{IsLine, IsSkipped}
-use Rattle.tuple_text.specs.declared.faults.LineFault.TheVariants.{TooLong}
+use Rattle.tuple_text.specs.Faults.{RefusesLine}
+use Rattle.tuple_text.specs.declared.faults.LineFault.{LineFault}
+use Rattle.tuple_text.specs.declared.faults.LineFault.TheVariants.{NoMemory as no_memory, TooLong}
 use Rattle.space.specs.Applying.{Contents, outcome, tuples_after}
 use Rattle.space.specs.Births.{SpaceState, tuples_of, state_after}
-use Rattle.one_space.specs.Run.{Ending, complete, refused_at, cut_short, result_line, RunsLines, at_end, stops, skips, answers, refuses, is_late}
-use Rattle.one_space.specs.NextLines.{ReturnsLine, NextLineFails, BeginsWith, IsNextLine}
-use Rattle.one_space.specs.declared.pieces.ReadFault.{ReadFault}
-use Rattle.one_space.specs.declared.pieces.ReadFault.TheVariants as pieces
-use Rattle.one_space.specs.Endings.{Along, AddsResults, StopsBy, FrontIsWritten, IsWriteFault, fault_at_line, read_fault_of}
+use Rattle.space.proofs.Batches.{next_after}
+use Rattle.space.proofs.Keeping.{tuples_of-state_after}
+use Rattle.one_space.specs.Complaints.{Says, refusal_line}
+use Rattle.one_space.specs.Endings.{Breaks, FrontIsWritten, Gives, IsWriteFault, Left, Runs, Scene, StopsBy, read_fault_of}
+use Rattle.one_space.specs.Moments.{EndsEarly, EndsLate, EndsStrictly, GoesOn, HelpsOrPasses, IsAt, Passes, PassesRead, RunsOperation, Settles, left_with}
+use Rattle.one_space.specs.NextLines.{BeginsWith, HoldsLine, IsCutLine, IsNextLine, NextLineFails, ReturnsLine}
+use Rattle.one_space.specs.Run.{Ending, complete, refused_at, cut_short, IsHelp, LinesSay, PassesOver, Refusal, refusal, result_line, at_end, stops, skips, calls, refuses, passes, helps, is_late}
+use Rattle.one_space.specs.declared.input.NextLine.{NextLine}
 use Rattle.one_space.specs.declared.input.NextLine.TheVariants as next
 use Rattle.one_space.specs.declared.input.NoLine.{NoLine}
 use Rattle.one_space.specs.declared.input.NoLine.TheVariants as no
-use Rattle.one_space.specs.declared.input.NextLine.{NextLine}
+use Rattle.one_space.specs.declared.pieces.ReadFault.{ReadFault}
+use Rattle.one_space.specs.declared.pieces.ReadFault.TheVariants as pieces
+use Rattle.one_space.specs.declared.session.Held.{Held}
 use Rattle.one_space.specs.declared.session.LocalFault.{LocalFault}
 use Rattle.one_space.specs.declared.session.LocalFault.TheVariants as local
-use Rattle.tuple_codec.specs.declared.operations.Op.{Op}
-use Rattle.space.proofs.Batches.{next_after}
-use Rattle.space.proofs.Keeping.{tuples_of-state_after}
-
-module _ (initial : Contents) (bytes : List ℕ) (known old new : Option (List ℕ)) (n : ℕ) (ts : Contents) (pending : List ℕ) (along : Along initial bytes known old new n ts pending) where
-  -- nothing more is written
-  adds : (ending : Ending) → RunsLines n ts (lines along.rest) [] ending → AddsResults initial bytes ending old new pending
-  adds ending r = (along.done, subst (λ w. RunsLines 1 initial (lines bytes) w ending) (append-nil (along.done ++ pending)) (along.leads [] ending r), along.wrote)
-
-  pub at_last : lines along.rest ≡ [] → AddsResults initial bytes complete old new pending
-  at_last e = adds complete (subst (λ ls. RunsLines n ts ls [] complete) (sym e) at_end)
-
-  pub cut : AddsResults initial bytes cut_short old new pending
-  cut = adds cut_short stops
-
-  pub late : 2 ^ 48 ≤ n → BeginsWith (λ _. Unit {0}) along.rest → AddsResults initial bytes (refused_at n TooLong) old new pending
-  late h b = adds (refused_at n TooLong) (subst (λ ls. RunsLines n ts ls [] (refused_at n TooLong)) (sym b.split) (is_late h))
-
-  pub failed : (failure : NoLine) → n < 2 ^ 48 → NextLineFails failure along.rest → StopsBy (fault_at_line n failure) initial bytes old new pending
-  failed (no.Refused fault) below f =
-      adds (refused_at n fault) (subst (λ ls. RunsLines n ts ls [] (refused_at n fault)) (sym f.1.split) (refuses below f.0 f.1.holds))
-  failed no.NoMemory below f = cut
-  failed (no.Read error) below f = cut
-
-  pub past_skipped : (left : Option (List ℕ)) → n < 2 ^ 48 → (l : List ℕ) × IsNextLine l along.rest left × IsSkipped l → Along initial bytes left old new (n + 1) ts pending
-  past_skipped left below given = record {
-    rest = given.1.rest;
-    done = along.done;
-    known_is = given.1.left_is;
-    wrote = along.wrote;
-    leads = λ more ending r. along.leads more ending (subst (λ ls. RunsLines n ts ls more ending) (sym given.1.split) (skips below given.2 r));
-  }
-
-  pub past_operation : (left : Option (List ℕ)) (o : Operation) (first : List ℕ) (more_pending : List ℕ) (after : Contents) → n < 2 ^ 48 → IsNextLine first along.rest left
-      → IsLine o first → after ≡ tuples_after ts 0 o → more_pending ≡ pending ++ result_line (outcome ts 0 o) → Along initial bytes left old new (n + 1) after more_pending
-  past_operation left o first more_pending after below given is_line e w = record {
-    rest = given.rest;
-    done = along.done;
-    known_is = given.left_is;
-    wrote = along.wrote;
-    leads = λ more ending r.
-        let answered = along.leads (result_line (outcome ts 0 o) ++ more) ending
-        (subst (λ ls. RunsLines n ts ls (result_line (outcome ts 0 o) ++ more) ending) (sym given.split) (answers o below is_line (subst (λ us. RunsLines (n + 1) us (lines given.rest) more ending) e r))) in
-        subst (λ l. RunsLines 1 initial (lines bytes) l ending)
-        (sym (append_assoc (along.done ++ pending) (result_line (outcome ts 0 o)) more) ∙ ap (λ l. l ++ more) (append_assoc along.done pending (result_line (outcome ts 0 o)) ∙ ap (λ l. along.done ++ l) (sym w)))
-        answered;
-  }
-
--- The first pending bytes went to the writer.
-pub moved : (initial : Contents) (bytes : List ℕ) (known old new written : Option (List ℕ)) (n : ℕ) (ts : Contents) (pending still : List ℕ)
-    → Along initial bytes known old new n ts pending → FrontIsWritten new written pending still → Along initial bytes known old written n ts still
-moved initial bytes known old new written n ts pending still along moves = record {
-  rest = along.rest;
-  done = along.done ++ moves.gone;
-  known_is = along.known_is;
-  wrote = Appends-trans old new written along.done moves.gone along.wrote moves.wrote;
-  leads = λ more ending r.
-      subst (λ l. RunsLines 1 initial (lines bytes) (l ++ more) ending) (ap (λ l. along.done ++ l) (sym moves.split) ∙ sym (append_assoc along.done moves.gone still)) (along.leads more ending r);
-}
-
--- a property of the bytes left, if these are known
-pub known_of : (P : List ℕ → Type 0) (initial : Contents) (bytes : List ℕ) (known old new : Option (List ℕ)) (n : ℕ) (ts : Contents) (pending : List ℕ)
-    (along : Along initial bytes known old new n ts pending) → IfSome known P → P along.rest
-known_of P initial bytes known old new n ts pending along h = subst (λ o. IfSome o P) along.known_is h
-
-pub each_known : (P Q : List ℕ → Type 0) (start : Option (List ℕ)) → ((bytes : List ℕ) → P bytes → Q bytes) → IfSome start P → IfSome start Q
-each_known P Q None f h = tt
-each_known P Q (Some bytes) f h = f bytes h
-
-pub at_number : (initial : Contents) (start known old new : Option (List ℕ)) (n m : ℕ) (ts : Contents) (pending : List ℕ) → n ≡ m
-    → IfSome start (λ bytes. Along initial bytes known old new n ts pending)
-    → IfSome start (λ bytes. Along initial bytes known old new m ts pending)
-at_number initial start known old new n m ts pending e h =
-    subst (λ k. IfSome start (λ bytes. Along initial bytes known old new k ts pending)) e h
+use Rattle.one_space.specs.declared.session.Manner.{Manner}
+use Rattle.one_space.specs.declared.session.Manner.TheVariants.{Strict, KeepsGoing, Talks}
+use Rattle.one_space.specs.declared.session.Turn.{Turn}
+use Rattle.one_space.proofs.Giving.{gives_nothing, gives_operation, gives_same, gives_told, gives_written}
+use Rattle.one_space.proofs.SoFar.{unread, at_last, cut, late, refused, past_skipped, past_operation, past_refused, past_help, few_refusals}
 
 -- an operation raises the next birth number by at most 257
 pub state_after_next : (s : SpaceState) (o : Operation) → (state_after s 0 o).next ≤ s.next + 257
 state_after_next s o = omega (arith, next_after s 0 o)
 
--- The bytes left, after the next line was read.
-module _ {A : Type 0} (initial : Contents) (bytes : List ℕ) (known old new : Option (List ℕ)) (n : ℕ) (ts : Contents) (pending : List ℕ) (along : Along initial bytes known old new n ts pending)
-    (left : Option (List ℕ)) (result : Result (NextLine A) NoLine) (read : IfSome known (λ xs. MatchResult result (λ x. ReturnsLine x xs left) (λ why. NextLineFails why xs))) where
-  told : MatchResult result (λ x. ReturnsLine x along.rest left) (λ why. NextLineFails why along.rest)
-  told = known_of (λ xs. MatchResult result (λ x. ReturnsLine x xs left) (λ why. NextLineFails why xs)) initial bytes known old new n ts pending along read
+-- ---- counts of refused lines
 
-  gives : (field x : NextLine A) → result ≡ Ok field → field ≡ x → ReturnsLine x along.rest left
-  gives field x e f =
-      subst (λ y. ReturnsLine y along.rest left) f (subst (λ r. MatchResult r (λ y. ReturnsLine y along.rest left) (λ why. NextLineFails why along.rest)) e told)
+counted : (n refused : ℕ) → n ≤ 2 ^ 48 → refused ≡ min n (2 ^ 64 - 1) → refused ≡ n
+counted n refused few e = grind arith
 
-  fails : (why : NoLine) → result ≡ Err why → NextLineFails why along.rest
-  fails why e = subst (λ r. MatchResult r (λ y. ReturnsLine y along.rest left) (λ why. NextLineFails why along.rest)) e told
+-- A run that gave this, and whose count is that of its refusals, ended so.
+ended : {manner : Manner} {first : Contents} {bytes : List ℕ} {start now : Scene} {ops : List Operation} {refusals : List Refusal} {left : Left} (ending : Ending)
+    → LinesSay manner 1 (lines bytes) ops refusals ending → Gives first start now ops refusals left → left.refused ≡ min (length refusals) (2 ^ 64 - 1)
+    → Runs manner first bytes ending start now left
+ended {refusals = rs} {left = left} ending said gives count = record {
+  ops = _;
+  refusals = rs;
+  said = said;
+  gives = gives;
+  count = counted (length rs) left.refused (omega (arith, few_refusals (omega arith) said)) count;
+}
 
-  pub ends : (field : NextLine A) → result ≡ Ok field → field ≡ next.End → AddsResults initial bytes complete old new pending
-  ends field e f = at_last initial bytes known old new n ts pending along (gives field next.End e f)
+one_more : (before after n : ℕ) → before ≡ min n (2 ^ 64 - 1) → after ≡ min (before + 1) (2 ^ 64 - 1) → after ≡ min (n + 1) (2 ^ 64 - 1)
+one_more before after n e f = grind arith
 
-  pub skips_on : (field : NextLine A) → n < 2 ^ 48 → result ≡ Ok field → field ≡ next.Skipped → Along initial bytes left old new (n + 1) ts pending
-  skips_on field below e f = past_skipped initial bytes known old new n ts pending along left below (gives field next.Skipped e f)
+none_more : (before after n : ℕ) → before ≡ min n (2 ^ 64 - 1) → after ≡ min (before + 0) (2 ^ 64 - 1) → after ≡ min n (2 ^ 64 - 1)
+none_more before after n e f = grind arith
 
-  pub fails_so : (why : NoLine) → n < 2 ^ 48 → result ≡ Err why → StopsBy (fault_at_line n why) initial bytes old new pending
-  fails_so why below e = failed initial bytes known old new n ts pending along why below (fails why e)
+pushed : (rs : List Refusal) (r : Refusal) → length (rs ++ r ∷ []) ≡ length rs + 1
+pushed rs r = length-append rs (r ∷ [])
 
-  pub runs_on : (field : NextLine A) (op : Op A) (after before : SpaceState) (more_pending : List ℕ) → n < 2 ^ 48
-      → result ≡ Ok field → field ≡ next.Operation op → ts ≡ tuples_of before
-      → after ≡ state_after before 0 (operation_of op)
-      → more_pending ≡ pending ++ result_line (outcome ts 0 (operation_of op))
-      → Along initial bytes left old new (n + 1) (tuples_of after) more_pending
-  runs_on field op after before more_pending below e f t s w =
-      let given = gives field (next.Operation op) e f in
-      let is_after : tuples_of after ≡ tuples_after ts 0 (operation_of op) =
-      ap tuples_of s
-      ∙ (tuples_of-state_after before 0 (operation_of op) ∙ ap (λ us. tuples_after us 0 (operation_of op)) (sym t)) in
-      past_operation initial bytes known old new n ts pending along left (operation_of op) given.0 more_pending
-      (tuples_of after) below given.1 given.2 is_after w
+-- ---- a run at one of its lines
 
-  pub stops_keeping : (still : List ℕ) → still ≡ pending → AddsResults initial bytes cut_short old new still
-  stops_keeping still e =
-      subst (λ p. AddsResults initial bytes cut_short old new p) (sym e) (cut initial bytes known old new n ts pending along)
+pub begins : (manner : Manner) (first : Contents) (bytes : List ℕ) (scene : Scene) (left : Left) → left.tuples ≡ first → left.pending ≡ [] → left.refused ≡ 0
+    → IsAt manner first bytes scene 1 (Some bytes) scene left
+begins manner first bytes scene left tuples none count = record {
+  ops = [];
+  refusals = [];
+  so_far = unread manner bytes;
+  gives = gives_nothing first scene left tuples none;
+  count = count;
+}
+
+module _ (manner : Manner) (first : Contents) (bytes : List ℕ) (start : Scene) (n : ℕ) (known : Option (List ℕ)) (now : Scene) (left : Left) (here : IsAt manner first bytes start n known now left) where
+  rest_of : List ℕ
+  rest_of = here.so_far.rest
+
+  pub ends_here : lines here.so_far.rest ≡ [] → Runs manner first bytes complete start now left
+  ends_here e = ended complete (at_last manner bytes known n here.ops here.refusals here.so_far e) here.gives here.count
+
+  pub cuts_here : Runs manner first bytes cut_short start now left
+  cuts_here = ended cut_short (cut manner bytes known n here.ops here.refusals here.so_far) here.gives here.count
+
+  -- some results are pending as before
+  pub breaks_here : (pending : List ℕ) → pending ≡ left.pending → Breaks cut_short manner first bytes start now pending
+  breaks_here pending e = (left, sym e, cuts_here)
+
+  pub skips_here : (rest : Option (List ℕ)) (l : List ℕ) → n < 2 ^ 48 → IsNextLine l here.so_far.rest rest → IsSkipped l → IsAt manner first bytes start (n + 1) rest now left
+  skips_here rest l below next skipped = record {
+    ops = here.ops;
+    refusals = here.refusals;
+    so_far = past_skipped manner bytes known n here.ops here.refusals here.so_far rest l below next skipped;
+    gives = here.gives;
+    count = here.count;
+  }
+
+  pub runs_here : (rest : Option (List ℕ)) (l : List ℕ) (o : Operation) (after : Left) → n < 2 ^ 48 → IsNextLine l here.so_far.rest rest → IsLine o l
+      → after.tuples ≡ tuples_after left.tuples 0 o → after.pending ≡ left.pending ++ result_line (outcome left.tuples 0 o) → after.refused ≡ left.refused
+      → IsAt manner first bytes start (n + 1) rest now after
+  runs_here rest l o after below next is_line tuples pending refused = record {
+    ops = here.ops ++ o ∷ [];
+    refusals = here.refusals;
+    so_far = past_operation manner bytes known n here.ops here.refusals here.so_far rest l o below next is_line;
+    gives = gives_operation first start now here.ops here.refusals left here.gives o after tuples pending;
+    count = refused ∙ here.count;
+  }
+
+-- The operation of a line ran.
+pub operates : (manner : Manner) (first : Contents) (bytes : List ℕ) (start : Scene) (n : ℕ) (known rest : Option (List ℕ)) (now : Scene) (left after : Left)
+    (here : IsAt manner first bytes start n known now left) (o : Operation) (l : List ℕ) → n < 2 ^ 48 → IsNextLine l here.so_far.rest rest → IsLine o l
+    → (ran : Result Bool LocalFault) → RunsOperation ran o left after
+    → MatchResult ran
+    (λ more. MatchBool more (IsAt manner first bytes start (n + 1) rest now after) (Runs manner first bytes complete start now after))
+    (λ why. StopsBy why manner first bytes start now after.pending)
+operates manner first bytes start n known rest now left after here o l below next_line is_line (Ok more) h =
+    rw h.0 (runs_here manner first bytes start n known now left here rest l o after below next_line is_line h.1 h.2 h.3)
+operates manner first bytes start n known rest now left after here o l below next_line is_line (Err why) h =
+    rw h.0 (breaks_here manner first bytes start n known now left here after.pending h.1)
+
+-- A front of the pending results went to the writer.
+pub moved : (manner : Manner) (first : Contents) (bytes : List ℕ) (start : Scene) (n : ℕ) (known : Option (List ℕ)) (now later : Scene) (left after : Left)
+    → later.said ≡ now.said → after.tuples ≡ left.tuples → after.refused ≡ left.refused → FrontIsWritten now.written later.written left.pending after.pending
+    → IsAt manner first bytes start n known now left → IsAt manner first bytes start n known later after
+moved manner first bytes start n known now later left after said tuples refused moves here = record {
+  ops = here.ops;
+  refusals = here.refusals;
+  so_far = here.so_far;
+  gives = gives_written first start now here.ops here.refusals left here.gives later after said tuples moves;
+  count = refused ∙ here.count;
+}
+
+-- ---- refused lines
+
+over_long : (manner : Manner) (l : List ℕ) → GoesOn manner → 65537 ≤ length l → PassesOver manner l
+over_long Strict l on long = absurd on
+over_long KeepsGoing l on long = tt
+over_long Talks l on long = λ help. omega (arith, help.short, long)
+
+over_held : (manner : Manner) (buffer l : List ℕ) → HoldsLine buffer l → PassesOver manner buffer → PassesOver manner l
+over_held manner buffer l (inl e) over = subst (PassesOver manner) e over
+over_held Strict buffer l (inr h) over = absurd over
+over_held KeepsGoing buffer l (inr h) over = tt
+over_held Talks buffer l (inr h) over = λ help. omega (arith, help.short, h.1)
+
+-- Nothing is no `help`.
+no_help : (lead trail : List ℕ) → [] ≡ lead ++ (104 ∷ 101 ∷ 108 ∷ 112 ∷ trail) → ⊥
+no_help [] trail e = cc
+no_help (x ∷ lead) trail e = cc
+
+help_held : (buffer l : List ℕ) → HoldsLine buffer l → IsHelp buffer → IsHelp l
+help_held buffer l (inl e) help = subst IsHelp e help
+help_held buffer l (inr h) help = absurd (no_help help.lead help.trail (sym h.0 ∙ help.whole))
+
+
+-- What was held went to the writer, and some refusals were told.
+settled : (first : Contents) (start old new : Scene) (os : List Operation) (rs more : List Refusal) (space : SpaceState) (before after : Held) (lines_told : List (List ℕ)) (n : ℕ)
+    → lines_told ≡ map refusal_line more → Settles old new before after lines_told n → Gives first start old os rs (left_with space before)
+    → Gives first start new os (rs ++ more) (left_with space after)
+settled first start old new os rs more space before after lines_told n same settles gives =
+    let mid : Scene = record { written = new.written; said = old.said } in
+    gives_told first start mid os rs (left_with space after)
+    (gives_written first start old os rs (left_with space before) gives mid (left_with space after) refl refl (record {
+      gone = before.results.items;
+      wrote = settles.wrote;
+      split = ap (λ l. before.results.items ++ l) settles.none ∙ append-nil before.results.items;
+    }))
+    new more refl (subst (Says old.said new.said) same settles.told)
+
+-- the run at a line, and the held results before and after
+module _ (manner : Manner) (first : Contents) (bytes : List ℕ) (start : Scene) (n : ℕ) (known : Option (List ℕ)) (old new : Scene) (space : SpaceState) (before after : Held)
+    (here : IsAt manner first bytes start n known old (left_with space before)) where
+  told_one : (fault : LineFault) → Settles old new before after (refusal_line (refusal n fault) ∷ []) 1 → Gives first start new here.ops (here.refusals ++ refusal n fault ∷ []) (left_with space after)
+  told_one fault settles = settled first start old new here.ops here.refusals (refusal n fault ∷ []) space before after _ 1 refl settles here.gives
+
+  count_one : (fault : LineFault) → Settles old new before after (refusal_line (refusal n fault) ∷ []) 1 → after.refused ≡ min (length (here.refusals ++ refusal n fault ∷ [])) (2 ^ 64 - 1)
+  count_one fault settles =
+      one_more before.refused after.refused (length here.refusals) here.count settles.count ∙ ap (λ k. min k (2 ^ 64 - 1)) (sym (pushed here.refusals (refusal n fault)))
+
+  -- The refused line is passed over.
+  pub passes_one : (rest : Option (List ℕ)) (l others : List ℕ) (fault : LineFault) → n < 2 ^ 48 → rest ≡ Some others → lines here.so_far.rest ≡ l ∷ lines others
+      → PassesOver manner l → fault ≢ no_memory → RefusesLine fault l → Settles old new before after (refusal_line (refusal n fault) ∷ []) 1
+      → IsAt manner first bytes start (n + 1) rest new (left_with space after)
+  passes_one rest l others fault below left_is split over real refusing settles = record {
+    ops = here.ops;
+    refusals = here.refusals ++ refusal n fault ∷ [];
+    so_far = past_refused manner bytes known n here.ops here.refusals here.so_far rest l others fault below left_is split over real refusing;
+    gives = told_one fault settles;
+    count = count_one fault settles;
+  }
+
+  helps_one : (rest : Option (List ℕ)) (l others : List ℕ) (fault : LineFault) → n < 2 ^ 48 → rest ≡ Some others → lines here.so_far.rest ≡ l ∷ lines others
+      → manner ≡ Talks → IsHelp l → RefusesLine fault l → Settles old new before after [] 0 → IsAt manner first bytes start (n + 1) rest new (left_with space after)
+  helps_one rest l others fault below left_is split talks help refusing settles = record {
+    ops = here.ops;
+    refusals = here.refusals;
+    so_far = past_help manner bytes known n here.ops here.refusals here.so_far rest l others fault below left_is split talks help refusing;
+    gives = subst (λ rs. Gives first start new here.ops rs (left_with space after)) (append-nil here.refusals)
+        (settled first start old new here.ops here.refusals [] space before after [] 0 refl settles here.gives);
+    count = none_more before.refused after.refused (length here.refusals) here.count settles.count;
+  }
+
+  -- The run ends at the refused line.
+  ends_at_refusal : (fault : LineFault) → LinesSay manner 1 (lines bytes) here.ops (here.refusals ++ refusal n fault ∷ []) (refused_at n fault)
+      → Settles old new before after (refusal_line (refusal n fault) ∷ []) 1 → Breaks (refused_at n fault) manner first bytes start new after.results.items
+  ends_at_refusal fault said settles = (left_with space after, refl, ended (refused_at n fault) said (told_one fault settles) (count_one fault settles))
+
+  at_refusal : (line : ℕ) (why fault : LineFault) → line ≡ n → why ≡ fault → Breaks (refused_at n fault) manner first bytes start new after.results.items
+      → Breaks (refused_at line why) manner first bytes start new after.results.items
+  at_refusal line why fault e f h =
+      subst (λ k. Breaks (refused_at k why) manner first bytes start new after.results.items) (sym e)
+      (subst (λ w. Breaks (refused_at n w) manner first bytes start new after.results.items) (sym f) h)
+
+  pub late_so : (fault : LocalFault) → n ≡ 2 ^ 48 → BeginsWith (λ _. Unit {0}) here.so_far.rest → EndsLate fault old new before after
+      → StopsBy fault manner first bytes start new after.results.items
+  late_so (local.Refused line why) e more h =
+      let settles = subst (λ k. Settles old new before after (refusal_line (refusal k TooLong) ∷ []) 1) (sym e) h.2 in
+      at_refusal line why TooLong (h.0 ∙ sym e) h.1
+      (ends_at_refusal TooLong (late manner bytes known n here.ops here.refusals here.so_far (omega (arith, e)) more) settles)
+  late_so local.NoMemory e more h = absurd h
+  late_so (local.Read error) e more h = absurd h
+  late_so (local.Write error) e more h = tt
+
+module _ (turn : Turn) (first : Contents) (bytes : List ℕ) (start : Scene) (known rest : Option (List ℕ)) (old new : Scene) (space : SpaceState) (before after : Held)
+    (below : turn.number < 2 ^ 48) (here : IsAt turn.manner first bytes start turn.number known old (left_with space before)) where
+  strictly : (why : LocalFault) (fault : LineFault) (l : List ℕ) (ls : List (List ℕ)) → lines here.so_far.rest ≡ l ∷ ls → fault ≢ no_memory → RefusesLine fault l
+      → EndsStrictly why turn fault old new before after → StopsBy why turn.manner first bytes start new after.results.items
+  strictly (local.Refused line why) fault l ls split real refusing h =
+      at_refusal turn.manner first bytes start turn.number known old new space before after here line why fault h.0 h.1
+      (ends_at_refusal turn.manner first bytes start turn.number known old new space before after here fault
+      (refused turn.manner bytes known turn.number here.ops here.refusals here.so_far fault l ls h.2 below real refusing split) h.3)
+  strictly local.NoMemory fault l ls split real refusing h = absurd h
+  strictly (local.Read error) fault l ls split real refusing h = absurd h
+  strictly (local.Write error) fault l ls split real refusing h = tt
+
+  -- what came of the line: the run is at the next one, or ended there, or stopped
+  abbrev pub Comes : Result Bool LocalFault → Type 0
+  Comes result =
+      MatchResult result
+      (λ more. MatchBool more (IsAt turn.manner first bytes start (turn.number + 1) rest new (left_with space after)) (Runs turn.manner first bytes complete start new (left_with space after)))
+      (λ why. StopsBy why turn.manner first bytes start new after.results.items)
+
+  goes : (more : Bool) → more ≡ true → IsAt turn.manner first bytes start (turn.number + 1) rest new (left_with space after) → Comes (Ok more)
+  goes more e h = rw e h
+
+  pub passes_refused : (fault : LineFault) (buffer l : List ℕ) → IsNextLine l here.so_far.rest rest → fault ≢ no_memory → RefusesLine fault l → HoldsLine buffer l
+      → (result : Result Bool LocalFault) → Passes result turn fault buffer old new before after → Comes result
+  passes_refused fault buffer l first_line real refusing holds (Ok more) h = goes more h.0 (elim h.1 [
+    | inl talk ↦ helps_one turn.manner first bytes start turn.number known old new space before after here rest l first_line.rest fault below first_line.left_is first_line.split
+    talk.0 (help_held buffer l holds talk.1) refusing talk.2
+    | inr over ↦ passes_one turn.manner first bytes start turn.number known old new space before after here rest l first_line.rest fault below first_line.left_is first_line.split
+    (over_held turn.manner buffer l holds over.0) real refusing over.1
+  ])
+  passes_refused fault buffer l first_line real refusing holds (Err why) h = strictly why fault l (lines first_line.rest) first_line.split real refusing h
+
+  pub stays : new ≡ old → after ≡ before → Breaks cut_short turn.manner first bytes start new after.results.items
+  stays e f =
+      subst (λ s. Breaks cut_short turn.manner first bytes start s after.results.items) (sym e)
+      (breaks_here turn.manner first bytes start turn.number known old (left_with space before) here after.results.items (ap (λ h. h.results.items) f))
+
+-- A line was refused by its first bytes, and its rest was passed.
+module _ (turn : Turn) (first : Contents) (bytes : List ℕ) (start : Scene) (known mid rest : Option (List ℕ)) (old new : Scene) (space : SpaceState) (before after : Held)
+    (below : turn.number < 2 ^ 48) (here : IsAt turn.manner first bytes start turn.number known old (left_with space before)) (fault : LineFault) (buffer : List ℕ)
+    (fails : NextLineFails (no.RefusedEarly fault) here.so_far.rest mid buffer) where
+  passed : (left : Option (List ℕ)) → left ≡ Some (drop_through 10 fails.1.rest) → GoesOn turn.manner → Settles old new before after (refusal_line (refusal turn.number fault) ∷ []) 1
+      → IsAt turn.manner first bytes start (turn.number + 1) left new (left_with space after)
+  passed left e on settles =
+      passes_one turn.manner first bytes start turn.number known old new space before after here left fails.0 (drop_through 10 fails.1.rest) fault below e fails.1.split
+      (over_long turn.manner fails.0 on fails.4) fails.2 fails.3 settles
+
+  dropped : DropsThrough mid rest 10 → rest ≡ Some (drop_through 10 fails.1.rest)
+  dropped drops = subst (λ o. IfSome o (λ xs. rest ≡ Some (drop_through 10 xs))) fails.1.left_is drops
+
+  broken : GoesOn turn.manner → Settles old new before after (refusal_line (refusal turn.number fault) ∷ []) 1 → Breaks cut_short turn.manner first bytes start new after.results.items
+  broken on settles =
+      breaks_here turn.manner first bytes start (turn.number + 1) (Some (drop_through 10 fails.1.rest)) new (left_with space after) (passed (Some (drop_through 10 fails.1.rest)) refl on settles)
+      after.results.items refl
+
+  ends_early : (why : LocalFault) → EndsEarly why turn fault old new before after → StopsBy why turn.manner first bytes start new after.results.items
+  ends_early (local.Refused line w) h =
+      strictly turn first bytes start known rest old new space before after below here (local.Refused line w) fault fails.0 (lines (drop_through 10 fails.1.rest)) fails.1.split fails.2 fails.3 h
+  ends_early local.NoMemory h = broken h.0 h.1
+  ends_early (local.Read error) h = broken h.0 h.1
+  ends_early (local.Write error) h = tt
+
+  pub passes_early : (result : Result Bool LocalFault)
+      → MatchResult result
+      (λ more. (more ≡ true) × DropsThrough mid rest 10 × GoesOn turn.manner × Settles old new before after (refusal_line (refusal turn.number fault) ∷ []) 1)
+      (λ why. EndsEarly why turn fault old new before after)
+      → Comes turn first bytes start known rest old new space before after below here result
+  passes_early (Ok more) h = goes turn first bytes start known rest old new space before after below here more h.0 (passed rest (dropped h.1) h.2 h.3)
+  passes_early (Err why) h = ends_early why h
+
+-- What came of a line that isn't read.
+module _ (turn : Turn) (first : Contents) (bytes : List ℕ) (start : Scene) (known mid rest : Option (List ℕ)) (old new : Scene) (space : SpaceState) (before after : Held)
+    (below : turn.number < 2 ^ 48) (here : IsAt turn.manner first bytes start turn.number known old (left_with space before)) (buffer : List ℕ) where
+  pub comes_of : (why : NoLine) (result : Result Bool LocalFault) → NextLineFails why here.so_far.rest mid buffer → PassesRead result turn why buffer mid rest old new before after
+      → Comes turn first bytes start known rest old new space before after below here result
+  comes_of (no.Refused fault) result fails h =
+      passes_refused turn first bytes start known rest old new space before after below here fault buffer fails.0 (subst (IsNextLine fails.0 here.so_far.rest) (sym h.1) fails.1) fails.2 fails.3 fails.4
+      result h.0
+  comes_of (no.RefusedEarly fault) result fails h = passes_early turn first bytes start known mid rest old new space before after below here fault buffer fails result h
+  comes_of no.NoMemory result fails h = rw h.0 (stays turn first bytes start known rest old new space before after below here h.1 h.2)
+  comes_of (no.Read error) result fails h = rw h.0 (stays turn first bytes start known rest old new space before after below here h.1 h.2)
+
+-- ---- a line that was read
+
+module _ {A : Type 0} (manner : Manner) (first : Contents) (bytes : List ℕ) (start : Scene) (n : ℕ) (known rest : Option (List ℕ)) (now : Scene) (space : SpaceState) (held : Held)
+    (here : IsAt manner first bytes start n known now (left_with space held)) (buffer : List ℕ) (result : Result (NextLine A) NoLine)
+    (read : IfSome known (λ xs. MatchResult result (λ x. ReturnsLine x xs rest) (λ why. NextLineFails why xs rest buffer))) where
+  told : MatchResult result (λ x. ReturnsLine x here.so_far.rest rest) (λ why. NextLineFails why here.so_far.rest rest buffer)
+  told = subst (λ o. IfSome o (λ xs. MatchResult result (λ x. ReturnsLine x xs rest) (λ why. NextLineFails why xs rest buffer))) here.so_far.left_is read
+
+  gives_line : (field x : NextLine A) → result ≡ Ok field → field ≡ x → ReturnsLine x here.so_far.rest rest
+  gives_line field x e f =
+      subst (λ y. ReturnsLine y here.so_far.rest rest) f (subst (λ r. MatchResult r (λ y. ReturnsLine y here.so_far.rest rest) (λ why. NextLineFails why here.so_far.rest rest buffer)) e told)
+
+  pub fails_line : (field why : NoLine) → result ≡ Err field → field ≡ why → NextLineFails why here.so_far.rest rest buffer
+  fails_line field why e f =
+      subst (λ y. NextLineFails y here.so_far.rest rest buffer) f (subst (λ r. MatchResult r (λ y. ReturnsLine y here.so_far.rest rest) (λ y. NextLineFails y here.so_far.rest rest buffer)) e told)
+
+  pub ends : (field : NextLine A) → result ≡ Ok field → field ≡ next.End → Runs manner first bytes complete start now (left_with space held)
+  ends field e f = ends_here manner first bytes start n known now (left_with space held) here (gives_line field next.End e f)
+
+  pub skips_on : (field : NextLine A) → n < 2 ^ 48 → result ≡ Ok field → field ≡ next.Skipped → IsAt manner first bytes start (n + 1) rest now (left_with space held)
+  skips_on field below e f =
+      let given = gives_line field next.Skipped e f in
+      skips_here manner first bytes start n known now (left_with space held) here rest given.0 below given.1 given.2
+
+  pub runs_on : (field : NextLine A) (op : Op A) (later : SpaceState) (after : Held) (ran : Result Bool LocalFault) → n < 2 ^ 48 → result ≡ Ok field → field ≡ next.Operation op
+      → RunsOperation ran (operation_of op) (left_with space held) (left_with later after)
+      → MatchResult ran
+      (λ more. MatchBool more (IsAt manner first bytes start (n + 1) rest now (left_with later after)) (Runs manner first bytes complete start now (left_with later after)))
+      (λ why. StopsBy why manner first bytes start now after.results.items)
+  runs_on field op later after ran below e f h =
+      let given = gives_line field (next.Operation op) e f in
+      operates manner first bytes start n known rest now (left_with space held) (left_with later after) here (operation_of op) given.0 below given.1 given.2 ran h
+
+-- Nothing was said when the next line was asked for.
+pub asked : (manner : Manner) (first : Contents) (bytes : List ℕ) (start : Scene) (n : ℕ) (known : Option (List ℕ)) (now later : Scene) (left : Left) → later.written ≡ now.written
+    → Says now.said later.said [] → IsAt manner first bytes start n known now left → IsAt manner first bytes start n known later left
+asked manner first bytes start n known now later left written said here = record {
+  ops = here.ops;
+  refusals = here.refusals;
+  so_far = here.so_far;
+  gives = subst (λ rs. Gives first start later here.ops rs left) (append-nil here.refusals) (gives_told first start now here.ops here.refusals left here.gives later [] written said);
+  count = here.count;
+}
+
+-- ---- the end of a run
 
 -- The bytes left after the last possible line.
-module _ (initial : Contents) (bytes : List ℕ) (known old new : Option (List ℕ)) (n : ℕ) (ts : Contents) (pending : List ℕ)
-    (along : Along initial bytes known old new n ts pending) (result : Result Bool ReadFault)
-    (more : IfSome known (λ xs. IfOk result (λ is_more.
-    MatchBool is_more (BeginsWith (λ _. Unit {0}) xs) (lines xs ≡ [])))) where
-  left_behind : (field : Bool) → result ≡ Ok field
-      → MatchBool field (BeginsWith (λ _. Unit {0}) along.rest) (lines along.rest ≡ [])
-  left_behind field e =
-      let LeftBehind : List ℕ → Bool → Type 0 =
-      λ xs is_more. MatchBool is_more (BeginsWith (λ _. Unit {0}) xs) (lines xs ≡ []) in
-      subst (λ r. IfOk r (LeftBehind along.rest)) e
-      (known_of (λ xs. IfOk result (LeftBehind xs)) initial bytes known old new n ts pending along more)
+module _ (manner : Manner) (first : Contents) (bytes : List ℕ) (start : Scene) (n : ℕ) (known : Option (List ℕ)) (now : Scene) (left : Left) (here : IsAt manner first bytes start n known now left)
+    (result : Result Bool ReadFault) (more : IfSome known (λ xs. IfOk result (λ is_more. MatchBool is_more (BeginsWith (λ _. Unit {0}) xs) (lines xs ≡ [])))) where
+  LeftBehind : Bool → Type 0
+  LeftBehind is_more = MatchBool is_more (BeginsWith (λ _. Unit {0}) here.so_far.rest) (lines here.so_far.rest ≡ [])
 
-  pub one_too_many : (field : Bool) → result ≡ Ok field → field ≡ true → 2 ^ 48 ≤ n
-      → AddsResults initial bytes (refused_at n TooLong) old new pending
-  one_too_many field e f low =
-      late initial bytes known old new n ts pending along low
-      (subst (λ b. MatchBool b (BeginsWith (λ _. Unit {0}) along.rest) (lines along.rest ≡ [])) f (left_behind field e))
+  left_behind : (field b : Bool) → result ≡ Ok field → field ≡ b → MatchBool b (BeginsWith (λ _. Unit {0}) here.so_far.rest) (lines here.so_far.rest ≡ [])
+  left_behind field b e f =
+      let Behind : List ℕ → Bool → Type 0 = λ xs is_more. MatchBool is_more (BeginsWith (λ _. Unit {0}) xs) (lines xs ≡ []) in
+      subst (Behind here.so_far.rest) f (subst (λ r. IfOk r (Behind here.so_far.rest)) e (subst (λ o. IfSome o (λ xs. IfOk result (Behind xs))) here.so_far.left_is more))
 
-  pub none_left : (field : Bool) → result ≡ Ok field → field ≡ false → AddsResults initial bytes complete old new pending
-  none_left field e f =
-      at_last initial bytes known old new n ts pending along
-      (subst (λ b. MatchBool b (BeginsWith (λ _. Unit {0}) along.rest) (lines along.rest ≡ [])) f (left_behind field e))
+  pub one_too_many : (field : Bool) → result ≡ Ok field → field ≡ true → BeginsWith (λ _. Unit {0}) here.so_far.rest
+  one_too_many field e f = left_behind field true e f
 
-  pub not_read : (fault : ReadFault) → StopsBy (read_fault_of fault) initial bytes old new pending
-  not_read pieces.NoMemory = cut initial bytes known old new n ts pending along
-  not_read (pieces.Read error) = cut initial bytes known old new n ts pending along
+  pub none_left : (field : Bool) → result ≡ Ok field → field ≡ false → Runs manner first bytes complete start now left
+  none_left field e f = ends_here manner first bytes start n known now left here (left_behind field false e f)
+
+  pub not_read : (fault : ReadFault) → StopsBy (read_fault_of fault) manner first bytes start now left.pending
+  not_read pieces.NoMemory = breaks_here manner first bytes start n known now left here left.pending refl
+  not_read (pieces.Read error) = breaks_here manner first bytes start n known now left here left.pending refl
+
+-- Nothing is promised if the writer failed.
+pub write_stops : (manner : Manner) (first : Contents) (bytes : List ℕ) (start now : Scene) (pending : List ℕ) (fault : LocalFault) → IsWriteFault fault
+    → StopsBy fault manner first bytes start now pending
+write_stops manner first bytes start now pending (local.Write error) h = tt
+write_stops manner first bytes start now pending _ h = absurd h
+
+pub each_known : (P Q : List ℕ → Type 0) (start : Option (List ℕ)) → ((bytes : List ℕ) → P bytes → Q bytes) → IfSome start P → IfSome start Q
+each_known P Q None f h = tt
+each_known P Q (Some bytes) f h = f bytes h
 
 -- The results that were pending are written too.
-module _ (initial : Contents) (start old new written : Option (List ℕ)) (pending : List ℕ) (appended : Appends new written pending) where
-  all_written : (bytes : List ℕ) (ending : Ending) → AddsResults initial bytes ending old new pending → AddsResults initial bytes ending old written []
-  all_written bytes ending a =
-      (a.0 ++ pending, subst (λ w. RunsLines 1 initial (lines bytes) w ending) (sym (append-nil (a.0 ++ pending))) a.1, Appends-trans old new written a.0 pending a.2 appended)
+module _ (manner : Manner) (first : Contents) (bytes : List ℕ) (start now written : Scene) (said : written.said ≡ now.said) where
+  all_written : (ending : Ending) (left after : Left) → Appends now.written written.written left.pending → after.pending ≡ [] → after.tuples ≡ left.tuples → after.refused ≡ left.refused
+      → Runs manner first bytes ending start now left → Runs manner first bytes ending start written after
+  all_written ending left after appended none tuples refused runs = record {
+    ops = runs.ops;
+    refusals = runs.refusals;
+    said = runs.said;
+    gives = gives_written first start now runs.ops runs.refusals left runs.gives written after said tuples
+        (record { gone = left.pending; wrote = appended; split = ap (λ l. left.pending ++ l) none ∙ append-nil left.pending });
+    count = refused ∙ runs.count;
+  }
 
-  pub written_at_last : (e : Ending) → IfSome start (λ bytes. AddsResults initial bytes e old new pending) → IfSome start (λ bytes. AddsResults initial bytes e old written [])
-  written_at_last e h =
-      each_known (λ bytes. AddsResults initial bytes e old new pending) (λ bytes. AddsResults initial bytes e old written []) start (λ bytes a. all_written bytes e a) h
+  pub written_at_last : (left : Left) → Appends now.written written.written left.pending → Runs manner first bytes complete start now left
+      → Runs manner first bytes complete start written (record left { pending = [] })
+  written_at_last left appended runs = all_written complete left (record left { pending = [] }) appended refl refl refl runs
 
-  stops_written : (bytes : List ℕ) (fault : LocalFault) → StopsBy fault initial bytes old new pending → StopsBy fault initial bytes old written []
-  stops_written bytes (local.Refused line fault) a = all_written bytes (refused_at line fault) a
-  stops_written bytes local.NoMemory a = all_written bytes cut_short a
-  stops_written bytes (local.Read error) a = all_written bytes cut_short a
-  stops_written bytes (local.Write error) a = tt
+  breaks_written : (ending : Ending) (pending : List ℕ) → Appends now.written written.written pending → Breaks ending manner first bytes start now pending
+      → Breaks ending manner first bytes start written []
+  breaks_written ending pending appended h =
+      let left = h.0 in
+      (record left { pending = [] }, refl,
+        all_written ending left (record left { pending = [] }) (subst (Appends now.written written.written) (sym h.1) appended) refl refl refl h.2)
 
-  pub written_at_fault : (fault : LocalFault) → IfSome start (λ bytes. StopsBy fault initial bytes old new pending) → IfSome start (λ bytes. StopsBy fault initial bytes old written [])
-  written_at_fault fault h =
-      each_known (λ bytes. StopsBy fault initial bytes old new pending) (λ bytes. StopsBy fault initial bytes old written []) start (λ bytes a. stops_written bytes fault a) h
+  pub written_at_fault : (pending : List ℕ) (fault : LocalFault) → Appends now.written written.written pending → StopsBy fault manner first bytes start now pending
+      → StopsBy fault manner first bytes start written []
+  written_at_fault pending (local.Refused line why) appended h = breaks_written (refused_at line why) pending appended h
+  written_at_fault pending local.NoMemory appended h = breaks_written cut_short pending appended h
+  written_at_fault pending (local.Read error) appended h = breaks_written cut_short pending appended h
+  written_at_fault pending (local.Write error) appended h = tt
 
--- nothing is promised if the writer failed
-pub write_stops : (initial : Contents) (bytes : List ℕ) (old written : Option (List ℕ)) (left : List ℕ) (fault : LocalFault)
-    → IsWriteFault fault → StopsBy fault initial bytes old written left
-write_stops initial bytes old written left (local.Write error) h = tt
-write_stops initial bytes old written left _ h = absurd h
+-- No refusal is passed over in a strict run that ends well.
+none_refused : {n : ℕ} {ls : List (List ℕ)} {os : List Operation} {rs : List Refusal} {ending : Ending} → LinesSay Strict n ls os rs ending → ending ≡ complete → rs ≡ []
+none_refused at_end e = refl
+none_refused stops e = cc
+none_refused (skips below skipped r) e = none_refused r e
+none_refused (calls o below is_line r) e = none_refused r e
+none_refused (refuses strict below known refusing) e = cc
+none_refused (passes over below known refusing r) e = absurd over
+none_refused (helps fault talks help below refusing r) e = cc
+none_refused (is_late high) e = cc
 
-pub write_fault : (initial : Contents) (start old written : Option (List ℕ)) (left : List ℕ) (fault : LocalFault)
-    → IsWriteFault fault → IfSome start (λ bytes. StopsBy fault initial bytes old written left)
-write_fault initial None old written left fault h = tt
-write_fault initial (Some bytes) old written left fault h = write_stops initial bytes old written left fault h
-
-pub no_start : (initial : Contents) (start old : Option (List ℕ)) → IfSome start (λ bytes. AddsResults initial bytes cut_short old old [])
-no_start initial None old = tt
-no_start initial (Some bytes) old = ([], stops, Appends-nil old)
-
--- The writer took the pending bytes, or failed.
-pub ends_written : (initial : Contents) (start old new written : Option (List ℕ)) (pending : List ℕ) (result : Result (Unit {0}) LocalFault)
-    → OnOk result (Appends new written pending) → IfErr result IsWriteFault → IfSome start (λ bytes. AddsResults initial bytes complete old new pending)
-    → IfSome start (λ bytes. MatchResult result (λ _. AddsResults initial bytes complete old written []) (λ fault. StopsBy fault initial bytes old written []))
-ends_written initial start old new written pending (Ok u) a f h = written_at_last initial start old new written pending a complete h
-ends_written initial start old new written pending (Err fault) a f h = write_fault initial start old written [] fault f
-
--- A property of contents and bytes holds of equal ones.
-pub of_equals : (P : Contents → List ℕ → Type 0) (from to : Contents) (known start : Option (List ℕ)) → from ≡ to → known ≡ start
-    → IfSome known (P from) → IfSome start (P to)
-of_equals P from to known start e f h = subst (λ ts. IfSome start (P ts)) e (subst (λ s. IfSome s (P from)) f h)
+pub strict_ends : (first : Contents) (bytes : List ℕ) (start now : Scene) (tuples : Contents) (refused : ℕ) → Runs Strict first bytes complete start now (record { tuples = tuples; refused = refused; pending = [] })
+    → Runs Strict first bytes complete start now (record { tuples = tuples; refused = 0; pending = [] })
+strict_ends first bytes start now tuples refused runs = record {
+  ops = runs.ops;
+  refusals = runs.refusals;
+  said = runs.said;
+  gives = gives_same first start now runs.ops runs.refusals _ runs.gives (record { tuples = tuples; refused = 0; pending = [] }) refl refl;
+  count = ap length (sym (none_refused runs.said refl));
+}
 
 -- A new buffer holds nothing back.
 pub new_remaining : {T A : Type 0} (remaining : T → Option (List ℕ)) (reader : BufReader T A) (inner : T) → reader_inner reader ≡ inner → reader_buffer reader ≡ [] → reader_capacity reader ≡ 8192
@@ -225,3 +449,8 @@ new_remaining remaining reader inner is_inner empty capacity =
     nothing_before : (known : Option (List ℕ)) → prepend_known [] known ≡ known
     nothing_before None = refl
     nothing_before (Some bytes) = refl
+
+-- a reader that has not ended yet
+pub not_ended : (known : Option (List ℕ)) → option_map (λ bytes. if false then [] else bytes) known ≡ known
+not_ended None = refl
+not_ended (Some bytes) = refl

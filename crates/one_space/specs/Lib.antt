@@ -3,9 +3,11 @@ pub mod Pieces
 pub mod NextLines
 pub mod LongLines
 pub mod Endings
+pub mod Reading
 pub mod Moments
 pub mod Scripts
 pub mod Shown
 pub mod ShowFaults
 pub mod Refusals
 pub mod Complaints
+pub mod Commands

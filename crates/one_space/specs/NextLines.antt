@@ -1,5 +1,6 @@
 -- The results of reading a line, by the bytes that were left.
-use Rattle.std.specs.Prelude.{◌≡◌, ◌≢◌, ℕ, Bool, MatchBool, List, [], ◌∷◌, Option, Some, IfSome, Result, MatchResult}
+use Rattle.std.specs.Prelude.{◌≡◌, ◌≢◌, ◌⊎◌, ℕ, ◌≤◌, Bool, MatchBool, List, [], ◌∷◌, length, Option, Some, IfSome, Result, MatchResult}
+use Rattle.std.specs.Io.BufRead.{drop_through}
 use Rattle.std.specs.Str.Lines.{lines}
 use Rattle.tuple_codec.specs.OperationView.{operation_of}
 use Rattle.tuple_text.specs.Lines.{IsLine, IsSkipped}
@@ -18,6 +19,16 @@ pub record IsNextLine (l xs : List ℕ) (left : Option (List ℕ)) : Type 0 wher
   pub split : lines xs ≡ l ∷ lines rest
   pub left_is : left ≡ Some rest
 
+-- l is the first line of the bytes xs, and the end of this line and all others are left
+pub record IsCutLine (l xs : List ℕ) (left : Option (List ℕ)) : Type 0 where
+  pub rest : List ℕ
+  pub split : lines xs ≡ l ∷ lines (drop_through 10 rest)
+  pub left_is : left ≡ Some rest
+
+-- The buffer has the line, or nothing of a line that is too long.
+abbrev pub HoldsLine : List ℕ → List ℕ → Type 0
+HoldsLine buffer l = (buffer ≡ l) ⊎ ((buffer ≡ []) × (65537 ≤ length l))
+
 -- P holds of the first line of the bytes xs
 pub record BeginsWith (P : List ℕ → Type 0) (xs : List ℕ) : Type 0 where
   pub first : List ℕ
@@ -30,18 +41,23 @@ ReturnsLine next.End xs left = lines xs ≡ []
 ReturnsLine next.Skipped xs left = (l : List ℕ) × IsNextLine l xs left × IsSkipped l
 ReturnsLine (next.Operation op) xs left = (l : List ℕ) × IsNextLine l xs left × IsLine (operation_of op) l
 
-abbrev pub NextLineFails : NoLine → List ℕ → Type 0
-NextLineFails (no.Refused fault) xs = (fault ≢ NoMemory) × BeginsWith (RefusesLine fault) xs
-NextLineFails no.NoMemory xs = Unit {0}
-NextLineFails (no.Read error) xs = Unit {0}
+-- Why the first line of the bytes xs isn't read. A refused line stands in the buffer, if it isn't too long.
+abbrev pub NextLineFails : NoLine → List ℕ → Option (List ℕ) → List ℕ → Type 0
+NextLineFails (no.Refused fault) xs left buffer =
+    (l : List ℕ) × IsNextLine l xs left × (fault ≢ NoMemory) × RefusesLine fault l × HoldsLine buffer l
+NextLineFails (no.RefusedEarly fault) xs left buffer =
+    (l : List ℕ) × IsCutLine l xs left × (fault ≢ NoMemory) × RefusesLine fault l × (65537 ≤ length l)
+NextLineFails no.NoMemory xs left buffer = Unit {0}
+NextLineFails (no.Read error) xs left buffer = Unit {0}
 
 -- The first line of the bytes xs is read, or the fault says why not.
-abbrev pub ReadsLine : {A : Type 0} → Result (NextLine A) NoLine → List ℕ → Option (List ℕ) → Type 0
-ReadsLine result xs left = MatchResult result (λ next. ReturnsLine next xs left) (λ no. NextLineFails no xs)
+abbrev pub ReadsLine : {A : Type 0} → Result (NextLine A) NoLine → List ℕ → Option (List ℕ) → List ℕ → Type 0
+ReadsLine result xs left buffer =
+    MatchResult result (λ next. ReturnsLine next xs left) (λ no. NextLineFails no xs left buffer)
 
 -- the same of the bytes that are left, if they are known
-abbrev pub ReadsNext : {A : Type 0} → Result (NextLine A) NoLine → Option (List ℕ) → Option (List ℕ) → Type 0
-ReadsNext result known left = IfSome known (λ xs. ReadsLine result xs left)
+abbrev pub ReadsNext : {A : Type 0} → Result (NextLine A) NoLine → Option (List ℕ) → Option (List ℕ) → List ℕ → Type 0
+ReadsNext result known left buffer = IfSome known (λ xs. ReadsLine result xs left buffer)
 
 -- whether the bytes xs have a line
 abbrev pub TellsLine : Bool → List ℕ → Type 0
@@ -59,6 +75,7 @@ IsJudged (next.Operation op) l = IsLine (operation_of op) l
 
 abbrev pub IsRefused : NoLine → List ℕ → Type 0
 IsRefused (no.Refused fault) l = (fault ≢ NoMemory) × RefusesLine fault l
+IsRefused (no.RefusedEarly fault) l = ⊥
 IsRefused no.NoMemory l = Unit {0}
 IsRefused (no.Read error) l = ⊥
 

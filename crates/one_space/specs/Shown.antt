@@ -18,13 +18,13 @@ ShowsTuple digits old new = (t : TupleTree) × DigitsSpell digits t × Appends o
 
 -- Malformed digits spell no tuple, and nothing is written for them.
 abbrev pub ShowFails : ShowFault → List ℕ → Option (List ℕ) → Option (List ℕ) → Type 0
-ShowFails Malformed digits old new = ((t : TupleTree) → DigitsSpell digits t → ⊥) × (new ≡ old)
+ShowFails (Malformed why) digits old new = ((t : TupleTree) → DigitsSpell digits t → ⊥) × (new ≡ old)
 ShowFails NoMemory digits old new = new ≡ old
 ShowFails (Write error) digits old new = (t : TupleTree) × DigitsSpell digits t
 
 -- the property of digits that gave no tuple
 abbrev pub ReturnsNone : ShowFault → List ℕ → Type 0
-ReturnsNone Malformed digits = (t : TupleTree) → DigitsSpell digits t → ⊥
+ReturnsNone (Malformed why) digits = (t : TupleTree) → DigitsSpell digits t → ⊥
 ReturnsNone NoMemory digits = Unit {0}
 ReturnsNone (Write error) digits = ⊥
 

@@ -2,10 +2,9 @@
 
 ghost use Rattle.std.specs.Prelude.{◌≡◌};
 ghost use Rattle.one_space.specs.Refusals.{line_refusal};
-ghost use Rattle.one_space.specs.Complaints.{status_of, OfLocal, OfShow};
+ghost use Rattle.one_space.specs.Complaints.{status_of, OfOpen, OfShow, OfWrite};
 
 use crate::digits::ShowFault;
-use crate::session::LocalFault;
 use std::{fmt, io};
 use tuple_text::LineFault;
 
@@ -30,7 +29,7 @@ pub fn line_refusal(fault: LineFault) -> u8
     }
 }
 
-/// A complaint on standard error about a run that didn't end well.
+/// A complaint on standard error about a run that didn't end well, by its first line.
 #[derive(Clone, Copy, Debug)]
 pub enum Complaint<'a> {
     /// The line of this number, from 1, is refused.
@@ -45,19 +44,30 @@ pub enum Complaint<'a> {
     Unreadable { path: &'a str },
     /// Memory ran out, or an output can't be written.
     Stopped,
+    /// Nobody reads the output any more. Nothing is said.
+    OutputClosed,
 }
 
 impl<'a> Complaint<'a> {
-    pub fn of_local(fault: &LocalFault, path: &'a str) -> Complaint<'a>
-        ensures { OfLocal fault.now path.now result }
+    /// The complaint about a file that can't be opened.
+    pub fn of_open(error: &io::Error, path: &'a str) -> Complaint<'a>
+        ensures { OfOpen error.now path.now result }
     {
-        match fault {
-            LocalFault::Refused { line, fault } => Complaint::Line {
-                number: *line,
-                fault: *fault,
-            },
-            LocalFault::Read(_) => Complaint::Unreadable { path },
-            LocalFault::NoMemory | LocalFault::Write(_) => Complaint::Stopped,
+        if error.kind() == io::ErrorKind::OutOfMemory {
+            Complaint::Stopped
+        } else {
+            Complaint::Unreadable { path }
+        }
+    }
+
+    /// The complaint about an output that can't be written.
+    pub fn of_write(error: &io::Error) -> Complaint<'a>
+        ensures { OfWrite error.now result }
+    {
+        if error.kind() == io::ErrorKind::BrokenPipe {
+            Complaint::OutputClosed
+        } else {
+            Complaint::Stopped
         }
     }
 
@@ -65,17 +75,9 @@ impl<'a> Complaint<'a> {
         ensures { OfShow fault.now result }
     {
         match fault {
-            ShowFault::Malformed => Complaint::Malformed,
-            ShowFault::NoMemory | ShowFault::Write(_) => Complaint::Stopped,
-        }
-    }
-
-    /// The complaint about a file that can't be opened.
-    pub fn of_open(error: &io::Error, path: &'a str) -> Complaint<'a> {
-        if error.kind() == io::ErrorKind::OutOfMemory {
-            Complaint::Stopped
-        } else {
-            Complaint::Unreadable { path }
+            ShowFault::Malformed(_) => Complaint::Malformed,
+            ShowFault::NoMemory => Complaint::Stopped,
+            ShowFault::Write(error) => Complaint::of_write(error),
         }
     }
 
@@ -89,7 +91,7 @@ impl<'a> Complaint<'a> {
             | Complaint::Step { .. }
             | Complaint::Configuration
             | Complaint::Unreadable { .. } => 1,
-            Complaint::Stopped => 3,
+            Complaint::Stopped | Complaint::OutputClosed => 3,
         }
     }
 }
@@ -125,6 +127,7 @@ impl fmt::Display for Complaint<'_> {
             }
             Complaint::Unreadable { path } => write!(f, "cannot read {path}"),
             Complaint::Stopped => write!(f, "stopped"),
+            Complaint::OutputClosed => Ok(()),
         }
     }
 }

@@ -11,12 +11,28 @@ use tuple_codec::{Bad, decode_tuple};
 use tuple_text::write_tuple;
 use tuple_tree::Tuple;
 
+/// Why digits are those of no tuple.
+#[derive(Clone, Copy, Debug, PartialEq, Eq, Error)]
+pub enum BadDigits {
+    #[error("an odd number of digits")]
+    Odd,
+    /// At this place, from 0, stands no hexadecimal digit.
+    #[error("no hexadecimal digit at place {place}")]
+    NoDigit { place: usize },
+    /// No tuple within the limits begins so.
+    #[error("these bytes spell no tuple")]
+    NoTuple,
+    /// The tuple ends before the last byte.
+    #[error("the tuple ends after {tuple} of {all} bytes")]
+    Longer { tuple: usize, all: usize },
+}
+
 /// Why no tuple was shown.
 #[derive(Debug, Drop, Error)]
 pub enum ShowFault {
     /// The digits' bytes spell no tuple within the limits, or there is a byte more.
-    #[error("malformed")]
-    Malformed,
+    #[error("{0}")]
+    Malformed(BadDigits),
     #[error("out of memory")]
     NoMemory,
     #[error("not written: {0}")]
@@ -54,7 +70,12 @@ impl From<FromHexError> for ShowFault {
     fn from(error: FromHexError) -> ShowFault {
         match error {
             FromHexError::OutOfMemory => ShowFault::NoMemory,
-            _ => ShowFault::Malformed,
+            FromHexError::InvalidHexCharacter { index, .. } => {
+                ShowFault::Malformed(BadDigits::NoDigit { place: index })
+            }
+            FromHexError::OddLength | FromHexError::InvalidStringLength => {
+                ShowFault::Malformed(BadDigits::Odd)
+            }
         }
     }
 }
@@ -91,10 +112,11 @@ fn read_digits(alloc: Global, digits: &str) -> Result<Tuple<Global>, ShowFault>
             if len == bytes.len() {
                 Ok(tuple)
             } else {
-                Err(ShowFault::Malformed)
+                let all = bytes.len();
+                Err(ShowFault::Malformed(BadDigits::Longer { tuple: len, all }))
             }
         }
-        Err(Bad::Malformed) => Err(ShowFault::Malformed),
+        Err(Bad::Malformed) => Err(ShowFault::Malformed(BadDigits::NoTuple)),
         Err(Bad::NoMemory) => Err(ShowFault::NoMemory),
     }
 }

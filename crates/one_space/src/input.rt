@@ -1,10 +1,10 @@
 //! Lines of a script, read with memory for one line.
 
-ghost use Rattle.std.specs.Prelude.{◌≡◌, ◌<◌, ◌≤◌, ℕ, List, IfOk, IfSome, vec_len};
-ghost use Rattle.tuple_text.specs.Faults.{RefusesLine};
+ghost use Rattle.std.specs.Prelude.{◌≡◌, ◌<◌, ◌≤◌, [], IfOk, IfSome, OnOk, vec_len};
+ghost use Rattle.std.specs.Io.BufRead.{DropsThrough};
 ghost use Rattle.tuple_text.specs.declared.faults.LineFault.TheVariants.{BadByte};
-ghost use Rattle.one_space.specs.NextLines.{ReadsNext, TellsLine, JudgesNextLine, IsRefused};
-ghost use Rattle.one_space.specs.LongLines.{ReadsOn, ReadsBlanks, JudgesBlanks, DropsBlanks};
+ghost use Rattle.one_space.specs.NextLines.{ReadsNext, TellsLine, JudgesNextLine};
+ghost use Rattle.one_space.specs.LongLines.{ReadsOn, ReadsBlanks, JudgesBlanks, JudgesEarly, DropsBlanks};
 
 use crate::pieces::{PieceEnd, ReadFault, drop_return, is_blank, keep_last, read_piece};
 use std::alloc::Allocator;
@@ -30,7 +30,10 @@ pub enum NextLine<A: Allocator> {
 /// Why no line was read.
 #[derive(Drop)]
 pub enum NoLine {
+    /// The line is refused, and passed.
     Refused(LineFault),
+    /// The line is refused by its first bytes, and the rest of it is left.
+    RefusedEarly(LineFault),
     NoMemory,
     Read(io::Error),
 }
@@ -54,7 +57,7 @@ pub fn next_line<A: Allocator + Copy, B: BufRead>(
     reader: &mut B,
     line: &mut Vec<u8>,
 ) -> Result<NextLine<A>, NoLine>
-    ensures { ReadsNext result (B.remaining reader.old) (B.remaining reader.new) }
+    ensures { ReadsNext result (B.remaining reader.old) (B.remaining reader.new) line.new.items }
 {
     line.clear();
     match read_piece(reader, PIECE, line)? {
@@ -70,6 +73,16 @@ pub fn next_line<A: Allocator + Copy, B: BufRead>(
             }
         }
         PieceEnd::Full => long_line(alloc, reader, line),
+    }
+}
+
+/// Passes the rest of a line, whatever its length, with its end.
+pub fn skip_rest<B: BufRead>(reader: &mut B) -> Result<(), ReadFault>
+    ensures { OnOk result (DropsThrough (B.remaining reader.old) (B.remaining reader.new) 10) }
+{
+    match reader.skip_until(b'\n') {
+        Ok(_) => Ok(()),
+        Err(error) => Err(ReadFault::Read(error)),
     }
 }
 
@@ -95,16 +108,6 @@ fn judge<A: Allocator + Copy>(alloc: A, line: &[u8]) -> Result<NextLine<A>, NoLi
     }
 }
 
-/// Why a line with this fault isn't read.
-pub fn refusal_of(fault: LineFault) -> NoLine
-    ensures { (l : List ℕ) → RefusesLine fault l → IsRefused result l }
-{
-    match fault {
-        LineFault::NoMemory => NoLine::NoMemory,
-        _ => NoLine::Refused(fault),
-    }
-}
-
 // The line is too long, unless it is skipped: its first bytes decide, if they aren't all blanks.
 fn long_line<A: Allocator + Copy, B: BufRead>(
     alloc: A,
@@ -112,22 +115,31 @@ fn long_line<A: Allocator + Copy, B: BufRead>(
     line: &mut Vec<u8>,
 ) -> Result<NextLine<A>, NoLine>
     requires { 65538 ≤ vec_len line.old }
-    ensures { ReadsOn result line.old.items (B.remaining reader.old) (B.remaining reader.new) }
+    ensures { ReadsOn result line.old.items (B.remaining reader.old) (B.remaining reader.new)
+        line.new.items }
 {
     if line[0] == b'#' {
-        return match reader.skip_until(b'\n') {
-            Ok(_) => Ok(NextLine::Skipped),
-            Err(error) => Err(NoLine::Read(error)),
-        };
+        skip_rest(reader)?;
+        return Ok(NextLine::Skipped);
     }
     let (front, _) = line.as_slice().split_at(JUDGED);
     if !is_blank(front) {
-        return judge(alloc, front);
+        return early(judge(alloc, front));
     }
     if !drop_blanks(line) {
-        return Err(too_many_blanks());
+        return Err(NoLine::RefusedEarly(too_many_blanks()));
     }
     blanks_line(reader, line)
+}
+
+// The judgement of a front, for the line that begins so.
+fn early<A: Allocator>(judged: Result<NextLine<A>, NoLine>) -> Result<NextLine<A>, NoLine>
+    ensures { JudgesEarly judged result }
+{
+    match judged {
+        Err(NoLine::Refused(fault)) => Err(NoLine::RefusedEarly(fault)),
+        other => other,
+    }
 }
 
 // The rest of a line that begins with more blanks than a line may have: it is skipped if no other byte follows.
@@ -136,18 +148,19 @@ fn blanks_line<A: Allocator, B: BufRead>(
     line: &mut Vec<u8>,
 ) -> Result<NextLine<A>, NoLine>
     requires { 0 < vec_len line.old }
-    ensures { ReadsBlanks result line.old.items (B.remaining reader.old) (B.remaining reader.new) }
+    ensures { ReadsBlanks result line.old.items (B.remaining reader.old) (B.remaining reader.new)
+        line.new.items }
 {
     for _ in 0..u64::MAX {
         match read_piece(reader, PIECE, line)? {
             PieceEnd::LineFeed => {
                 drop_return(line);
-                return blanks_end(line.as_slice());
+                return blanks_end(line);
             }
-            PieceEnd::InputEnd => return blanks_end(line.as_slice()),
+            PieceEnd::InputEnd => return blanks_end(line),
             PieceEnd::Full => {
                 if !drop_blanks(line) {
-                    return Err(too_many_blanks());
+                    return Err(NoLine::RefusedEarly(too_many_blanks()));
                 }
             }
         }
@@ -155,20 +168,24 @@ fn blanks_line<A: Allocator, B: BufRead>(
     Err(NoLine::Read(io::Error::from(ErrorKind::Interrupted)))
 }
 
-fn blanks_end<A: Allocator>(line: &[u8]) -> Result<NextLine<A>, NoLine>
-    ensures { JudgesBlanks result line.now }
+// Judges the end of such a line. Nothing of a refused one is kept, since its beginning is gone.
+fn blanks_end<A: Allocator>(line: &mut Vec<u8>) -> Result<NextLine<A>, NoLine>
+    ensures judged { JudgesBlanks result line.old.items }
+    ensures none { line.new.items ≡ [] }
 {
-    if is_blank(line) {
+    let blank = is_blank(line.as_slice());
+    line.clear();
+    if blank {
         Ok(NextLine::Skipped)
     } else {
-        Err(too_many_blanks())
+        Err(NoLine::Refused(too_many_blanks()))
     }
 }
 
-fn too_many_blanks() -> NoLine
-    ensures { result ≡ NoLine.Refused (BadByte 65536) }
+fn too_many_blanks() -> LineFault
+    ensures { result ≡ BadByte 65536 }
 {
-    NoLine::Refused(LineFault::BadByte { offset: MAX_LINE })
+    LineFault::BadByte { offset: MAX_LINE }
 }
 
 // Drops all bytes but the last, if they are blanks. The last may be a carriage return that belongs to the line's end.

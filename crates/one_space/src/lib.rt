@@ -18,15 +18,28 @@
 
 mod commands;
 mod complaints;
+mod console;
 mod digits;
+mod escaped;
+mod help;
 mod input;
+mod once;
 mod pieces;
+mod reasons;
 mod script;
 mod session;
+mod words;
 
-pub use commands::{STANDARD_INPUT, complain, print_tuple, run_script, script_at, words_of};
+pub use commands::{
+    LocalRequest, Terminals, is_standard_input, print_tuple, read_opened, run_opened, run_script,
+    script_at, show_digits,
+};
 pub use complaints::Complaint;
-pub use digits::{ShowFault, show};
+pub use console::{Console, StandardError, Unheard, complain};
+pub use digits::{BadDigits, ShowFault, show};
+pub use escaped::{Escaped, EscapedErrors, ShownBytes};
 pub use pieces::{PieceEnd, ReadFault, drop_return, is_blank, read_piece};
+pub use reasons::LineReason;
 pub use script::read_script;
-pub use session::{LocalFault, local};
+pub use session::{Ended, LocalFault, Manner, Rules, local, run_lines};
+pub use words::words_of;

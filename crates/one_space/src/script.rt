@@ -1,25 +1,34 @@
 //! A script: each line is judged, and a number of operations is kept.
 
-ghost use Rattle.std.specs.Prelude.{◌≡◌, ◌^◌, ◌<◌, [], IfErr, OnOk};
+ghost use Rattle.std.specs.Prelude.{◌≡◌, ◌+◌, ◌^◌, ◌<◌, ◌≤◌, [], ◌∷◌, length};
 ghost use Rattle.std.specs.Io.Buffered.{reader_remaining};
-ghost use Rattle.one_space.specs.Scripts.{EndsScript, JudgesScript, KeepsFirst, ReadsScript, ReadsScriptLine};
+ghost use Rattle.one_space.specs.Complaints.{Says, refusal_line};
+ghost use Rattle.one_space.specs.Run.{refusal};
+ghost use Rattle.one_space.specs.Scripts.{EndsScript, JudgesScript, ReadsScript, ReadsScriptLine, TellsRefusal};
+ghost use Rattle.one_space.specs.declared.session.LocalFault.TheVariants as LocalFault;
 
+use crate::complaints::Complaint;
+use crate::console::Console;
 use crate::input::{NextLine, NoLine, has_line, next_line};
-use crate::session::{LINES_END, LocalFault, line_fault, read_fault};
+use crate::reasons::LineReason;
+use crate::session::{LINES_END, LocalFault};
 use std::alloc::Global;
 use std::io::{BufReader, Read};
 use tuple_codec::Op;
 use tuple_text::LineFault;
 
-/// Reads the lines of a script, and gives their operations in order: the first `most` of them, if there are more.
-/// Lines are numbered from 1 and stay below 2 to the power of 48. The fault has the number of the first refused line.
-/// Only the result and one line take memory.
-pub fn read_script<R: Read + Drop>(
+/// Reads the lines of a script, and gives their operations in order. It reads no further than to operation number
+/// `most`, so a script without an end takes no more. Lines are numbered from 1 and stay below 2 to the power of 48. The
+/// fault has the number of the first refused line, and the console is told of it. Only the result and one line take
+/// memory.
+pub fn read_script<R: Read + Drop, C: Console>(
     alloc: Global,
     reader: R,
     most: usize,
+    console: &mut C,
 ) -> Result<Vec<Op<Global>>, LocalFault>
-    ensures { JudgesScript most result (R.remaining reader) }
+    ensures read { JudgesScript most result (R.remaining reader) }
+    ensures told { TellsRefusal result (C.said console.old) (C.said console.new) }
 {
     let mut input = match BufReader::new(alloc, reader) {
         Ok(input) => input,
@@ -29,7 +38,7 @@ pub fn read_script<R: Read + Drop>(
         line: Vec::new(alloc),
         ops: Vec::new(alloc),
     };
-    match script.read_lines(alloc, &mut input, most) {
+    match script.read_lines(alloc, &mut input, most, console) {
         Ok(()) => Ok(script.ops),
         Err(fault) => Err(fault),
     }
@@ -43,74 +52,96 @@ struct Script {
 }
 
 impl Script {
-    fn read_lines<R: Read>(
+    fn read_lines<R: Read, C: Console>(
         &mut self,
         alloc: Global,
         reader: &mut BufReader<R>,
         most: usize,
+        console: &mut C,
     ) -> Result<(), LocalFault>
         requires none { self.old.ops.items ≡ [] }
-        ensures { ReadsScript most result (reader_remaining R.remaining reader.old) self.new.ops }
+        ensures read { ReadsScript most result (reader_remaining R.remaining reader.old) self.new.ops }
+        ensures told { TellsRefusal result (C.said console.old) (C.said console.new) }
     {
         for number in 1..LINES_END {
-            match self.read_line(alloc, number, reader, most) {
+            if self.ops.len() >= most {
+                return Ok(());
+            }
+            match self.read_line(alloc, number, most, reader, console) {
                 Ok(true) => {}
                 Ok(false) => return Ok(()),
                 Err(fault) => return Err(fault),
             }
         }
-        self.end_lines(reader)
+        self.end_lines(reader, console)
     }
 
-    // Reads the next line, and gives whether there was one.
-    fn read_line<R: Read>(
+    // Reads the next line, and gives whether there was one. Fewer than `most` operations are kept.
+    fn read_line<R: Read, C: Console>(
         &mut self,
         alloc: Global,
         number: u64,
-        reader: &mut BufReader<R>,
         most: usize,
+        reader: &mut BufReader<R>,
+        console: &mut C,
     ) -> Result<bool, LocalFault>
         requires early { number < 2 ^ 48 }
-        ensures { ReadsScriptLine most result number
+        requires room { length self.old.ops.items < most }
+        ensures read { ReadsScriptLine most result number
             (reader_remaining R.remaining reader.old) self.old.ops
             (reader_remaining R.remaining reader.new) self.new.ops }
+        ensures told { TellsRefusal result (C.said console.old) (C.said console.new) }
     {
         match next_line(alloc, reader, &mut self.line) {
             Ok(NextLine::End) => Ok(false),
             Ok(NextLine::Skipped) => Ok(true),
-            Ok(NextLine::Operation(op)) => {
-                self.keep(op, most)?;
-                Ok(true)
+            Ok(NextLine::Operation(op)) => match self.ops.push(op) {
+                Ok(()) => Ok(true),
+                Err(_) => Err(LocalFault::NoMemory),
+            },
+            Err(NoLine::Refused(fault) | NoLine::RefusedEarly(fault)) => {
+                Err(refused_line(number, fault, self.line.as_slice(), console))
             }
-            Err(no) => Err(line_fault(number, no)),
-        }
-    }
-
-    // Keeps the operation, if fewer than `most` are kept.
-    fn keep(&mut self, op: Op<Global>, most: usize) -> Result<(), LocalFault>
-        ensures kept { OnOk result (KeepsFirst most self.old.ops op self.new.ops) }
-        ensures fault { IfErr result (λ fault. fault ≡ LocalFault.NoMemory) }
-    {
-        if self.ops.len() >= most {
-            return Ok(());
-        }
-        match self.ops.push(op) {
-            Ok(()) => Ok(()),
-            Err(_) => Err(LocalFault::NoMemory),
+            Err(NoLine::NoMemory) => Err(LocalFault::NoMemory),
+            Err(NoLine::Read(error)) => Err(LocalFault::Read(error)),
         }
     }
 
     // After the last possible line no line is left, or the script is refused.
-    fn end_lines<R: Read>(&mut self, reader: &mut BufReader<R>) -> Result<(), LocalFault>
-        ensures { EndsScript result (reader_remaining R.remaining reader.old) self.old.ops self.new.ops }
+    fn end_lines<R: Read, C: Console>(
+        &mut self,
+        reader: &mut BufReader<R>,
+        console: &mut C,
+    ) -> Result<(), LocalFault>
+        ensures read { EndsScript result (reader_remaining R.remaining reader.old) self.old.ops self.new.ops }
+        ensures told { TellsRefusal result (C.said console.old) (C.said console.new) }
     {
         match has_line(reader, &mut self.line) {
             Ok(false) => Ok(()),
-            Ok(true) => Err(LocalFault::Refused {
-                line: LINES_END,
-                fault: LineFault::TooLong,
-            }),
-            Err(fault) => Err(read_fault(fault)),
+            Ok(true) => Err(refused_line(LINES_END, LineFault::TooLong, &[], console)),
+            Err(fault) => Err(LocalFault::from(fault)),
         }
+    }
+}
+
+// Tells that the line is refused, and gives the fault.
+fn refused_line<C: Console>(
+    number: u64,
+    fault: LineFault,
+    line: &[u8],
+    console: &mut C,
+) -> LocalFault
+    ensures fault { result ≡ LocalFault.Refused number fault }
+    ensures told { Says (C.said console.old) (C.said console.new) (refusal_line (refusal number fault) ∷ []) }
+{
+    let reason = LineReason {
+        number,
+        fault,
+        line,
+    };
+    console.say(Complaint::Line { number, fault }, reason);
+    LocalFault::Refused {
+        line: number,
+        fault,
     }
 }

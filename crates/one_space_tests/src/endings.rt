@@ -28,7 +28,7 @@ pub fn local_ending(ending: Result<Space, LocalFault>) -> Ending {
 pub fn show_ending(ending: Result<(), ShowFault>) -> Ending {
     match ending {
         Ok(()) => Ending::Complete,
-        Err(ShowFault::Malformed) => Ending::Malformed,
+        Err(ShowFault::Malformed(_)) => Ending::Malformed,
         Err(ShowFault::NoMemory) => Ending::NoMemory,
         Err(ShowFault::Write(error)) => write_ending(&error),
     }

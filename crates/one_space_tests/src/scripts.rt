@@ -1,7 +1,7 @@
 //! Worked scripts and digits.
 
 use crate::endings::{Ending, local_ending, show_ending};
-use one_space::{Complaint, LocalFault, ShowFault, local, read_script, show};
+use one_space::{BadDigits, Complaint, LocalFault, ShowFault, Unheard, local, read_script, show};
 use space::Version;
 use std::alloc::{AllocError, Global};
 use std::io::{self, Read, Write};
@@ -118,19 +118,14 @@ static KEPT: [(&str, usize, usize, Ending); 6] = [
     ("out (1)\n# x\nout (2)\nout (3)", 3, 3, Ending::Complete),
     ("out (1)\n# x\nout (2)\nout (3)", 2, 2, Ending::Complete),
     ("out (1)\n# x\nout (2)\nout (3)", 0, 0, Ending::Complete),
-    // A line is judged also if its operation would not be kept.
-    (
-        "out (1)\n# x\nout (2)\nout (3",
-        1,
-        0,
-        Ending::Refused(4, LineFault::BadByte { offset: 6 }),
-    ),
+    // No line is read after the last operation that is kept.
+    ("out (1)\n# x\nout (2)\nout (3", 2, 2, Ending::Complete),
 ];
 
 #[test]
 fn keeps_the_first_operations(rt: HostRuntime) {
     for &(script, most, len, ending) in &KEPT {
-        let (given, kept) = match read_script(rt.alloc(), script.as_bytes(), most) {
+        let (given, kept) = match read_script(rt.alloc(), script.as_bytes(), most, &mut Unheard) {
             Ok(ops) => (Ending::Complete, ops.len()),
             Err(fault) => (local_ending(Err(fault)), 0),
         };
@@ -219,21 +214,12 @@ fn ends(
     Ok(is_said(alloc, complaint, text)? && complaint.status() == status)
 }
 
-fn says_refused_line(alloc: Global) -> Result<bool, AllocError> {
-    let fault = LocalFault::Refused {
-        line: 3,
-        fault: LineFault::BadByte { offset: 5 },
-    };
-    let complaint = Complaint::of_local(&fault, "a.bts");
-    ends(alloc, &complaint, "line 3: refused 6 at byte 5", 1)
-}
-
 fn says_others(alloc: Global) -> Result<bool, AllocError> {
     let unreadable = Complaint::Unreadable { path: "a.bts" };
     Ok(
         ends(
             alloc,
-            &Complaint::of_show(&ShowFault::Malformed),
+            &Complaint::of_show(&ShowFault::Malformed(BadDigits::Odd)),
             "refused 5",
             1,
         )? && ends(alloc, &unreadable, "cannot read a.bts", 1)?
@@ -241,7 +227,8 @@ fn says_others(alloc: Global) -> Result<bool, AllocError> {
     )
 }
 
-static LINES: [(LineFault, &str); 3] = [
+static LINES: [(LineFault, &str); 4] = [
+    (LineFault::BadByte { offset: 5 }, "line 1: refused 6 at byte 5"),
     (LineFault::TooManyFields, "line 1: refused 1"),
     (LineFault::TooDeep, "line 1: refused 2"),
     (LineFault::TooLong, "line 1: refused 3"),
@@ -258,7 +245,6 @@ fn says_lines(alloc: Global) -> Result<bool, AllocError> {
 
 #[test]
 fn says_what_went_wrong(rt: HostRuntime) -> Result<(), Fail> {
-    assert!(rt; says_refused_line(rt.alloc())?);
     assert!(rt; says_others(rt.alloc())?);
     assert!(rt; says_lines(rt.alloc())?);
     Ok(())

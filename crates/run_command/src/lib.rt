@@ -14,7 +14,13 @@
 #![tactic(auto)]
 
 mod display;
+mod drills;
+mod forecast;
 mod running;
+mod summary;
 
 pub use display::Display;
+pub use drills::{DrillFault, drilled, drills_of};
+pub use forecast::Forecast;
 pub use running::{RunFault, end_run, most_operations, run};
+pub use summary::Summary;

@@ -1,18 +1,21 @@
 //! A script on a running cluster.
 
 ghost use Rattle.std.specs.Prelude.{◌≡◌, ◌+◌, ◌/◌, ◌++◌, IfOk, OnOk};
-ghost use Rattle.run_command.specs.Results.{EndsCluster, TellsRun, WritesResults, answer_line, results_text};
+ghost use Rattle.cluster_run.specs.Room.{least_entries};
+ghost use Rattle.run_command.specs.Results.{EndsCluster, IsRunStatus, TellsRun, WritesResults, answer_line, results_text};
 
-use cluster_run::{Gate, RunFault as ClusterFault, Watch};
+use crate::drills::DrillFault;
+use crate::summary::Summary;
+use cluster_run::{Drill, Gate, Report, RunFault as ClusterFault, Watch, least_entries};
 use config_text::Settings;
 use journal::{Naming, Opened};
-use one_space::{Complaint, complain};
+use one_space::{Complaint, StandardError, complain};
 use std::alloc::Global;
 use std::io::{self, Write};
 use std::mem::forget;
 use std::sync::Wait;
 use std::thread::Threads;
-use std::time::Clock;
+use std::time::{Clock, Instant};
 use terms::NoMemory;
 use thiserror::Error;
 use tuple_codec::{Answer, Op};
@@ -22,8 +25,11 @@ use tuple_text::write_answer;
 #[derive(Debug, Drop, Error)]
 pub enum RunFault {
     /// The configuration names a faulty party.
-    #[error("the configuration is refused")]
+    #[error("the configuration names a faulty party")]
     Configuration,
+    /// No cluster of the configuration has these drills.
+    #[error("{0}")]
+    Drills(DrillFault),
     /// The cluster gave no answers.
     #[error("{0}")]
     Stopped(ClusterFault),
@@ -39,8 +45,9 @@ impl RunFault {
         ensures { TellsRun self.now result }
     {
         match self {
-            RunFault::Configuration => Complaint::Configuration,
-            RunFault::Stopped(_) | RunFault::NoMemory | RunFault::Write(_) => Complaint::Stopped,
+            RunFault::Configuration | RunFault::Drills(_) => Complaint::Configuration,
+            RunFault::Stopped(_) | RunFault::NoMemory => Complaint::Stopped,
+            RunFault::Write(error) => Complaint::of_write(error),
         }
     }
 }
@@ -66,7 +73,7 @@ impl From<ClusterFault> for RunFault {
             ClusterFault::BadConfig => RunFault::Configuration,
             ClusterFault::NoMemory => RunFault::NoMemory,
             ClusterFault::NoClient
-            | ClusterFault::NoRoom
+            | ClusterFault::NoRoom { .. }
             | ClusterFault::Call(_)
             | ClusterFault::TooManyStopped
             | ClusterFault::NotInJournal
@@ -76,18 +83,19 @@ impl From<ClusterFault> for RunFault {
     }
 }
 
-/// How many operations of a script are kept. Each takes two or more entries of the journal. One operation more than
-/// the journal has room for shows that the script doesn't fit.
+/// How many operations of a script are read. One more than the journal can have room for shows that the script doesn't
+/// fit.
 pub fn most_operations(settings: &Settings) -> usize
-    ensures { result ≡ settings.now.journal / 2 + 1 }
+    ensures { result ≡ settings.now.journal / least_entries settings.now.config + 1 }
 {
-    settings.journal as usize / 2 + 1
+    (settings.journal / least_entries(&settings.config)) as usize + 1
 }
 
-/// Runs the operations on a cluster of its own and writes the results, a line each, in their order. Client `i` modulo
-/// the number of clients calls operation `i`, counted from 0, and the line is the answer that this client accepted.
-/// Nothing is written unless each call was answered and the cluster finished. The memory of a run that ended is left to
-/// the end of the process.
+/// Runs the operations on a cluster of its own and writes the results, a line each, in their order. Each faulty replica
+/// of the configuration does the drill with its number. Client `i` modulo the number of clients calls operation `i`,
+/// counted from 0, and the line is the answer that this client accepted. Nothing is written unless each call was
+/// answered and the cluster finished. The memory of a run that ended is left to the end of the process. Gives a summary
+/// if one is asked for and memory suffices.
 pub fn run<
     N: Naming + Send + Sync + 'static,
     R: Threads + Wait + Clock + Copy + Send + 'static,
@@ -100,14 +108,17 @@ pub fn run<
     opened: Opened,
     settings: &Settings,
     gate: G,
+    drills: Vec<(u16, Drill)>,
     ops: Vec<Op<Global>>,
     writer: &mut W,
     watch: &mut S,
-) -> Result<(), RunFault>
+    has_summary: bool,
+) -> Result<Option<Summary>, RunFault>
     requires config { settings.now.config ≡ N.config }
     requires book { opened ≡ N.book }
     ensures { EndsCluster N.config ops.items result (W.contents writer.old) (W.contents writer.new) }
 {
+    let began = Instant::now(rt);
     let report = cluster_run::run::<N, R, G, S>(
         rt,
         alloc,
@@ -115,22 +126,42 @@ pub fn run<
         &settings.config,
         settings.journal,
         gate,
+        drills,
         ops,
         watch,
     )?;
     let written = write_results(alloc, report.answers.as_slice(), writer);
+    let summary = if has_summary {
+        summary_of(rt, alloc, &report, settings.journal, began)
+    } else {
+        None
+    };
     // The command ends here, and its process with it: giving back each block of a run takes a thirtieth of its time.
     forget(report);
-    written
+    match written {
+        Ok(()) => Ok(summary),
+        Err(fault) => Err(fault),
+    }
 }
 
-/// Complains, and then tells on a line of its own why the run was stopped. Returns the status of the program.
-pub fn end_run<R: Eprint>(rt: &R, fault: &RunFault) -> u8 {
-    let status = complain(rt, fault.complaint());
-    if !matches!(fault, RunFault::Configuration) {
-        let _ = eprintln!(rt; "{fault}");
-    }
-    status
+// The summary of a run that began at this time, if the clock tells it and memory suffices.
+fn summary_of<N: Naming, R: Clock>(
+    rt: &R,
+    alloc: Global,
+    report: &Report<N>,
+    limit: u32,
+    began: io::Result<Instant>,
+) -> Option<Summary> {
+    let time = began.ok()?.elapsed(rt).ok()?;
+    let calls = report.answers.len();
+    Summary::of(alloc, &report.parties, limit, calls, time).ok()
+}
+
+/// Complains, and gives the status of the program.
+pub fn end_run<R: Eprint>(rt: &R, fault: &RunFault) -> u8
+    ensures { IsRunStatus fault.now result }
+{
+    complain(&mut StandardError::new(rt), fault.complaint(), fault)
 }
 
 // Writes a result line for each answer.

@@ -1,5 +1,5 @@
 -- The faults of the command: how they are told, and the statuses that they end with.
-use Rattle.std.specs.Prelude.{◌≡◌, ℕ, List, ◌++◌, codes, Option, MatchOption, ⊤}
+use Rattle.std.specs.Prelude.{◌≡◌, ℕ, List, Option, MatchOption, ⊤}
 use Rattle.one_space.specs.Complaints as complaints
 use Rattle.one_space.specs.declared.complaints.Complaint.{Complaint}
 use Rattle.one_space.specs.declared.complaints.Complaint.TheVariants as complaint
@@ -13,6 +13,12 @@ abbrev pub fault_of_reader : ReadFault → ScheduleFault
 fault_of_reader read.NoMemory = NoMemory
 fault_of_reader (read.Read error) = Read error
 
+-- The reader gave no text, or memory ran out.
+abbrev pub IsReadFault : ScheduleFault → Type 0
+IsReadFault NoMemory = ⊤
+IsReadFault (Read error) = ⊤
+IsReadFault _ = ⊥
+
 -- The picture can't be drawn, or memory ran out.
 abbrev pub IsPictureFault : ScheduleFault → Type 0
 IsPictureFault (NoEntry entries) = ⊤
@@ -25,10 +31,9 @@ IsPictureFault _ = ⊥
 abbrev pub IsComplaint : ScheduleFault → List ℕ → Complaint → Type 0
 IsComplaint (Configuration fault) path c = c ≡ complaint.Configuration
 IsComplaint (Step line reason) path c = c ≡ complaint.Step line
-IsComplaint (Read error) path c =
-    (complaints.complaint_text c ≡ codes "cannot read " ++ path) × (complaints.status_of c ≡ 1)
+IsComplaint (Read error) path c = complaints.IsUnreadable path c
 IsComplaint NoMemory path c = c ≡ complaint.Stopped
-IsComplaint (Write error) path c = c ≡ complaint.Stopped
+IsComplaint (Write error) path c = complaints.OfWrite error c
 IsComplaint (NoEntry entries) path c = ⊥
 IsComplaint (TooHigh entries first last) path c = ⊥
 IsComplaint (TooWide parties most) path c = ⊥

@@ -3,14 +3,9 @@ use Rattle.std.specs.Prelude.{ℕ, List, Result, MatchResult, ⊤}
 use Rattle.config_text.specs.Reading.{SaysSettings}
 use Rattle.config_text.specs.declared.settings.Settings.{Settings}
 use Rattle.protocol.specs.System.Configuration.{Configuration}
+use Rattle.schedule_command.specs.Faults.{IsReadFault}
 use Rattle.schedule_command.specs.declared.fault.ScheduleFault.{ScheduleFault}
 use Rattle.schedule_command.specs.declared.fault.ScheduleFault.TheVariants as faults
-
--- The reader gave no text, or memory ran out.
-abbrev pub IsReadFault : ScheduleFault → Type 0
-IsReadFault faults.NoMemory = ⊤
-IsReadFault (faults.Read error) = ⊤
-IsReadFault _ = ⊥
 
 -- The text says no configuration, or the fault is another.
 abbrev pub RefusesSettings : List ℕ → ScheduleFault → Type 0

@@ -1,11 +1,11 @@
 //! Why no report was printed.
 
 ghost use Rattle.std.specs.Prelude.{◌≡◌};
-ghost use Rattle.schedule_command.specs.Faults.{HasComplaint, IsPictureFault, status_of};
+ghost use Rattle.schedule_command.specs.Faults.{HasComplaint, IsPictureFault, IsReadFault, status_of};
 
 use crate::allowed::NotAllowed;
 use config_text::ConfigFault;
-use one_space::{Complaint, ReadFault, complain};
+use one_space::{Complaint, ReadFault, StandardError, complain};
 use picture::PictureFault;
 use schedule_text::Reason;
 use std::io;
@@ -68,6 +68,17 @@ impl ScheduleFault {
         }
     }
 
+    /// The fault of a file that can't be opened or read.
+    pub fn of_read(error: io::Error) -> ScheduleFault
+        ensures { IsReadFault result }
+    {
+        if error.kind() == io::ErrorKind::OutOfMemory {
+            ScheduleFault::NoMemory
+        } else {
+            ScheduleFault::Read(error)
+        }
+    }
+
     /// The complaint about this fault of the file at this path. `None` if the words ask for what can't be drawn.
     pub fn complaint<'a>(&self, path: &'a str) -> Option<Complaint<'a>>
         ensures { HasComplaint self.now path.now result }
@@ -79,7 +90,8 @@ impl ScheduleFault {
             | ScheduleFault::TooHigh { .. }
             | ScheduleFault::TooWide { .. } => None,
             ScheduleFault::Read(_) => Some(Complaint::Unreadable { path }),
-            ScheduleFault::NoMemory | ScheduleFault::Write(_) => Some(Complaint::Stopped),
+            ScheduleFault::NoMemory => Some(Complaint::Stopped),
+            ScheduleFault::Write(error) => Some(Complaint::of_write(error)),
         }
     }
 }
@@ -93,9 +105,7 @@ pub fn end_schedule<R: Eprint>(rt: &R, fault: &ScheduleFault, path: &str) -> u8
         let _ = eprintln!(rt; "error: {fault}");
         return 2;
     };
-    let status = complain(rt, complaint);
-    let _ = eprintln!(rt; "{fault}");
-    status
+    complain(&mut StandardError::new(rt), complaint, fault)
 }
 
 impl From<NoMemory> for ScheduleFault {

@@ -1,12 +1,12 @@
 //! The configuration that a command names.
 
-ghost use Rattle.std.specs.Prelude.{◌≡◌, IfErr, IfSome};
-ghost use Rattle.schedule_command.specs.Settings.{IsReadFault, TellsSettings};
+ghost use Rattle.std.specs.Prelude.{IfSome};
+ghost use Rattle.schedule_command.specs.Settings.{TellsSettings};
 
 use crate::fault::ScheduleFault;
 use config_text::{ConfigFault, MAX_CONFIG, Settings, read_config};
 use std::alloc::Global;
-use std::io::{self, Read};
+use std::io::Read;
 
 /// Reads a configuration, and how many entries a journal takes. Of a text that is too long one byte more than may be is
 /// read.
@@ -21,21 +21,11 @@ pub fn read_settings<R: Read + Drop>(alloc: Global, reader: R) -> Result<Setting
     let mut text = Vec::new(alloc);
     let mut front = reader.take(MAX_CONFIG as u64 + 1);
     if let Err(error) = front.read_to_end(&mut text) {
-        return Err(read_fault(error));
+        return Err(ScheduleFault::of_read(error));
     }
     match read_config(alloc, text.as_slice()) {
         Ok(settings) => Ok(settings),
         Err(ConfigFault::NoMemory) => Err(ScheduleFault::NoMemory),
         Err(fault) => Err(ScheduleFault::Configuration(fault)),
-    }
-}
-
-fn read_fault(error: io::Error) -> ScheduleFault
-    ensures { IsReadFault result }
-{
-    if error.kind() == io::ErrorKind::OutOfMemory {
-        ScheduleFault::NoMemory
-    } else {
-        ScheduleFault::Read(error)
     }
 }

@@ -21,7 +21,7 @@ pub enum Drill {
 
 /// Whether a cluster may start with these drills: each faulty replica of the configuration has one, no other replica
 /// has, and no client is faulty.
-pub(crate) fn may_start(config: &Config, drills: &[(u16, Drill)]) -> bool
+pub fn may_start(config: &Config, drills: &[(u16, Drill)]) -> bool
     ensures { IsTrue result ↔ MayStart config.now (replicas_of drills.now) }
 {
     // Tells a proof that the configuration is valid.

@@ -77,7 +77,7 @@ mod shared;
 mod turn;
 
 pub use cluster::Cluster;
-pub use drill::Drill;
+pub use drill::{Drill, may_start};
 pub use fault::{CallFault, StartFault};
 pub use faultless::is_faultless;
 pub use gate::{Gate, Open};

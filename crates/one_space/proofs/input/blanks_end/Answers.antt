@@ -1,12 +1,14 @@
-use Rattle.std.proofs.Common.{◌++◌, sym, subst, ◌∙◌}
+use Rattle.std.proofs.Common.{rules, ◌++◌, ap, sym, subst, ◌∙◌}
+use Rattle.std.specs.List.{list_all}
 use Rattle.one_space.specs.NextLines.{IsRefused}
+use Rattle.one_space.specs.declared.input.NoLine.TheVariants as no
 use Rattle.one_space.proofs.BlankLemmas.{blanks_of, not_blanks, skipped_end, refused_end}
 use Rattle.one_space.proofs.input.blanks_end.Goals as goal
 
-pub returns-then-is_blank : goal.returns-then-is_blank
-returns-then-is_blank g c = λ p blank many. skipped_end p c.args.line.now blank (blanks_of c.args.line.now (sym c.is_blank.ensures ∙ c.if-is_blank.true))
+pub returns-then-blank-clause-judged : goal.returns-then-blank-clause-judged
+returns-then-blank-clause-judged g c = λ p blank many. skipped_end p c.args.line.now.items blank (blanks_of c.args.line.now.items (search rules))
 
-pub returns-else-is_blank : goal.returns-else-is_blank
-returns-else-is_blank g c = λ p blank many.
-    let l = c.args.line.now in
-    subst (λ failed. IsRefused failed (p ++ l)) (sym c.too_many_blanks.ensures) (refused_end p l blank many (not_blanks l (sym c.is_blank.ensures ∙ c.if-is_blank.false)))
+pub returns-else-blank-clause-judged : goal.returns-else-blank-clause-judged
+returns-else-blank-clause-judged g c = λ p blank many.
+    let l = c.args.line.now.items in
+    subst (λ fault. IsRefused (no.Refused fault) (p ++ l)) (sym c.too_many_blanks.ensures) (refused_end p l blank many (not_blanks l (search rules)))

@@ -4,7 +4,7 @@ use Rattle.one_space.proofs.input.next_line.Goals as goal
 
 pub returns-in-LineFeed : goal.returns-in-LineFeed
 returns-in-LineFeed g c =
-    judged_at _ _ 65538 c.read_piece.new.piece.items _ (rw (c.in-LineFeed.is, c.clear.ensures.items) at c.in_ok-read_piece.ensures.known)
+    judged_at _ _ 65538 c.read_piece.new.piece.items _ _ c.drop_return.ensures (rw (c.in-LineFeed.is, c.clear.ensures.items) at c.in_ok-read_piece.ensures.known)
     (rw (c.as_slice.ensures.value, c.drop_return.ensures) at c.judge.ensures)
 
 pub returns-else-is_empty : goal.returns-else-is_empty

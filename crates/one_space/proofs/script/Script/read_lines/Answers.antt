@@ -1,6 +1,9 @@
-use Rattle.one_space.proofs.ScriptLemmas.{goes_on}
+use Rattle.std.proofs.Common.{arith}
+use Rattle.one_space.proofs.ScriptLemmas.{enough, goes_on, ends_at_last}
 use Rattle.one_space.proofs.script.Script.read_lines.Goals as goal
 
-pub loop-number-preserved : goal.loop-number-preserved
-loop-number-preserved g c =
-    goes_on _ _ _ _ _ c.in-Ok-true.field-0-test (c.in-Ok-true.ensures {u = tt}) c.loop-number.invariant
+pub returns-then-len-most-clause-read : goal.returns-then-len-most-clause-read
+returns-then-len-most-clause-read g c = ?
+
+pub returns-clause-read : goal.returns-clause-read
+returns-clause-read g c = ?

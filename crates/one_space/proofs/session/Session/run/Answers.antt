@@ -1,25 +1,24 @@
-use Rattle.std.proofs.Common.{refl}
-use Rattle.space.specs.Births.{tuples_of}
-use Rattle.one_space.specs.Endings.{AddsResults, StopsBy}
-use Rattle.one_space.specs.Run.{complete}
-use Rattle.one_space.proofs.RunLemmas.{no_start, ends_written, written_at_fault, of_equals, new_remaining}
+use Rattle.std.proofs.Common.{rules, ◌≡◌, ◌++◌, ◌+◌, ◌^◌, ◌<◌, ◌≤◌, ◌*◌, ◌↔◌, ℕ, List, [], ◌∷◌, Option, Some, IsTrue, OnOk, OnErr, IfErr, IfSome, ◌-◌, length, ◌/◌, ◌%◌, Bool, true, false, nat_eq, nat_lt, slice_index_or, slice_set, bit_and, bit_or, Fits, w8, w32, w64, Bor, MutBor}
+use Rattle.std.specs.Io.Buffered.{reader_buffer, reader_remaining}
+use Rattle.memchr.specs.Find.{IsFirstByte, is_byte}
+use Rattle.tuple_codec.specs.OperationView.{operation_of}
+use Rattle.tuple_codec.specs.Operations.{found, absent}
+use Rattle.tuple_text.specs.Written.{WritesText}
+use Rattle.space.specs.Births.{StateFollows, TuplesFollow, empty_in}
+use Rattle.one_space.specs.Endings.{EndsKnown, EndsStrict, HeldForLine, IsWriteFault, scene_of}
+use Rattle.one_space.specs.Moments.{AddsResult, EndsAll, EndsLate, EndsLines, EndsSome, Passes, PassesEarly, RefusesSo, RunsLine, TellsLine, WritesAll, WritesDue, left_of}
+use Rattle.one_space.specs.NextLines.{IsNextLine}
+use Rattle.one_space.specs.Run.{IsHelp, result_line}
 use Rattle.one_space.proofs.session.Session.run.Goals as goal
 
+-- src/session.rt:211:23
 pub returns-in-Err : goal.returns-in-Err
-returns-in-Err g c = no_start _ (g.R.Read.remaining c.args.reader) (g.W.Write.contents c.args.writer.now)
+returns-in-Err g c = ?
 
+-- src/session.rt:208:5
 pub returns-in-Ok-run_lines : goal.returns-in-Ok-run_lines
-returns-in-Ok-run_lines g c =
-    let made = c.in-Ok.ensures {u = tt} in
-    let start = new_remaining g.R.Read.remaining c.in-Ok.input c.args.reader made.inner made.empty made.capacity in
-    ends_written (tuples_of c.args.self.now.space) (g.R.Read.remaining c.args.reader) _ _ _ _ c.write_out.result c.write_out.ensures.written c.write_out.ensures.err
-    (of_equals (λ ts bytes. AddsResults ts bytes complete (g.W.Write.contents c.args.writer.now) (g.W.Write.contents c.run_lines.new.writer) c.run_lines.new.self.results.items)
-    _ _ _ _ refl start (c.in-Ok-run_lines.ensures {u = tt}))
+returns-in-Ok-run_lines g c = ?
 
+-- src/session.rt:208:5
 pub returns-in-Ok-write_out : goal.returns-in-Ok-write_out
-returns-in-Ok-write_out g c =
-    let made = c.in-Ok.ensures {u = tt} in
-    let start = new_remaining g.R.Read.remaining c.in-Ok.input c.args.reader made.inner made.empty made.capacity in
-    written_at_fault (tuples_of c.args.self.now.space) (g.R.Read.remaining c.args.reader) _ _ _ _ (c.in-Ok-write_out.ensures {u = tt}).written c.in-Err-run_lines.fault
-    (of_equals (λ ts bytes. StopsBy c.in-Err-run_lines.fault ts bytes (g.W.Write.contents c.args.writer.now) (g.W.Write.contents c.run_lines.new.writer) c.run_lines.new.self.results.items)
-    _ _ _ _ refl start (c.in-Err-run_lines.ensures {u = tt}))
+returns-in-Ok-write_out g c = ?

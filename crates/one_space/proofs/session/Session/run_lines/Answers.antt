@@ -1,8 +1,16 @@
-use Rattle.std.proofs.Common.{arith, ◌^◌}
-use Rattle.one_space.proofs.RunLemmas.{each_known, at_number}
+use Rattle.std.proofs.Common.{rules, ◌≡◌, ◌++◌, ◌+◌, ◌^◌, ◌<◌, ◌≤◌, ◌*◌, ◌↔◌, ℕ, List, [], ◌∷◌, Option, Some, IsTrue, OnOk, OnErr, IfErr, IfSome, ◌-◌, length, ◌/◌, ◌%◌, Bool, true, false, nat_eq, nat_lt, slice_index_or, slice_set, bit_and, bit_or, Fits, w8, w32, w64, Bor, MutBor}
+use Rattle.std.specs.Io.Buffered.{reader_buffer, reader_remaining}
+use Rattle.memchr.specs.Find.{IsFirstByte, is_byte}
+use Rattle.tuple_codec.specs.OperationView.{operation_of}
+use Rattle.tuple_codec.specs.Operations.{found, absent}
+use Rattle.tuple_text.specs.Written.{WritesText}
+use Rattle.space.specs.Births.{StateFollows, TuplesFollow, empty_in}
+use Rattle.one_space.specs.Endings.{EndsKnown, EndsStrict, HeldForLine, IsWriteFault, scene_of}
+use Rattle.one_space.specs.Moments.{AddsResult, EndsAll, EndsLate, EndsLines, EndsSome, Passes, PassesEarly, RefusesSo, RunsLine, TellsLine, WritesAll, WritesDue, left_of}
+use Rattle.one_space.specs.NextLines.{IsNextLine}
+use Rattle.one_space.specs.Run.{IsHelp, result_line}
 use Rattle.one_space.proofs.session.Session.run_lines.Goals as goal
 
-pub returns : goal.returns
-returns g c =
-    each_known _ _ _ (λ bytes along. c.end_lines.ensures _ bytes _ along)
-    (at_number _ _ _ _ _ c.loop-number.number (2 ^ 48) _ _ (omega arith) c.loop-number.invariant.along)
+-- src/session.rt:240:9
+pub loop-number-init : goal.loop-number-init
+loop-number-init g c = ?
