@@ -1,1 +1,2 @@
+pub mod Drills
 pub mod Requests

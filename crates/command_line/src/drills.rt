@@ -1,7 +1,7 @@
 //! The drills that the words ask for.
 
-ghost use Rattle.std.specs.Prelude.{◌≡◌, IfSome};
-ghost use Rattle.command_line.specs.Drills.{AreDrills, IsDrillAt, drill_text};
+ghost use Rattle.std.specs.Prelude.{map};
+ghost use Rattle.command_line.specs.Drills.{AreDrills, IsDrillAt, IsDrillOf};
 
 /// Most drills that are kept. A cluster has at most three faulty replicas.
 pub const MOST_DRILLS: usize = 4;
@@ -40,7 +40,7 @@ impl Drills {
 
 /// The drills of these values of the option.
 pub(crate) fn drills_among(values: &[&str]) -> Drills
-    ensures { AreDrills values.now result }
+    ensures { AreDrills (map (λ value. value.now) values.now) result }
 {
     Drills([
         drill_at(values, 0),
@@ -51,14 +51,14 @@ pub(crate) fn drills_among(values: &[&str]) -> Drills
 }
 
 fn drill_at(values: &[&str], at: usize) -> Option<Drilled>
-    ensures { IsDrillAt values.now at result }
+    ensures { IsDrillAt (map (λ value. value.now) values.now) at result }
 {
     drill_of(values.get(at)?)
 }
 
 // The drill that a text names, as `3=silent`.
 fn drill_of(text: &str) -> Option<Drilled>
-    ensures { IfSome result (λ drilled. text.now ≡ drill_text drilled) }
+    ensures { IsDrillOf text.now result }
 {
     let [digit @ b'0'..=b'9', b'=', kind @ ..] = text.as_bytes() else {
         return None;

@@ -13,9 +13,9 @@
 
 mod drills;
 
-ghost use Rattle.std.specs.Prelude.{◌≡◌, ◌≢◌, ◌⊎◌, IfSome, IfErr};
+ghost use Rattle.std.specs.Prelude.{◌≡◌, ◌≢◌, ◌⊎◌, ◌^◌, ◌-◌, IfSome, codes};
 ghost use Rattle.clap.specs.Values.{kind_of};
-ghost use Rattle.command_line.specs.Requests.{AsksFor, IsFlag, IsPrinted, IsRequest, IsShown};
+ghost use Rattle.command_line.specs.Requests.{ArePositions, AsksFor, IsFlag, IsPrinted, IsRequest, IsShown};
 
 pub use crate::drills::{DrillKind, Drilled, Drills, MOST_DRILLS};
 
@@ -196,7 +196,9 @@ fn printed_of(given: &ArgMatches<'_>) -> Printed
 }
 
 // A picture is of all entries, if the words don't say of which.
-fn positions_of(given: &ArgMatches<'_>) -> Positions {
+fn positions_of(given: &ArgMatches<'_>) -> Positions
+    ensures { ArePositions given.now result }
+{
     Positions {
         from: given.get_one::<u64>("from").unwrap_or(0),
         to: given.get_one::<u64>("to").unwrap_or(u64::MAX),
