@@ -61,7 +61,7 @@ A tuple space is a shared collection of tuples. Programs put tuples into it, rea
 .B btspace
 runs scripts of such operations on one space, or on a cluster of replicas that stays right while some of them lie.
 A file is read from standard input where it is named
-.BR /dev/stdin .
+.BR - .
 {commands}
 .SH SCRIPTS
 A script has an operation on each line. An empty line, and one that begins with
