@@ -2,4 +2,5 @@ mod Answering
 mod CalledSends
 mod Ending
 mod Joining
+mod Taking
 mod Turns

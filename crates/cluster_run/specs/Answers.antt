@@ -8,6 +8,7 @@ use Rattle.protocol.specs.System.Texts.{NoCollision}
 use Rattle.protocol.specs.System.Trace.{Entry, Unforged}
 use Rattle.protocol.specs.System.Trace.Entry.{Invoke, Accepted}
 use Rattle.protocol.specs.Space.Linear.{points, IsLinear}
+use Rattle.space_node.specs.Runs.{IsFaultless}
 
 -- The client invoked the operation at this timestamp, and accepted this answer to it.
 pub record CallIsAnswered (entries : List Entry) (client timestamp : ℕ) (op : Operation) (answer : Outcome) : Type 0
@@ -22,12 +23,12 @@ pub record AreAnswered (trace : List Entry) (clients : ℕ) (ops : List Operatio
   pub each : (i : ℕ) (op : Operation) (answer : Outcome) → slice_get ops i ≡ Some op
       → slice_get answers i ≡ Some answer → CallIsAnswered trace (i % clients) (suc (i / clients)) op answer
 
--- A trace of the system in which nothing is forged. If its texts do not collide it is linear: the answers that
--- clients accept are those of one sequential tuple space.
+-- A trace of the system. If no party is faulty, nothing in it is forged. If nothing is forged and its texts do not
+-- collide it is linear: the answers that clients accept are those of one sequential tuple space.
 pub record IsProper (c : Configuration) (trace : List Entry) : Type 0 where
   pub run : IsRun c trace
-  pub unforged : Unforged c trace
-  pub linear : NoCollision c trace → IsLinear c (points c trace) trace
+  pub unforged : IsFaultless c → Unforged c trace
+  pub linear : Unforged c trace → NoCollision c trace → IsLinear c (points c trace) trace
 
 -- These are the answers that the clients accepted in such a trace.
 pub record AnswersRun (c : Configuration) (ops : List Operation) (answers : List Outcome) : Type 0 where

@@ -5,7 +5,7 @@ use Rattle.cluster_run.specs.declared.fault.RunFault.TheVariants.{BadConfig, NoC
 abbrev pub IsLate : RunFault → Type 0
 IsLate BadConfig = ⊥
 IsLate NoClient = Unit {0}
-IsLate NoRoom = ⊥
+IsLate (NoRoom least) = ⊥
 IsLate (Call fault) = Unit {0}
 IsLate TooManyStopped = Unit {0}
 IsLate NotInJournal = Unit {0}

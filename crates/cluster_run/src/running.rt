@@ -1,6 +1,6 @@
 //! A run, from the operations to their answers.
 
-ghost use Rattle.std.specs.Prelude.{◌≡◌, ◌↔◌, ◌<◌, ◌*◌, ◌≤◌, [], IfOk, IsTrue, OnOk, length, map};
+ghost use Rattle.std.specs.Prelude.{◌≡◌, ◌↔◌, ◌<◌, ◌*◌, ◌≤◌, ℕ, [], IfOk, IsTrue, OnOk, length, map};
 ghost use Rattle.tuple_codec.specs.OperationView.{operation_of, outcome_of};
 ghost use Rattle.cluster_run.specs.Answers.{AnswersRun};
 ghost use Rattle.cluster_run.specs.Room.{least_entries};
@@ -13,9 +13,9 @@ use crate::dealing::{deal, gather};
 use crate::fault::{LateFault, RunFault};
 use crate::progress::{Progress, Watch};
 use crate::report::{Parties, Report};
+use crate::room::least_entries;
 use events::Config;
 use journal::{Naming, Opened};
-use crate::room::least_entries;
 use space_node::{ClientHandle, Cluster, Drill, FinishFault, Gate, Run, StartFault, may_start};
 use std::alloc::Global;
 use std::sync::{Arc, Wait};
@@ -35,8 +35,9 @@ use tuple_codec::Op;
 /// # Errors
 ///
 /// BadConfig exactly if the drills are not those of the faulty replicas, each once and in any order, or a client is
-/// faulty. Otherwise NoRoom exactly if the limit is below [`least_entries`] for each operation. Nothing has started
-/// then. The run ends at the first of the others, and all threads have ended then:
+/// faulty. Otherwise NoRoom exactly if the limit is below [`least_entries`] for each operation: no run could answer
+/// them all ([`answered_operations_take_entries`](crate::answered_operations_take_entries)). Nothing has started then.
+/// The run ends at the first of the others, and all threads have ended then:
 ///
 /// - Call if a call was not answered
 /// - TooManyStopped if more replicas have stopped than may fail
@@ -66,8 +67,9 @@ pub fn run<
         (λ report. AnswersRun N.config (map operation_of ops.items) (map outcome_of report.answers.items)) }
     ensures faulty { (result ≡ Err RunFault.BadConfig)
         ↔ (¬ MayStart config.now (replicas_of drills.items)) }
-    ensures room { (result ≡ Err (RunFault.NoRoom (least_entries config.now))) ↔ (MayStart config.now (replicas_of drills.items)
-        × (limit < length ops.items * least_entries config.now)) }
+    ensures room { (least : ℕ) → (result ≡ Err (RunFault.NoRoom least))
+        ↔ (MayStart config.now (replicas_of drills.items)
+        × (least ≡ least_entries config.now) × (limit < length ops.items * least)) }
 {
     if !may_start(config, drills.as_slice()) {
         return Err(RunFault::BadConfig);
@@ -76,17 +78,7 @@ pub fn run<
     if !has_room(limit, ops.len(), least) {
         return Err(RunFault::NoRoom { least });
     }
-    let run = run_drilled::<N, R, G, W>(
-        rt,
-        alloc,
-        opened,
-        config,
-        limit,
-        gate,
-        drills,
-        ops,
-        watch,
-    );
+    let run = run_drilled::<N, R, G, W>(rt, alloc, opened, config, limit, gate, drills, ops, watch);
     Ok(run?)
 }
 
@@ -95,10 +87,7 @@ fn has_room(limit: u32, count: usize, least: u32) -> bool
     requires some { 0 < least }
     ensures { IsTrue result ↔ (count * least ≤ limit) }
 {
-    match u32::try_from(count) {
-        Ok(count) => count <= limit / least,
-        Err(_) => false,
-    }
+    count <= (limit / least) as usize
 }
 
 // The run of a cluster that may start with these drills.
@@ -129,8 +118,7 @@ fn run_drilled<
     let hands = deal(alloc, clients, ops)?;
     let progress = Arc::new(alloc, Progress::new())?;
     let mut all = AllCalled::new(alloc);
-    let started =
-        Cluster::<N>::start_with_drills(rt, alloc, opened, config, limit, gate, drills);
+    let started = Cluster::<N>::start_with_drills(rt, alloc, opened, config, limit, gate, drills);
     let mut cluster = match started {
         Ok(cluster) => cluster,
         Err(StartFault::BadConfig) => unreachable!(),

@@ -1,7 +1,7 @@
 use Rattle.std.proofs.Common.{rules}
 use Rattle.cluster_run.specs.Hands.{HandsAreCalled, HasTrace}
 use Rattle.cluster_run.proofs.Answering.{gathered_run}
-use Rattle.cluster_run.proofs.running.run_faultless.Goals as goal
+use Rattle.cluster_run.proofs.running.run_drilled.Goals as goal
 
 pub returns : goal.returns
 returns g c =
