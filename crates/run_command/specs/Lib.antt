@@ -1,1 +1,3 @@
+pub mod Drilled
+pub mod Judging
 pub mod Results

@@ -62,6 +62,9 @@ fn of_checkpoint(config: &Config) -> u64 {
 impl Display for Forecast {
     fn fmt<W: fmt::Write>(&self, f: &mut Formatter<W>) -> fmt::Result {
         let (entries, limit) = (self.entries, self.limit);
-        write!(f, "this script takes about {entries} entries, and the journal has room for {limit}")
+        write!(
+            f,
+            "this script takes about {entries} entries, and the journal has room for {limit}"
+        )
     }
 }

@@ -131,11 +131,7 @@ pub fn run<
         watch,
     )?;
     let written = write_results(alloc, report.answers.as_slice(), writer);
-    let summary = if has_summary {
-        summary_of(rt, alloc, &report, settings.journal, began)
-    } else {
-        None
-    };
+    let summary = summary_of(rt, alloc, &report, settings.journal, began, has_summary);
     // The command ends here, and its process with it: giving back each block of a run takes a thirtieth of its time.
     forget(report);
     match written {
@@ -144,14 +140,18 @@ pub fn run<
     }
 }
 
-// The summary of a run that began at this time, if the clock tells it and memory suffices.
+// The summary of a run that began at this time, if it is asked for, the clock tells it and memory suffices.
 fn summary_of<N: Naming, R: Clock>(
     rt: &R,
     alloc: Global,
     report: &Report<N>,
     limit: u32,
     began: io::Result<Instant>,
+    is_wanted: bool,
 ) -> Option<Summary> {
+    if !is_wanted {
+        return None;
+    }
     let time = began.ok()?.elapsed(rt).ok()?;
     let calls = report.answers.len();
     Summary::of(alloc, &report.parties, limit, calls, time).ok()

@@ -97,7 +97,10 @@ impl Display for Summary {
             write!(f, ", {view}")?;
         }
         let (number, entries, limit) = (self.number, self.entries, self.limit);
-        write!(f, "\nnumbers executed: {number}\nentries used: {entries} of {limit}\nstopped:")?;
+        write!(
+            f,
+            "\nnumbers executed: {number}\nentries used: {entries} of {limit}\nstopped:"
+        )?;
         if self.stopped.is_empty() {
             write!(f, " none")?;
         }

@@ -1,0 +1,2 @@
+mod Drilling
+mod Ending
