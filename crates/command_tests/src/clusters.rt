@@ -1,11 +1,14 @@
 //! Scripts on running clusters.
 
 use crate::words::{Console, holds};
-use cluster_run::{Gate, Open, RunFault as ClusterFault, Unwatched, Watch, is_faultless};
+use cluster_run::{Drill, Gate, Open, RunFault as ClusterFault, Unwatched, Watch, is_faultless};
+use command_line::{DrillKind, Drilled, Drills};
 use config_text::Settings;
 use journal::Opened;
-use one_space::{LocalFault, read_script};
-use run_command::{RunFault, end_run, most_operations, run};
+use one_space::{LocalFault, Unheard, read_script};
+use run_command::{
+    DrillFault, RunFault, Summary, drilled, drills_of, end_run, most_operations, run,
+};
 use schedule_command::read_settings;
 use std::alloc::Global;
 use std::marker::Brand;
@@ -43,12 +46,19 @@ seed = "000102030405060708090a0b0c0d0e0f101112131415161718191a1b1c1d1e1f"
 journal = 10
 "#;
 
-// Two operations have at least four entries.
-const THREE_ENTRIES: &str = r#"
+// At f = 1 an operation takes at least six entries.
+const ELEVEN_ENTRIES: &str = r#"
 f = 1
 clients = 1
 seed = "000102030405060708090a0b0c0d0e0f101112131415161718191a1b1c1d1e1f"
-journal = 3
+journal = 11
+"#;
+
+const TWELVE_ENTRIES: &str = r#"
+f = 1
+clients = 1
+seed = "000102030405060708090a0b0c0d0e0f101112131415161718191a1b1c1d1e1f"
+journal = 12
 "#;
 
 const FAULTY_REPLICA: &str = r#"
@@ -72,6 +82,8 @@ pub enum Ending {
     /// The text is no configuration, or the configuration is refused.
     Configuration,
     Line(u64, LineFault),
+    /// No cluster of the configuration has these drills.
+    Drills,
     /// The journal has no room for the operations, so nothing starts.
     NoRoom,
     TooManyStopped,
@@ -85,13 +97,20 @@ impl Ending {
     }
 }
 
-fn ending_of(ended: &Result<(), RunFault>) -> Ending {
+fn ending_of(ended: &Result<Option<Summary>, RunFault>) -> Ending {
     match ended {
-        Ok(()) => Ending::Complete,
-        Err(RunFault::Configuration) => Ending::Configuration,
-        Err(RunFault::Stopped(ClusterFault::NoRoom)) => Ending::NoRoom,
-        Err(RunFault::Stopped(ClusterFault::TooManyStopped)) => Ending::TooManyStopped,
-        Err(RunFault::Stopped(_) | RunFault::NoMemory | RunFault::Write(_)) => Ending::Stopped,
+        Ok(_) => Ending::Complete,
+        Err(fault) => ending_at(fault),
+    }
+}
+
+fn ending_at(fault: &RunFault) -> Ending {
+    match fault {
+        RunFault::Configuration => Ending::Configuration,
+        RunFault::Drills(_) => Ending::Drills,
+        RunFault::Stopped(ClusterFault::NoRoom { .. }) => Ending::NoRoom,
+        RunFault::Stopped(ClusterFault::TooManyStopped) => Ending::TooManyStopped,
+        RunFault::Stopped(_) | RunFault::NoMemory | RunFault::Write(_) => Ending::Stopped,
     }
 }
 
@@ -105,19 +124,22 @@ fn run_alone<
     alloc: Global,
     settings: &Settings,
     gate: G,
+    drills: Vec<(u16, Drill)>,
     ops: Vec<Op<Global>>,
     written: &mut Vec<u8>,
     watch: &mut S,
-) -> Result<(), RunFault> {
+) -> Result<Option<Summary>, RunFault> {
     run::<Brand, R, G, _, S>(
         rt,
         alloc,
         Opened::new(),
         settings,
         gate,
+        drills,
         ops,
         written,
         watch,
+        true,
     )
 }
 
@@ -130,11 +152,12 @@ fn run_ops<
     alloc: Global,
     settings: &Settings,
     gate: G,
+    drills: Vec<(u16, Drill)>,
     ops: Vec<Op<Global>>,
     written: &mut Vec<u8>,
     watch: &mut S,
 ) -> Ending {
-    let ended = run_alone(rt, alloc, settings, gate, ops, written, watch);
+    let ended = run_alone(rt, alloc, settings, gate, drills, ops, written, watch);
     ending_of(&ended)
 }
 
@@ -147,14 +170,39 @@ fn run_script<
     alloc: Global,
     settings: &Settings,
     gate: G,
+    drills: Vec<(u16, Drill)>,
     script: &str,
     written: &mut Vec<u8>,
     watch: &mut S,
 ) -> Ending {
-    match read_script(alloc, script.as_bytes(), most_operations(settings)) {
-        Ok(ops) => run_ops(rt, alloc, settings, gate, ops, written, watch),
+    let most = most_operations(settings);
+    match read_script(alloc, script.as_bytes(), most, &mut Unheard) {
+        Ok(ops) => run_ops(rt, alloc, settings, gate, drills, ops, written, watch),
         Err(LocalFault::Refused { line, fault }) => Ending::Line(line, fault),
         Err(_) => Ending::Stopped,
+    }
+}
+
+fn run_drilled<
+    R: Threads + Wait + Clock + Copy + Send + 'static,
+    G: Gate + Send + Sync + Drop + 'static,
+    S: Watch,
+>(
+    rt: &R,
+    alloc: Global,
+    settings: &Settings,
+    gate: G,
+    asked: &Drills,
+    script: &str,
+    written: &mut Vec<u8>,
+    watch: &mut S,
+) -> Ending {
+    let Ok(drills) = drills_of(alloc, asked) else {
+        return Ending::Stopped;
+    };
+    match drilled(alloc, settings, drills.as_slice()) {
+        Ok(settings) => run_script(rt, alloc, &settings, gate, drills, script, written, watch),
+        Err(fault) => ending_at(&fault),
     }
 }
 
@@ -167,12 +215,13 @@ fn run_text<
     alloc: Global,
     settings: &str,
     gate: G,
+    asked: &Drills,
     script: &str,
     written: &mut Vec<u8>,
     watch: &mut S,
 ) -> Ending {
     match read_settings(alloc, settings.as_bytes()) {
-        Ok(settings) => run_script(rt, alloc, &settings, gate, script, written, watch),
+        Ok(settings) => run_drilled(rt, alloc, &settings, gate, asked, script, written, watch),
         Err(_) => Ending::Configuration,
     }
 }
@@ -185,11 +234,21 @@ pub fn is_complete<R: Threads + Wait + Clock + Copy + Send + 'static>(
     script: &str,
     written: &mut Vec<u8>,
 ) -> bool {
-    run_text(rt, alloc, settings, Open, script, written, &mut Unwatched) == Ending::Complete
+    let none = Drills::NONE;
+    run_text(
+        rt,
+        alloc,
+        settings,
+        Open,
+        &none,
+        script,
+        written,
+        &mut Unwatched,
+    ) == Ending::Complete
 }
 
-/// Whether the script ends so on a cluster with this gate, and prints these results.
-pub fn ends_so<
+// Whether the script ends so on a cluster with this gate and these drills, and prints these results.
+fn ends_drilled<
     R: Threads + Wait + Clock + Copy + Send + 'static,
     G: Gate + Send + Sync + Drop + 'static,
     S: Watch,
@@ -197,12 +256,32 @@ pub fn ends_so<
     rt: &R,
     alloc: Global,
     gate: G,
+    asked: &Drills,
     watch: &mut S,
     (settings, script, ending, results): (&str, &str, Ending, &str),
 ) -> bool {
     let mut written = Vec::new(alloc);
-    run_text(rt, alloc, settings, gate, script, &mut written, watch).is(ending)
+    run_text(
+        rt,
+        alloc,
+        settings,
+        gate,
+        asked,
+        script,
+        &mut written,
+        watch,
+    )
+    .is(ending)
         && written.as_slice() == results.as_bytes()
+}
+
+/// Whether the script ends so on a cluster with this gate, and prints these results.
+pub fn ends_so<
+    R: Threads + Wait + Clock + Copy + Send + 'static,
+    G: Gate + Send + Sync + Drop + 'static,
+    S: Watch,
+>(rt: &R, alloc: Global, gate: G, watch: &mut S, row: (&str, &str, Ending, &str)) -> bool {
+    ends_drilled(rt, alloc, gate, &Drills::NONE, watch, row)
 }
 
 /// Whether the script prints these results on a cluster.
@@ -215,7 +294,7 @@ pub fn is_answered<R: Threads + Wait + Clock + Copy + Send + 'static>(
     ends_so(rt, alloc, Open, &mut Unwatched, row)
 }
 
-static ROWS: [(&str, &str, Ending, &str); 11] = [
+static ROWS: [(&str, &str, Ending, &str); 13] = [
     (
         CLUSTER_SETTINGS,
         "out (1)\nout (1)\ninp (?int)\nrdAll 64 (*)\nrdp ()\n",
@@ -238,7 +317,15 @@ static ROWS: [(&str, &str, Ending, &str); 11] = [
     ),
     // Ten entries are too few for a call: nothing is printed.
     (SMALL_JOURNAL, "out (1)\n", Ending::Stopped, ""),
-    (THREE_ENTRIES, "out (1)\nrdp (1)\n", Ending::NoRoom, ""),
+    // With twelve entries for two operations a run starts, and the journal gets full.
+    (ELEVEN_ENTRIES, "out (1)\nrdp (1)\n", Ending::NoRoom, ""),
+    (
+        ELEVEN_ENTRIES,
+        "out (1)\nrdp (1)\nrdp (01)\n",
+        Ending::NoRoom,
+        "",
+    ),
+    (TWELVE_ENTRIES, "out (1)\nrdp (1)\n", Ending::Stopped, ""),
     // Faulty parties are refused.
     (FAULTY_REPLICA, "out (1)\n", Ending::Configuration, ""),
     (FAULTY_CLIENT, "out (1)\n", Ending::Configuration, ""),
@@ -268,6 +355,94 @@ fn runs_scripts_on_clusters(rt: HostRuntime) {
     }
 }
 
+const SILENT: Option<Drilled> = Some(Drilled {
+    replica: 3,
+    kind: DrillKind::Silent,
+});
+
+const STALE: Option<Drilled> = Some(Drilled {
+    replica: 3,
+    kind: DrillKind::Stale,
+});
+
+const NOT_THERE: Option<Drilled> = Some(Drilled {
+    replica: 4,
+    kind: DrillKind::Silent,
+});
+
+const OTHER: Option<Drilled> = Some(Drilled {
+    replica: 2,
+    kind: DrillKind::Stale,
+});
+
+const SHORT_SCRIPT: &str = "out (1)\nrdp (?int)\ninp (1)\nrdp (*)\n";
+
+// Beside one liar of four replicas the answers are those without it. More drills than faults are refused, and so are
+// those of no replica.
+static DRILLED: [([Option<Drilled>; 4], Ending, &str); 5] = [
+    (
+        [SILENT, None, None, None],
+        Ending::Complete,
+        "done\nfound (1)\nfound (1)\nabsent\n",
+    ),
+    (
+        [STALE, None, None, None],
+        Ending::Complete,
+        "done\nfound (1)\nfound (1)\nabsent\n",
+    ),
+    ([SILENT, OTHER, None, None], Ending::Drills, ""),
+    ([SILENT, STALE, None, None], Ending::Drills, ""),
+    ([NOT_THERE, None, None, None], Ending::Drills, ""),
+];
+
+fn is_drilled<R: Threads + Wait + Clock + Copy + Send + 'static>(
+    rt: &R,
+    alloc: Global,
+    (asked, ending, results): ([Option<Drilled>; 4], Ending, &str),
+) -> bool {
+    let row = (CLUSTER_SETTINGS, SHORT_SCRIPT, ending, results);
+    ends_drilled(rt, alloc, Open, &Drills(asked), &mut Unwatched, row)
+}
+
+#[test]
+fn runs_scripts_beside_liars(rt: HostRuntime) {
+    for row in &DRILLED {
+        assert!(rt; is_drilled(&rt, rt.alloc(), *row), "{}", row.2);
+    }
+}
+
+// Whether a run of one call tells that nobody stopped, and that at least six entries were taken.
+fn is_summarized<R: Threads + Wait + Clock + Copy + Send + 'static>(rt: &R, alloc: Global) -> bool {
+    let Ok(settings) = read_settings(alloc, CLUSTER_SETTINGS.as_bytes()) else {
+        return false;
+    };
+    let Ok(ops) = read_script(alloc, b"out (1)\n".as_slice(), 2, &mut Unheard) else {
+        return false;
+    };
+    let (drills, mut written) = (Vec::new(alloc), Vec::new(alloc));
+    let ended = run_alone(
+        rt,
+        alloc,
+        &settings,
+        Open,
+        drills,
+        ops,
+        &mut written,
+        &mut Unwatched,
+    );
+    match &ended {
+        Ok(Some(told)) => {
+            told.calls == 1 && told.number >= 1 && told.stopped.is_empty() && told.entries >= 6
+        }
+        _ => false,
+    }
+}
+
+#[test]
+fn tells_a_summary(rt: HostRuntime) {
+    assert!(rt; is_summarized(&rt, rt.alloc()));
+}
+
 fn swaps<R: Threads + Wait + Clock + Copy + Send + 'static>(rt: &R, alloc: Global) -> bool {
     let script = "cas (\"k\" *) (\"k\" 1)\ncas (\"k\" *) (\"k\" 2)\n";
     let mut written = Vec::new(alloc);
@@ -291,17 +466,30 @@ fn is_stop_told(alloc: Global, fault: ClusterFault, text: &str) -> bool {
     is_told(alloc, &RunFault::Stopped(fault), 3, text)
 }
 
-// The reason stands on a line of its own, after the word `stopped`.
+// The reason stands on a line of its own, after the word `stopped` or the refusal of the configuration.
 fn are_told(alloc: Global) -> bool {
     is_stop_told(
         alloc,
-        ClusterFault::NoRoom,
-        "stopped\nthe journal is too small for so many operations\n",
+        ClusterFault::NoRoom { least: 6 },
+        "stopped\nthe journal is too small for so many operations: each takes at least 6 entries\n",
     ) && is_stop_told(
         alloc,
         ClusterFault::TooManyStopped,
         "stopped\ntoo many replicas have stopped: memory ran out, or the journal is full\n",
-    ) && is_told(alloc, &RunFault::Configuration, 1, "refused 25\n")
+    ) && is_told(
+        alloc,
+        &RunFault::Configuration,
+        1,
+        "refused 25\nthe configuration names a faulty party\n",
+    ) && is_told(
+        alloc,
+        &RunFault::Drills(DrillFault::TooMany {
+            most: 1,
+            replicas: 4,
+        }),
+        1,
+        "refused 25\nat most 1 of 4 replicas may be faulty\n",
+    )
 }
 
 #[test]
