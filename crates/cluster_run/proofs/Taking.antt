@@ -13,10 +13,9 @@ use Rattle.quorum.specs.Quorum.{count_below, member}
 use Rattle.quorum.proofs.Counting.{count_members, count_mono}
 use Rattle.protocol.specs.System.Configuration.{Configuration, IsConfiguration, replicas, members, is_replica, is_client, is_correct, is_correct_replica, is_correct_client}
 use Rattle.protocol.specs.System.Run.{IsRun}
-use Rattle.protocol.specs.System.Trace.{Entry, party_of, is_output, history_of, Always, either}
+use Rattle.protocol.specs.System.Trace.{Entry, party_of, history_of, Always}
 use Rattle.protocol.specs.System.Trace.Entry.{Invoke, Got, Tick, Executed, Installed, Sent, Accepted}
-use Rattle.protocol.specs.Client.RightClient.{OpenCall, open_call, Vote, reply_vote, later_vote, latest, is_alike, count_alike, Reaction, reaction, IsReaction, MayInput, Reacts, IsClient, MayAccept, SafeClient}
-use Rattle.protocol.specs.Client.RightClient.Reaction.{nothing, asks, accepts}
+use Rattle.protocol.specs.Client.RightClient.{OpenCall, open_call, Vote, reply_vote, later_vote, latest, is_alike, count_alike, reaction, Reacts, IsClient, MayAccept, SafeClient}
 use Rattle.protocol.proofs.Words.Reacting.{is_client_right, one_output}
 use Rattle.cluster_run.specs.Answers.{AreAnswered}
 use Rattle.cluster_run.specs.Room.{AnsweredOperationsTakeEntries, least_entries}

@@ -1,2 +1,1 @@
 mod Drilling
-mod Ending
