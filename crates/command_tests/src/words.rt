@@ -252,6 +252,9 @@ For more information, try '--help'.
         why: NoWords::Wrong,
         output: "",
         errors: "error: invalid value '3=quiet' for '--drill <REPLICA=DRILL>'
+  [possible values: 0=silent, 0=stale, 1=silent, 1=stale, 2=silent, 2=stale, 3=silent, 3=stale, 4=silent, 4=stale, 5=silent, 5=stale, 6=silent, 6=stale, 7=silent, 7=stale, 8=silent, 8=stale, 9=silent, 9=stale]
+
+  tip: a similar value exists: '3=silent'
 
 For more information, try '--help'.
 ",
