@@ -16,7 +16,7 @@ const LEAST_ANSWERS: usize = 5;
 // an option or a value.
 static OTHERS: [(&str, &str, [&str; 3]); 3] = [
     ("[nope]", "nope", ["0", "(7)", "é"]),
-    ("[--nope]", "--nope", ["--0", "---", "--é"]),
+    ("[--nope]", "--nope", ["--0", "--%", "--é"]),
     ("[-q]", "-q", ["-0", "-x", "-é"]),
 ];
 
