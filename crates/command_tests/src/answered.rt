@@ -1,8 +1,8 @@
 //! The table of answers that ./btspace gives before the program is built: each is the program's own.
 
 use crate::answers::TABLES;
-use crate::words::{Console, holds};
-use command_line::{NoRequest, read_words};
+use crate::words::{Console, NoWords, ending_of, holds};
+use command_line::read_words;
 use std::alloc::{AllocError, Global};
 use std::process::Abort;
 
@@ -16,7 +16,7 @@ const LEAST_ANSWERS: usize = 5;
 // an option or a value.
 static OTHERS: [(&str, &str, [&str; 3]); 3] = [
     ("[nope]", "nope", ["0", "(7)", "é"]),
-    ("[--nope]", "--nope", ["--0", "---", "--é"]),
+    ("[--nope]", "--nope", ["--0", "--%", "--é"]),
     ("[-q]", "-q", ["-0", "-x", "-é"]),
 ];
 
@@ -27,11 +27,11 @@ fn is_answer(alloc: Global, line: &str, text: &str) -> Result<bool, AllocError> 
     for word in line.split(' ').filter(|word| !word.is_empty()) {
         words.push(word)?;
     }
-    let why = read_words(&(&console, alloc), words.as_slice());
+    let ending = ending_of(read_words(&(&console, alloc), words.as_slice()));
     Ok(if text.starts_with("error: ") {
-        why == Err(NoRequest::Wrong) && holds(&console.output, "") && holds(&console.errors, text)
+        ending == Some(NoWords::Wrong) && holds(&console.output, "") && holds(&console.errors, text)
     } else {
-        why == Err(NoRequest::Shown) && holds(&console.output, text) && holds(&console.errors, "")
+        ending == Some(NoWords::Shown) && holds(&console.output, text) && holds(&console.errors, "")
     })
 }
 

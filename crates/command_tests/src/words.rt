@@ -1,6 +1,8 @@
 //! The words of the command line, and the output for them.
 
-use command_line::{NoRequest, Positions, Printed, Request, SpaceVersion, read_words};
+use command_line::{
+    DrillKind, Drilled, Drills, NoRequest, Positions, Printed, Request, SpaceVersion, read_words,
+};
 use std::alloc::Global;
 use std::cell::RefCell;
 use std::fmt::Display;
@@ -70,20 +72,40 @@ pub fn holds(stream: &RefCell<Vec<u8>>, text: &str) -> bool {
     }
 }
 
+// Why words are no request.
+#[derive(Clone, Copy, PartialEq, Eq)]
+pub enum NoWords {
+    Shown,
+    Wrong,
+    Unprinted,
+    NoMemory,
+}
+
+// Why there is no request, or `None` if there is one.
+pub fn ending_of(read: Result<Request<'_>, NoRequest>) -> Option<NoWords> {
+    match read {
+        Ok(_) => None,
+        Err(NoRequest::Shown) => Some(NoWords::Shown),
+        Err(NoRequest::Wrong) => Some(NoWords::Wrong),
+        Err(NoRequest::Unprinted(_)) => Some(NoWords::Unprinted),
+        Err(NoRequest::NoMemory) => Some(NoWords::NoMemory),
+    }
+}
+
 // Words, why they are no request, and the texts on standard output and on standard error, in the layout of Rust's
 // clap 4.
 #[derive(Clone, Copy)]
 struct Row {
     words: &'static [&'static str],
-    why: NoRequest,
+    why: NoWords,
     output: &'static str,
     errors: &'static str,
 }
 
-static ROWS: [Row; 18] = [
+static ROWS: [Row; 22] = [
     Row {
         words: &["btspace", "--help"],
-        why: NoRequest::Shown,
+        why: NoWords::Shown,
         output: "A tuple space
 
 Usage: btspace <COMMAND>
@@ -103,7 +125,7 @@ Options:
     },
     Row {
         words: &["btspace", "help"],
-        why: NoRequest::Shown,
+        why: NoWords::Shown,
         output: "A tuple space
 
 Usage: btspace <COMMAND>
@@ -123,7 +145,7 @@ Options:
     },
     Row {
         words: &["btspace", "show", "-h"],
-        why: NoRequest::Shown,
+        why: NoWords::Shown,
         output: "Prints the tuple that is encoded by these bytes
 
 Usage: btspace show <HEX>
@@ -138,7 +160,7 @@ Options:
     },
     Row {
         words: &["btspace", "help", "show"],
-        why: NoRequest::Shown,
+        why: NoWords::Shown,
         output: "Prints the tuple that is encoded by these bytes
 
 Usage: btspace show <HEX>
@@ -153,13 +175,13 @@ Options:
     },
     Row {
         words: &["btspace", "--version"],
-        why: NoRequest::Shown,
+        why: NoWords::Shown,
         output: "btspace 0.1.0\n",
         errors: "",
     },
     Row {
         words: &["btspace"],
-        why: NoRequest::Wrong,
+        why: NoWords::Wrong,
         output: "",
         errors: "error: 'btspace' requires a subcommand but one was not provided
   [subcommands: local, run, schedule, show, help]
@@ -171,7 +193,7 @@ For more information, try '--help'.
     },
     Row {
         words: &["btspace", "nope"],
-        why: NoRequest::Wrong,
+        why: NoWords::Wrong,
         output: "",
         errors: "error: unrecognized subcommand 'nope'
 
@@ -182,7 +204,7 @@ For more information, try '--help'.
     },
     Row {
         words: &["btspace", "show"],
-        why: NoRequest::Wrong,
+        why: NoWords::Wrong,
         output: "",
         errors: "error: the following required arguments were not provided:
   <HEX>
@@ -194,17 +216,19 @@ For more information, try '--help'.
     },
     Row {
         words: &["btspace", "run", "--help"],
-        why: NoRequest::Shown,
+        why: NoWords::Shown,
         output: "Runs a script on a running cluster and prints a result line for each operation
 
-Usage: btspace run <CONFIG> <SCRIPT>
+Usage: btspace run [OPTIONS] <CONFIG> <SCRIPT>
 
 Arguments:
-  <CONFIG>  The file of the configuration, in TOML, which names no faulty party
-  <SCRIPT>  The file of the script, a line for each operation, which the clients take in turn
+  <CONFIG>  The file of the configuration, in TOML, which names no faulty party, or -
+  <SCRIPT>  The file of the script, a line for each operation, which the clients take in turn, or -
 
 Options:
-  -h, --help  Print help
+      --drill <REPLICA=DRILL>  Let a replica lie, up to f of them: 3=silent sends nothing, 3=stale answers reads from an empty space
+      --summary                Tell the views, numbers, entries, stopped parties and time of the run on standard error
+  -h, --help                   Print help
 
 The journal takes 65,536 entries, or as many as the configuration says. One client's writes that fit:
 about 1,250 at f = 1, 490 at f = 2, 260 at f = 3. Reads that fit: about 4,300, 2,700, 1,980.
@@ -213,7 +237,7 @@ about 1,250 at f = 1, 490 at f = 2, 260 at f = 3. Reads that fit: about 4,300, 2
     },
     Row {
         words: &["btspace", "run", "a.toml"],
-        why: NoRequest::Wrong,
+        why: NoWords::Wrong,
         output: "",
         errors: "error: the following required arguments were not provided:
   <SCRIPT>
@@ -224,8 +248,20 @@ For more information, try '--help'.
 ",
     },
     Row {
+        words: &["btspace", "run", "--drill", "3=quiet", "a.toml", "b"],
+        why: NoWords::Wrong,
+        output: "",
+        errors: "error: invalid value '3=quiet' for '--drill <REPLICA=DRILL>'
+  [possible values: 0=silent, 0=stale, 1=silent, 1=stale, 2=silent, 2=stale, 3=silent, 3=stale, 4=silent, 4=stale, 5=silent, 5=stale, 6=silent, 6=stale, 7=silent, 7=stale, 8=silent, 8=stale, 9=silent, 9=stale]
+
+  tip: a similar value exists: '3=silent'
+
+For more information, try '--help'.
+",
+    },
+    Row {
         words: &["btspace", "schedule", "a.toml"],
-        why: NoRequest::Wrong,
+        why: NoWords::Wrong,
         output: "",
         errors: "error: the following required arguments were not provided:
   <FILE>
@@ -237,7 +273,7 @@ For more information, try '--help'.
     },
     Row {
         words: &["btspace", "schedule", "--trace", "a.toml", "b", "--picture"],
-        why: NoRequest::Wrong,
+        why: NoWords::Wrong,
         output: "",
         errors: "error: the argument '--trace' cannot be used with '--picture'
 
@@ -248,14 +284,14 @@ For more information, try '--help'.
     },
     Row {
         words: &["btspace", "schedule", "-h"],
-        why: NoRequest::Shown,
+        why: NoWords::Shown,
         output: "Runs a schedule in a world of replicas and clients and prints what was accepted
 
 Usage: btspace schedule [OPTIONS] <CONFIG> <FILE>
 
 Arguments:
-  <CONFIG>  The file of the configuration, in TOML
-  <FILE>    The file of the schedule, a line for each step
+  <CONFIG>  The file of the configuration, in TOML, or -
+  <FILE>    The file of the schedule, a line for each step, or -
 
 Options:
       --trace            Print the entries of the trace before the report, a line each
@@ -268,7 +304,7 @@ Options:
     },
     Row {
         words: &["btspace", "schedule", "--from", "1", "a.toml", "b"],
-        why: NoRequest::Wrong,
+        why: NoWords::Wrong,
         output: "",
         errors: "error: the following required arguments were not provided:
   --picture
@@ -288,7 +324,7 @@ For more information, try '--help'.
             "a.toml",
             "b",
         ],
-        why: NoRequest::Wrong,
+        why: NoWords::Wrong,
         output: "",
         errors: "error: invalid value 'last' for '--to <POSITION>': invalid digit found in string
 
@@ -297,7 +333,7 @@ For more information, try '--help'.
     },
     Row {
         words: &["btspace", "local", "a", "b"],
-        why: NoRequest::Wrong,
+        why: NoWords::Wrong,
         output: "",
         errors: "error: unexpected argument 'b' found
 
@@ -308,23 +344,24 @@ For more information, try '--help'.
     },
     Row {
         words: &["btspace", "local", "-h"],
-        why: NoRequest::Shown,
+        why: NoWords::Shown,
         output: "Runs a script on a space of its own and prints a result line for each operation
 
 Usage: btspace local [OPTIONS] <SCRIPT>
 
 Arguments:
-  <SCRIPT>  The file of the script, a line for each operation
+  <SCRIPT>  The file of the script, a line for each operation, or -
 
 Options:
       --space <VERSION>  The version of the space; one of version 2 also takes wide numbers and inAll [default: 1] [possible values: 1, 2]
+      --keep-going       Go on after a refused line; the status is 1 at the end if there was one
   -h, --help             Print help
 ",
         errors: "",
     },
     Row {
         words: &["btspace", "local", "--space", "2"],
-        why: NoRequest::Wrong,
+        why: NoWords::Wrong,
         output: "",
         errors: "error: the following required arguments were not provided:
   <SCRIPT>
@@ -336,7 +373,7 @@ For more information, try '--help'.
     },
     Row {
         words: &["btspace", "local", "--space", "3", "a"],
-        why: NoRequest::Wrong,
+        why: NoWords::Wrong,
         output: "",
         errors: "error: invalid value '3' for '--space <VERSION>'
   [possible values: 1, 2]
@@ -346,7 +383,7 @@ For more information, try '--help'.
     },
     Row {
         words: &["btspace", "local", "a", "--space"],
-        why: NoRequest::Wrong,
+        why: NoWords::Wrong,
         output: "",
         errors: "error: a value is required for '--space <VERSION>' but none was supplied
   [possible values: 1, 2]
@@ -356,7 +393,7 @@ For more information, try '--help'.
     },
     Row {
         words: &["btspace", "local", "--space=1", "a", "--space=2"],
-        why: NoRequest::Wrong,
+        why: NoWords::Wrong,
         output: "",
         errors: "error: the argument '--space <VERSION>' cannot be used multiple times
 
@@ -370,17 +407,19 @@ For more information, try '--help'.
 fn is_printed(alloc: Global, row: &Row) -> bool {
     let console = Console::new(alloc, true);
     let read = read_words(&(&console, alloc), row.words);
-    read == Err(row.why) && holds(&console.output, row.output) && holds(&console.errors, row.errors)
+    ending_of(read) == Some(row.why)
+        && holds(&console.output, row.output)
+        && holds(&console.errors, row.errors)
 }
 
-// Where nothing can be printed, the help stops the program, and wrong words stay wrong.
+// If nothing can be printed, the help is unprinted, and wrong words stay wrong.
 fn is_unheard(alloc: Global, row: &Row) -> bool {
     let console = Console::new(alloc, false);
-    let why = match row.why {
-        NoRequest::Wrong => NoRequest::Wrong,
-        NoRequest::Shown | NoRequest::Stopped => NoRequest::Stopped,
+    let wanted = match row.why {
+        NoWords::Shown => NoWords::Unprinted,
+        other => other,
     };
-    read_words(&(&console, alloc), row.words) == Err(why)
+    ending_of(read_words(&(&console, alloc), row.words)) == Some(wanted)
 }
 
 #[test]
@@ -392,12 +431,13 @@ fn prints_help_and_mistakes(rt: HostRuntime) {
 }
 
 // Words, and what they ask for.
-static ASKED: [(&[&str], Request<'static>); 10] = [
+static ASKED: [(&[&str], Request<'static>); 12] = [
     (
         &["btspace", "local", "a.bts"],
         Request::Local {
             script: "a.bts",
             space: SpaceVersion::One,
+            keeps_going: false,
         },
     ),
     (
@@ -405,6 +445,7 @@ static ASKED: [(&[&str], Request<'static>); 10] = [
         Request::Local {
             script: "a.bts",
             space: SpaceVersion::One,
+            keeps_going: false,
         },
     ),
     (
@@ -412,6 +453,7 @@ static ASKED: [(&[&str], Request<'static>); 10] = [
         Request::Local {
             script: "a.bts",
             space: SpaceVersion::Two,
+            keeps_going: false,
         },
     ),
     (
@@ -419,6 +461,7 @@ static ASKED: [(&[&str], Request<'static>); 10] = [
         Request::Local {
             script: "a.bts",
             space: SpaceVersion::Two,
+            keeps_going: false,
         },
     ),
     (
@@ -426,6 +469,45 @@ static ASKED: [(&[&str], Request<'static>); 10] = [
         Request::Run {
             config: "a.toml",
             script: "a.bts",
+            drills: Drills::NONE,
+            has_summary: false,
+        },
+    ),
+    (
+        &["btspace", "local", "-", "--keep-going"],
+        Request::Local {
+            script: "-",
+            space: SpaceVersion::One,
+            keeps_going: true,
+        },
+    ),
+    (
+        &[
+            "btspace",
+            "run",
+            "--drill=6=stale",
+            "--summary",
+            "--drill",
+            "0=silent",
+            "a.toml",
+            "-",
+        ],
+        Request::Run {
+            config: "a.toml",
+            script: "-",
+            drills: Drills([
+                Some(Drilled {
+                    replica: 6,
+                    kind: DrillKind::Stale,
+                }),
+                Some(Drilled {
+                    replica: 0,
+                    kind: DrillKind::Silent,
+                }),
+                None,
+                None,
+            ]),
+            has_summary: true,
         },
     ),
     (&["btspace", "show", "00"], Request::Show { digits: "00" }),
@@ -477,7 +559,10 @@ static ASKED: [(&[&str], Request<'static>); 10] = [
 
 fn asks_for(alloc: Global, words: &[&str], request: Request<'_>) -> bool {
     let console = Console::new(alloc, true);
-    read_words(&(&console, alloc), words) == Ok(request)
+    match read_words(&(&console, alloc), words) {
+        Ok(asked) => asked == request,
+        Err(_) => false,
+    }
 }
 
 #[test]

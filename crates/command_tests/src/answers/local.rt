@@ -7,10 +7,11 @@ Runs a script on a space of its own and prints a result line for each operation
 Usage: btspace local [OPTIONS] <SCRIPT>
 
 Arguments:
-  <SCRIPT>  The file of the script, a line for each operation
+  <SCRIPT>  The file of the script, a line for each operation, or -
 
 Options:
       --space <VERSION>  The version of the space; one of version 2 also takes wide numbers and inAll [default: 1] [possible values: 1, 2]
+      --keep-going       Go on after a refused line; the status is 1 at the end if there was one
   -h, --help             Print help
 $ btspace local [-q]
 error: unexpected argument '-q' found
@@ -40,6 +41,27 @@ error: the following required arguments were not provided:
 Usage: btspace local --space <VERSION> <SCRIPT>
 
 For more information, try '--help'.
+$ btspace local --keep-going
+error: the following required arguments were not provided:
+  <SCRIPT>
+
+Usage: btspace local --keep-going <SCRIPT>
+
+For more information, try '--help'.
+$ btspace local --space 1 --keep-going
+error: the following required arguments were not provided:
+  <SCRIPT>
+
+Usage: btspace local --space <VERSION> --keep-going <SCRIPT>
+
+For more information, try '--help'.
+$ btspace local --keep-going --space 1
+error: the following required arguments were not provided:
+  <SCRIPT>
+
+Usage: btspace local --keep-going --space <VERSION> <SCRIPT>
+
+For more information, try '--help'.
 $ btspace local [--nope]
 error: unexpected argument '--nope' found
 
@@ -64,12 +86,44 @@ error: unexpected argument '--nope' found
 Usage: btspace local --space <VERSION> <SCRIPT>
 
 For more information, try '--help'.
+$ btspace local --keep-going [--nope]
+error: unexpected argument '--nope' found
+
+  tip: to pass '--nope' as a value, use '-- --nope'
+
+Usage: btspace local --keep-going <SCRIPT>
+
+For more information, try '--help'.
 $ btspace local [--spacee]
 error: unexpected argument '--spacee' found
 
   tip: a similar argument exists: '--space'
 
 Usage: btspace local --space <VERSION> <SCRIPT>
+
+For more information, try '--help'.
+$ btspace local --keep-going [--spacee]
+error: unexpected argument '--spacee' found
+
+  tip: a similar argument exists: '--space'
+
+Usage: btspace local --keep-going --space <VERSION> <SCRIPT>
+
+For more information, try '--help'.
+$ btspace local [--keep-goingg]
+error: unexpected argument '--keep-goingg' found
+
+  tip: a similar argument exists: '--keep-going'
+
+Usage: btspace local --keep-going <SCRIPT>
+
+For more information, try '--help'.
+$ btspace local --space 1 [--keep-goingg]
+error: unexpected argument '--keep-goingg' found
+
+  tip: a similar argument exists: '--keep-going'
+
+Usage: btspace local --space <VERSION> --keep-going <SCRIPT>
 
 For more information, try '--help'.
 $ btspace local [--helpp]
@@ -86,6 +140,14 @@ error: unexpected argument '--helpp' found
   tip: a similar argument exists: '--help'
 
 Usage: btspace local --space <VERSION> --help <SCRIPT>
+
+For more information, try '--help'.
+$ btspace local --keep-going [--helpp]
+error: unexpected argument '--helpp' found
+
+  tip: a similar argument exists: '--help'
+
+Usage: btspace local --keep-going --help <SCRIPT>
 
 For more information, try '--help'.
 $ btspace local --space
@@ -112,6 +174,12 @@ error: invalid value '2x' for '--space <VERSION>'
   tip: a similar value exists: '2'
 
 For more information, try '--help'.
+$ btspace local --keep-going=[nope]
+error: unexpected value 'nope' for '--keep-going' found; no more were expected
+
+Usage: btspace local --keep-going <SCRIPT>
+
+For more information, try '--help'.
 $ btspace local --help=[nope]
 error: unexpected value 'nope' for '--help' found; no more were expected
 
@@ -120,6 +188,12 @@ Usage: btspace local --help <SCRIPT>
 For more information, try '--help'.
 $ btspace local --space 1 --space 1
 error: the argument '--space <VERSION>' cannot be used multiple times
+
+Usage: btspace local [OPTIONS] <SCRIPT>
+
+For more information, try '--help'.
+$ btspace local --keep-going --keep-going
+error: the argument '--keep-going' cannot be used multiple times
 
 Usage: btspace local [OPTIONS] <SCRIPT>
 

@@ -176,22 +176,25 @@ Runs a script on a space of its own and prints a result line for each operation
 Usage: btspace local [OPTIONS] <SCRIPT>
 
 Arguments:
-  <SCRIPT>  The file of the script, a line for each operation
+  <SCRIPT>  The file of the script, a line for each operation, or -
 
 Options:
       --space <VERSION>  The version of the space; one of version 2 also takes wide numbers and inAll [default: 1] [possible values: 1, 2]
+      --keep-going       Go on after a refused line; the status is 1 at the end if there was one
   -h, --help             Print help
 $ btspace help run
 Runs a script on a running cluster and prints a result line for each operation
 
-Usage: btspace run <CONFIG> <SCRIPT>
+Usage: btspace run [OPTIONS] <CONFIG> <SCRIPT>
 
 Arguments:
-  <CONFIG>  The file of the configuration, in TOML, which names no faulty party
-  <SCRIPT>  The file of the script, a line for each operation, which the clients take in turn
+  <CONFIG>  The file of the configuration, in TOML, which names no faulty party, or -
+  <SCRIPT>  The file of the script, a line for each operation, which the clients take in turn, or -
 
 Options:
-  -h, --help  Print help
+      --drill <REPLICA=DRILL>  Let a replica lie, up to f of them: 3=silent sends nothing, 3=stale answers reads from an empty space
+      --summary                Tell the views, numbers, entries, stopped parties and time of the run on standard error
+  -h, --help                   Print help
 
 The journal takes 65,536 entries, or as many as the configuration says. One client's writes that fit:
 about 1,250 at f = 1, 490 at f = 2, 260 at f = 3. Reads that fit: about 4,300, 2,700, 1,980.
@@ -201,13 +204,15 @@ Runs a schedule in a world of replicas and clients and prints what was accepted
 Usage: btspace schedule [OPTIONS] <CONFIG> <FILE>
 
 Arguments:
-  <CONFIG>  The file of the configuration, in TOML
-  <FILE>    The file of the schedule, a line for each step
+  <CONFIG>  The file of the configuration, in TOML, or -
+  <FILE>    The file of the schedule, a line for each step, or -
 
 Options:
-      --trace    Print the entries of the trace before the report, a line each
-      --picture  Print the run as an SVG message sequence chart in place of the report
-  -h, --help     Print help
+      --trace            Print the entries of the trace before the report, a line each
+      --picture          Print the run as an SVG message sequence chart in place of the report
+      --from <POSITION>  The position of the first entry that the chart shows [default: 0]
+      --to <POSITION>    The position of the last entry that the chart shows [default: the last one]
+  -h, --help             Print help
 $ btspace help show
 Prints the tuple that is encoded by these bytes
 
@@ -226,6 +231,30 @@ error: unexpected argument '--spacee' found
 Usage: btspace <COMMAND>
 
 For more information, try '--help'.
+$ btspace [--keep-goingg] local
+error: unexpected argument '--keep-goingg' found
+
+  tip: 'local --keep-going' exists
+
+Usage: btspace <COMMAND>
+
+For more information, try '--help'.
+$ btspace [--drilll] run
+error: unexpected argument '--drilll' found
+
+  tip: 'run --drill' exists
+
+Usage: btspace <COMMAND>
+
+For more information, try '--help'.
+$ btspace [--summaryy] run
+error: unexpected argument '--summaryy' found
+
+  tip: 'run --summary' exists
+
+Usage: btspace <COMMAND>
+
+For more information, try '--help'.
 $ btspace [--tracee] schedule
 error: unexpected argument '--tracee' found
 
@@ -238,6 +267,22 @@ $ btspace [--picturee] schedule
 error: unexpected argument '--picturee' found
 
   tip: 'schedule --picture' exists
+
+Usage: btspace <COMMAND>
+
+For more information, try '--help'.
+$ btspace [--fromm] schedule
+error: unexpected argument '--fromm' found
+
+  tip: 'schedule --from' exists
+
+Usage: btspace <COMMAND>
+
+For more information, try '--help'.
+$ btspace [--too] schedule
+error: unexpected argument '--too' found
+
+  tip: 'schedule --to' exists
 
 Usage: btspace <COMMAND>
 

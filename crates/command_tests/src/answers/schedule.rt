@@ -7,13 +7,15 @@ Runs a schedule in a world of replicas and clients and prints what was accepted
 Usage: btspace schedule [OPTIONS] <CONFIG> <FILE>
 
 Arguments:
-  <CONFIG>  The file of the configuration, in TOML
-  <FILE>    The file of the schedule, a line for each step
+  <CONFIG>  The file of the configuration, in TOML, or -
+  <FILE>    The file of the schedule, a line for each step, or -
 
 Options:
-      --trace    Print the entries of the trace before the report, a line each
-      --picture  Print the run as an SVG message sequence chart in place of the report
-  -h, --help     Print help
+      --trace            Print the entries of the trace before the report, a line each
+      --picture          Print the run as an SVG message sequence chart in place of the report
+      --from <POSITION>  The position of the first entry that the chart shows [default: 0]
+      --to <POSITION>    The position of the last entry that the chart shows [default: the last one]
+  -h, --help             Print help
 $ btspace schedule [-q]
 error: unexpected argument '-q' found
 
@@ -153,6 +155,54 @@ error: unexpected argument '--picturee' found
 Usage: btspace schedule --trace --picture <CONFIG> <FILE>
 
 For more information, try '--help'.
+$ btspace schedule [--fromm]
+error: unexpected argument '--fromm' found
+
+  tip: a similar argument exists: '--from'
+
+Usage: btspace schedule --from <POSITION> <CONFIG> <FILE>
+
+For more information, try '--help'.
+$ btspace schedule --trace [--fromm]
+error: unexpected argument '--fromm' found
+
+  tip: a similar argument exists: '--from'
+
+Usage: btspace schedule --trace --from <POSITION> <CONFIG> <FILE>
+
+For more information, try '--help'.
+$ btspace schedule --picture [--fromm]
+error: unexpected argument '--fromm' found
+
+  tip: a similar argument exists: '--from'
+
+Usage: btspace schedule --picture --from <POSITION> <CONFIG> <FILE>
+
+For more information, try '--help'.
+$ btspace schedule [--too]
+error: unexpected argument '--too' found
+
+  tip: a similar argument exists: '--to'
+
+Usage: btspace schedule --to <POSITION> <CONFIG> <FILE>
+
+For more information, try '--help'.
+$ btspace schedule --trace [--too]
+error: unexpected argument '--too' found
+
+  tip: a similar argument exists: '--to'
+
+Usage: btspace schedule --trace --to <POSITION> <CONFIG> <FILE>
+
+For more information, try '--help'.
+$ btspace schedule --picture [--too]
+error: unexpected argument '--too' found
+
+  tip: a similar argument exists: '--to'
+
+Usage: btspace schedule --picture --to <POSITION> <CONFIG> <FILE>
+
+For more information, try '--help'.
 $ btspace schedule [--helpp]
 error: unexpected argument '--helpp' found
 
@@ -187,6 +237,14 @@ $ btspace schedule --picture=[nope]
 error: unexpected value 'nope' for '--picture' found; no more were expected
 
 Usage: btspace schedule --picture <CONFIG> <FILE>
+
+For more information, try '--help'.
+$ btspace schedule --from
+error: a value is required for '--from <POSITION>' but none was supplied
+
+For more information, try '--help'.
+$ btspace schedule --to
+error: a value is required for '--to <POSITION>' but none was supplied
 
 For more information, try '--help'.
 $ btspace schedule --help=[nope]
