@@ -35,7 +35,7 @@ const MOST_PIXELS: u64 = 30_000;
 pub const MAX_ROWS: u64 = (MOST_PIXELS - ABOVE - BELOW) / ROW;
 
 /// Most lanes of a picture.
-pub(crate) const MAX_LANES: u64 = (MOST_PIXELS - LEFT - RIGHT) / LANE + 1;
+pub const MAX_LANES: u64 = (MOST_PIXELS - LEFT - RIGHT) / LANE + 1;
 
 /// Whether the configuration has the party, and as faulty.
 #[derive(Clone, Copy, Debug, PartialEq, Eq, Drop)]
