@@ -1,2 +1,4 @@
 pub mod Escaping
+pub mod Faults
+pub mod Lanes
 pub mod Pictures

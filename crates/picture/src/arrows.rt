@@ -1,5 +1,8 @@
 //! Arrows from sendings to deliveries.
 
+ghost use Rattle.std.specs.Prelude.{◌≡◌};
+ghost use Rattle.picture.specs.Lanes.{party_at};
+
 use crate::judge::Judge;
 use crate::labels::{put_dropped_title, put_title};
 use crate::lanes::{Lanes, Standing, standing_of};
@@ -27,7 +30,9 @@ pub(crate) enum Origin {
 
 impl Origin {
     /// The party at whose lane the arrow begins.
-    pub(crate) fn party(self) -> Option<u16> {
+    pub(crate) fn party(self) -> Option<u16>
+        ensures { result ≡ party_at self }
+    {
         match self {
             Origin::Sending { party, .. } | Origin::Faulty { party } => Some(party),
             Origin::Nowhere => None,

@@ -1,6 +1,7 @@
 //! The whole picture.
 
-ghost use Rattle.std.specs.Prelude.{◌≡◌, OnOk, OnErr};
+ghost use Rattle.std.specs.Prelude.{◌≡◌, length, OnOk, OnErr, IfErr};
+ghost use Rattle.picture.specs.Faults.{DrawsEntries, IsLateFault, entries_between};
 ghost use Rattle.picture.specs.Pictures.{AppendsPicture};
 
 use crate::acts::put_points;
@@ -36,6 +37,8 @@ pub fn write_picture(
 ) -> Result<(), PictureFault>
     ensures ok { OnOk result (AppendsPicture out.old.items out.new.items) }
     ensures err { OnErr result (out.new.items ≡ out.old.items) }
+    ensures drawn { DrawsEntries (length run.entry.trace.now)
+        (entries_between (length run.entry.trace.now) from to) result }
 {
     let rows = Rows::of(run.trace.len() as u64, from, to)?;
     let mut body = String::new(alloc);
@@ -46,7 +49,9 @@ pub fn write_picture(
     Ok(out.extend_from_slice(picture.as_bytes())?)
 }
 
-fn put_rows(alloc: Global, run: Run<'_>, rows: Rows, svg: &mut String) -> Result<(), PictureFault> {
+fn put_rows(alloc: Global, run: Run<'_>, rows: Rows, svg: &mut String) -> Result<(), PictureFault>
+    ensures { IfErr result IsLateFault }
+{
     let arrows = arrows_of(alloc, run, rows)?;
     let lanes = Lanes::of(alloc, run, rows, arrows.as_slice())?;
     if lanes.count() > MAX_LANES {

@@ -1,7 +1,9 @@
 //! Why no picture was drawn.
 
+ghost use Rattle.std.specs.Prelude.{◌≡◌};
+ghost use Rattle.picture.specs.declared.fault.PictureFault.TheVariants.{NoMemory};
+
 use std::alloc::{AllocError, AllocFailed};
-use std::fmt;
 use terms::NoMemory;
 use thiserror::Error;
 
@@ -22,24 +24,24 @@ pub enum PictureFault {
 }
 
 impl From<NoMemory> for PictureFault {
+    ghost from_gives = { λ _ e. e ≡ NoMemory };
+
     fn from(_failed: NoMemory) -> PictureFault {
         PictureFault::NoMemory
     }
 }
 
 impl From<AllocError> for PictureFault {
+    ghost from_gives = { λ _ e. e ≡ NoMemory };
+
     fn from(_failed: AllocError) -> PictureFault {
         PictureFault::NoMemory
     }
 }
 
-impl From<fmt::Error> for PictureFault {
-    fn from(_failed: fmt::Error) -> PictureFault {
-        PictureFault::NoMemory
-    }
-}
-
 impl<T: Drop> From<AllocFailed<T>> for PictureFault {
+    ghost from_gives = { λ _ e. e ≡ NoMemory };
+
     fn from(_failed: AllocFailed<T>) -> PictureFault {
         PictureFault::NoMemory
     }

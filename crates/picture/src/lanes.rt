@@ -1,8 +1,15 @@
 //! The lanes of the parties, and the places of all parts on the page.
 
+ghost use Rattle.std.specs.Prelude.{◌≡◌, OnOk, IfOk};
+ghost use Rattle.terms.specs.Parties.{party_number};
+ghost use Rattle.protocol.specs.System.Trace.{party_of};
+ghost use Rattle.events.specs.EntryView.{entry_of_kind};
+ghost use Rattle.picture.specs.Lanes.{AddsOnly, HasArrow, HasEntry, HasPoint, TakePart};
+
 use crate::arrows::Arrow;
 use crate::run::{Rows, Run};
-use events::{Config, EntryKind};
+use events::{Config, Entry, EntryKind};
+use points::Point;
 use std::alloc::{AllocError, Global};
 use std::fmt::{self, Write};
 use terms::{FIRST_CLIENT, NoMemory, Party};
@@ -35,7 +42,7 @@ const MOST_PIXELS: u64 = 30_000;
 pub const MAX_ROWS: u64 = (MOST_PIXELS - ABOVE - BELOW) / ROW;
 
 /// Most lanes of a picture.
-pub(crate) const MAX_LANES: u64 = (MOST_PIXELS - LEFT - RIGHT) / LANE + 1;
+pub const MAX_LANES: u64 = (MOST_PIXELS - LEFT - RIGHT) / LANE + 1;
 
 /// Whether the configuration has the party, and as faulty.
 #[derive(Clone, Copy, Debug, PartialEq, Eq, Drop)]
@@ -60,7 +67,10 @@ impl Lanes {
         run: Run<'_>,
         rows: Rows,
         arrows: &[Arrow],
-    ) -> Result<Lanes, AllocError> {
+    ) -> Result<Lanes, AllocError>
+        ensures { IfOk result (λ lanes. TakePart rows run.entry.trace.now arrows.now
+            run.entry.points.now lanes.parties.items) }
+    {
         let numbers = numbers(alloc, run, rows, arrows)?;
         let mut parties = Vec::new(alloc);
         let mut standings = Vec::new(alloc);
@@ -142,29 +152,55 @@ fn numbers(
     run: Run<'_>,
     rows: Rows,
     arrows: &[Arrow],
-) -> Result<Vec<u16>, AllocError> {
+) -> Result<Vec<u16>, AllocError>
+    ensures { IfOk result (λ numbers. TakePart rows run.entry.trace.now arrows.now
+        run.entry.points.now numbers.items) }
+{
     let mut numbers = Vec::new(alloc);
-    for (position, entry) in run.trace.iter().enumerate() {
+    add_entries(rows, run.trace, &mut numbers)?;
+    add_arrows(arrows, &mut numbers)?;
+    add_points(rows, run.points, &mut numbers)?;
+    numbers.sort()?;
+    Ok(numbers)
+}
+
+fn add_entries(rows: Rows, trace: &[Entry], numbers: &mut Vec<u16>) -> Result<(), AllocError>
+    ensures { OnOk result (AddsOnly (HasEntry rows trace.now) numbers.old.items numbers.new.items) }
+{
+    for (position, entry) in trace.iter().enumerate() {
         if rows.has(position as u64) {
             numbers.push(party(entry.kind()).number())?;
         }
     }
+    Ok(())
+}
+
+fn add_arrows(arrows: &[Arrow], numbers: &mut Vec<u16>) -> Result<(), AllocError>
+    ensures { OnOk result (AddsOnly (HasArrow arrows.now) numbers.old.items numbers.new.items) }
+{
     for arrow in arrows {
         if let Some(party) = arrow.origin.party() {
             numbers.push(party)?;
         }
     }
-    for point in run.points {
+    Ok(())
+}
+
+fn add_points(rows: Rows, points: &[Point], numbers: &mut Vec<u16>) -> Result<(), AllocError>
+    ensures { OnOk result (AddsOnly (HasPoint rows points.now) numbers.old.items numbers.new.items) }
+{
+    for point in points {
         if rows.has(point.position as u64) {
             numbers.push(Party::Client(point.client).number())?;
         }
     }
-    numbers.sort()?;
-    Ok(numbers)
+    Ok(())
 }
 
 /// The party at which an entry happened.
-pub(crate) fn party(kind: &EntryKind) -> Party {
+pub(crate) fn party(kind: &EntryKind) -> Party
+    ensures { party_number result ≡ party_of (entry_of_kind kind.now) }
+{
     match kind {
         EntryKind::Invoke(client, _, _) => Party::Client(*client),
         EntryKind::Got(party, _) => *party,

@@ -8,8 +8,10 @@
 //! entity.
 //!
 //! `write_picture` appends the declaration and the opening of an `svg` element, UTF-8, and the element's end, or
-//! leaves the bytes as they were. It is safe and returns, on any configuration and any entries. The lanes, arrows and
-//! marks in between, and that tags are well nested, are tested and looked at (`text_tests`, `docs/pictures`).
+//! leaves the bytes as they were. It tells `NoEntry` exactly if the trace has entries, but none at the positions, and
+//! `TooHigh` exactly if it has more than `MAX_ROWS` there. It tells `TooWide` only of more than `MAX_LANES` parties
+//! (`specs/Faults.antt`). It is safe and returns, on any configuration, entries and points. What stands in between,
+//! and that tags are well nested, is tested and looked at (`text_tests`, `docs/pictures`).
 //!
 //! # How it is made
 //!
@@ -37,6 +39,6 @@ mod shapes;
 pub use drawing::write_picture;
 pub use escaping::escape;
 pub use fault::PictureFault;
-pub use lanes::MAX_ROWS;
+pub use lanes::{MAX_LANES, MAX_ROWS};
 pub use laws::escaped_is_plain;
 pub use run::Run;
