@@ -166,7 +166,6 @@ help_held : (buffer l : List ℕ) → HoldsLine buffer l → IsHelp buffer → I
 help_held buffer l (inl e) help = subst IsHelp e help
 help_held buffer l (inr h) help = absurd (no_help help.lead help.trail (sym h.0 ∙ help.whole))
 
-
 -- What was held went to the writer, and some refusals were told.
 settled : (first : Contents) (start old new : Scene) (os : List Operation) (rs more : List Refusal) (space : SpaceState) (before after : Held)
     → Appends old.written new.written before.results.items → after.results.items ≡ [] → Says old.said new.said (map refusal_line more)
@@ -261,9 +260,9 @@ module _ (turn : Turn) (first : Contents) (bytes : List ℕ) (start : Scene) (kn
       → (result : Result Bool LocalFault) → Passes result turn fault buffer old new before after → Comes result
   passes_refused fault buffer l first_line real refusing holds (Ok more) h = goes more h.0 (elim h.1 [
     | inl talk ↦ helps_one turn.manner first bytes start turn.number known old new space before after here rest l first_line.rest fault below first_line.left_is first_line.split
-    talk.0 (help_held buffer l holds talk.1) refusing talk.2
+        talk.0 (help_held buffer l holds talk.1) refusing talk.2
     | inr over ↦ passes_one turn.manner first bytes start turn.number known old new space before after here rest l first_line.rest fault below first_line.left_is first_line.split
-    (over_held turn.manner buffer l holds over.0) real refusing over.1
+        (over_held turn.manner buffer l holds over.0) real refusing over.1
   ])
   passes_refused fault buffer l first_line real refusing holds (Err why) h = strictly why fault l (lines first_line.rest) first_line.split real refusing h
 
@@ -436,9 +435,11 @@ module _ (manner : Manner) (first : Contents) (bytes : List ℕ) (start now writ
   breaks_written : (ending : Ending) (pending : List ℕ) → Appends now.written written.written pending → Breaks ending manner first bytes start now pending
       → Breaks ending manner first bytes start written []
   breaks_written ending pending appended h =
-      let left = h.0 in
-      (record left { pending = [] }, refl,
-        all_written ending left (record left { pending = [] }) (subst (Appends now.written written.written) (sym h.1) appended) refl refl refl h.2)
+      let left = h.0 in (
+        record left { pending = [] },
+        refl,
+        all_written ending left (record left { pending = [] }) (subst (Appends now.written written.written) (sym h.1) appended) refl refl refl h.2,
+      )
 
   pub written_at_fault : (pending : List ℕ) (fault : LocalFault) → Appends now.written written.written pending → StopsBy fault manner first bytes start now pending
       → StopsBy fault manner first bytes start written []

@@ -23,7 +23,10 @@ static LINES: [(&str, &str); 5] = [
 #[test]
 fn escapes_control_characters(rt: HostRuntime) -> Result<(), Fail> {
     for &(text, shown) in &LINES {
-        assert!(rt; is_shown(rt.alloc(), &Escaped::line(text), shown)?, "{shown}");
+        assert!(rt;
+            is_shown(rt.alloc(), &Escaped::line(text), shown)?,
+            "{shown}"
+        );
     }
     let lines = Escaped::lines("a\nb\t\n");
     assert!(rt; is_shown(rt.alloc(), &lines, "a\nb\\t\n")?);
@@ -59,14 +62,21 @@ static REASONS: [(usize, u64, &str); 5] = [
     (6, 1, "the line ends too early"),
     (65535, 1, "the line ends too early"),
     (65536, 1, "a line has at most 65536 bytes"),
-    (5, 281_474_976_710_656, "a script has less than 281474976710656 lines"),
+    (
+        5,
+        281_474_976_710_656,
+        "a script has less than 281474976710656 lines",
+    ),
 ];
 
 #[test]
 fn tells_why_a_line_is_refused(rt: HostRuntime) -> Result<(), Fail> {
     let line = b"out (\xff".as_slice();
     for &(offset, number, text) in &REASONS {
-        assert!(rt; is_reason(rt.alloc(), number, offset, line, text)?, "{text}");
+        assert!(rt;
+            is_reason(rt.alloc(), number, offset, line, text)?,
+            "{text}"
+        );
     }
     let line = b"01234567890123456789012345678901234567890123456789012345678901234".as_slice();
     let text = "no line begins so: ..2345678901234567890123456789012345678901234567890";

@@ -14,7 +14,7 @@ returns-in-Some c =
     let cases = (c.in-Some.ensures {u = tt}).cases in
     let rest = c.in-Some.rest.now in (
       λ t. asks line c.blanks_before.result before.within before.before before.found rest
-      (sym back ∙ word_there word cases.0 ∙ ap (λ r. 104 ∷ 101 ∷ 108 ∷ 112 ∷ r) (sym cases.1)) (blanks_of rest (sym c.is_blank.ensures ∙ t)) (omega arith),
+          (sym back ∙ word_there word cases.0 ∙ ap (λ r. 104 ∷ 101 ∷ 108 ∷ 112 ∷ r) (sym cases.1)) (blanks_of rest (sym c.is_blank.ensures ∙ t)) (omega arith),
       λ h. c.is_blank.ensures ∙ all_blanks rest (ends_blank line c.blanks_before.result before.within before.before before.found rest (cases.1 ∙ ap (drop 4) back) h),
     )
 
@@ -25,5 +25,5 @@ returns-in-None c =
     let cases = (c.in-None.ensures {u = tt}).cases in (
       λ e. absurd (false≢true e),
       λ h. absurd (is_no_help line c.blanks_before.result before.within before.before before.found
-      (subst (λ w. bytes_eq (take 4 w) (104 ∷ 101 ∷ 108 ∷ 112 ∷ []) ≡ false) c.split_at.ensures.back cases) h),
+          (subst (λ w. bytes_eq (take 4 w) (104 ∷ 101 ∷ 108 ∷ 112 ∷ []) ≡ false) c.split_at.ensures.back cases) h),
     )

@@ -22,6 +22,6 @@ returns-in-Err-Refused-clause-read g c bytes so_far =
 
 pub returns-in-Err-RefusedEarly-clause-read : goal.returns-in-Err-RefusedEarly-clause-read
 returns-in-Err-RefusedEarly-clause-read g c bytes so_far =
-    rw c.refused_line.ensures.fault
+    rw c.refused_line-in-Err-RefusedEarly.ensures.fault
     (refused_early _ bytes _ _ _ so_far _ _ c.next_line.result c.next_line.ensures c.in-Err-RefusedEarly.field-0 c.in-Err-RefusedEarly.fault c.requires.early c.in-Err-RefusedEarly.is
     c.in-Err-RefusedEarly.field-0-is)
