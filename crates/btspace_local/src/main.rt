@@ -33,11 +33,13 @@ fn act_on_words<R: Files + Env + Input + Print + Eprint + AllocGlobal>(
         Err(status) => return status,
     };
     match read_words(&(EscapedErrors(rt), rt.alloc()), words.as_slice()) {
-        Ok(Request::Local {
-            script,
-            space,
-            keeps_going,
-        }) => {
+        Ok(
+            Request::Local {
+                script,
+                space,
+                keeps_going,
+            },
+        ) => {
             let request = LocalRequest {
                 script,
                 version: version_of(space),
@@ -67,16 +69,23 @@ fn refuse_command<R: Eprint>(rt: &R) -> u8 {
 }
 
 // `read_words` has printed all other texts already.
-fn end_words<R: Eprint>(rt: &R, why: NoRequest) -> u8
-{
+fn end_words<R: Eprint>(rt: &R, why: NoRequest) -> u8 {
     match why {
         NoRequest::Shown => 0,
         NoRequest::Wrong => 2,
         NoRequest::Unprinted(error) => {
-            complain(&mut StandardError::new(rt), Complaint::of_write(&error), error)
+            complain(
+                &mut StandardError::new(rt),
+                Complaint::of_write(&error),
+                error,
+            )
         }
         NoRequest::NoMemory => {
-            complain(&mut StandardError::new(rt), Complaint::Stopped, "out of memory")
+            complain(
+                &mut StandardError::new(rt),
+                Complaint::Stopped,
+                "out of memory",
+            )
         }
     }
 }

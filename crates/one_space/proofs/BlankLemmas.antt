@@ -32,7 +32,7 @@ blanks_of (x ∷ l) e = at (x == 32) refl (blanks_of l) e
     at true h more e = (eqb-true x 32 h, more e)
     at false h more e = absurd (true≢false (sym e))
 
-all_blanks : (l : List ℕ) → AreBlanks l → list_all (λ b. b == 32) l ≡ true
+pub all_blanks : (l : List ℕ) → AreBlanks l → list_all (λ b. b == 32) l ≡ true
 all_blanks [] h = refl
 all_blanks (x ∷ l) h = subst (λ y. ((y == 32) && list_all (λ b. b == 32) l) ≡ true) (sym h.0) (all_blanks l h.1)
 

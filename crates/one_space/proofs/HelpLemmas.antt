@@ -8,7 +8,7 @@ use lib.Seq.{get_or-append_seam}
 use Rattle.tuple_text.specs.Texts.{AreBlanks}
 use Rattle.one_space.specs.Run.{IsHelp}
 
-help : List ℕ
+abbrev help : List ℕ
 help = 104 ∷ 101 ∷ 108 ∷ 112 ∷ []
 
 blanks_front : (l : List ℕ) (n : ℕ) → n ≤ length l → ((k : ℕ) → k < n → get_or l k 0 ≡ 32) → AreBlanks (take n l)

@@ -19,13 +19,14 @@ use Rattle.space.proofs.Batches.{next_after}
 use Rattle.space.proofs.Keeping.{tuples_of-state_after}
 use Rattle.one_space.specs.Complaints.{Says, refusal_line}
 use Rattle.one_space.specs.Endings.{Breaks, FrontIsWritten, Gives, IsWriteFault, Left, Runs, Scene, StopsBy, read_fault_of}
-use Rattle.one_space.specs.Moments.{EndsEarly, EndsLate, EndsStrictly, GoesOn, HelpsOrPasses, IsAt, Passes, PassesRead, RunsOperation, Settles, left_with}
+use Rattle.one_space.specs.Moments.{EndsEarly, EndsLate, EndsStrictly, GoesOn, HelpsOrPasses, IsAt, Passes, PassesRead, Quiets, RunsOperation, Settles, left_with}
 use Rattle.one_space.specs.NextLines.{BeginsWith, HoldsLine, IsCutLine, IsNextLine, NextLineFails, ReturnsLine}
 use Rattle.one_space.specs.Run.{Ending, complete, refused_at, cut_short, IsHelp, LinesSay, PassesOver, Refusal, refusal, result_line, at_end, stops, skips, calls, refuses, passes, helps, is_late}
 use Rattle.one_space.specs.declared.input.NextLine.{NextLine}
 use Rattle.one_space.specs.declared.input.NextLine.TheVariants as next
 use Rattle.one_space.specs.declared.input.NoLine.{NoLine}
 use Rattle.one_space.specs.declared.input.NoLine.TheVariants as no
+use Rattle.one_space.specs.declared.once.EndsOnce.{EndsOnce}
 use Rattle.one_space.specs.declared.pieces.ReadFault.{ReadFault}
 use Rattle.one_space.specs.declared.pieces.ReadFault.TheVariants as pieces
 use Rattle.one_space.specs.declared.session.Held.{Held}
@@ -61,9 +62,6 @@ ended {refusals = rs} {left = left} ending said gives count = record {
 one_more : (before after n : ℕ) → before ≡ min n (2 ^ 64 - 1) → after ≡ min (before + 1) (2 ^ 64 - 1) → after ≡ min (n + 1) (2 ^ 64 - 1)
 one_more before after n e f = grind arith
 
-none_more : (before after n : ℕ) → before ≡ min n (2 ^ 64 - 1) → after ≡ min (before + 0) (2 ^ 64 - 1) → after ≡ min n (2 ^ 64 - 1)
-none_more before after n e f = grind arith
-
 pushed : (rs : List Refusal) (r : Refusal) → length (rs ++ r ∷ []) ≡ length rs + 1
 pushed rs r = length-append rs (r ∷ [])
 
@@ -79,10 +77,12 @@ begins manner first bytes scene left tuples none count = record {
   count = count;
 }
 
-module _ (manner : Manner) (first : Contents) (bytes : List ℕ) (start : Scene) (n : ℕ) (known : Option (List ℕ)) (now : Scene) (left : Left) (here : IsAt manner first bytes start n known now left) where
-  rest_of : List ℕ
-  rest_of = here.so_far.rest
+pub begins_known : (manner : Manner) (known : Option (List ℕ)) (scene : Scene) (left : Left) → left.pending ≡ [] → left.refused ≡ 0
+    → IfSome known (λ bytes. IsAt manner left.tuples bytes scene 1 known scene left)
+begins_known manner None scene left none count = tt
+begins_known manner (Some bytes) scene left none count = begins manner left.tuples bytes scene left refl none count
 
+module _ (manner : Manner) (first : Contents) (bytes : List ℕ) (start : Scene) (n : ℕ) (known : Option (List ℕ)) (now : Scene) (left : Left) (here : IsAt manner first bytes start n known now left) where
   pub ends_here : lines here.so_far.rest ≡ [] → Runs manner first bytes complete start now left
   ends_here e = ended complete (at_last manner bytes known n here.ops here.refusals here.so_far e) here.gives here.count
 
@@ -112,6 +112,13 @@ module _ (manner : Manner) (first : Contents) (bytes : List ℕ) (start : Scene)
     gives = gives_operation first start now here.ops here.refusals left here.gives o after tuples pending;
     count = refused ∙ here.count;
   }
+
+-- A run that didn't begin gave nothing.
+pub not_begun : (manner : Manner) (known : Option (List ℕ)) (scene : Scene) (left : Left) → left.pending ≡ [] → left.refused ≡ 0
+    → IfSome known (λ bytes. Breaks cut_short manner left.tuples bytes scene scene [])
+not_begun manner None scene left none count = tt
+not_begun manner (Some bytes) scene left none count =
+    breaks_here manner left.tuples bytes scene 1 (Some bytes) scene left (begins manner left.tuples bytes scene left refl none count) [] (sym none)
 
 -- The operation of a line ran.
 pub operates : (manner : Manner) (first : Contents) (bytes : List ℕ) (start : Scene) (n : ℕ) (known rest : Option (List ℕ)) (now : Scene) (left after : Left)
@@ -159,26 +166,25 @@ help_held : (buffer l : List ℕ) → HoldsLine buffer l → IsHelp buffer → I
 help_held buffer l (inl e) help = subst IsHelp e help
 help_held buffer l (inr h) help = absurd (no_help help.lead help.trail (sym h.0 ∙ help.whole))
 
-
 -- What was held went to the writer, and some refusals were told.
-settled : (first : Contents) (start old new : Scene) (os : List Operation) (rs more : List Refusal) (space : SpaceState) (before after : Held) (lines_told : List (List ℕ)) (n : ℕ)
-    → lines_told ≡ map refusal_line more → Settles old new before after lines_told n → Gives first start old os rs (left_with space before)
-    → Gives first start new os (rs ++ more) (left_with space after)
-settled first start old new os rs more space before after lines_told n same settles gives =
+settled : (first : Contents) (start old new : Scene) (os : List Operation) (rs more : List Refusal) (space : SpaceState) (before after : Held)
+    → Appends old.written new.written before.results.items → after.results.items ≡ [] → Says old.said new.said (map refusal_line more)
+    → Gives first start old os rs (left_with space before) → Gives first start new os (rs ++ more) (left_with space after)
+settled first start old new os rs more space before after wrote none told gives =
     let mid : Scene = record { written = new.written; said = old.said } in
     gives_told first start mid os rs (left_with space after)
     (gives_written first start old os rs (left_with space before) gives mid (left_with space after) refl refl (record {
       gone = before.results.items;
-      wrote = settles.wrote;
-      split = ap (λ l. before.results.items ++ l) settles.none ∙ append-nil before.results.items;
+      wrote = wrote;
+      split = ap (λ l. before.results.items ++ l) none ∙ append-nil before.results.items;
     }))
-    new more refl (subst (Says old.said new.said) same settles.told)
+    new more refl told
 
 -- the run at a line, and the held results before and after
 module _ (manner : Manner) (first : Contents) (bytes : List ℕ) (start : Scene) (n : ℕ) (known : Option (List ℕ)) (old new : Scene) (space : SpaceState) (before after : Held)
     (here : IsAt manner first bytes start n known old (left_with space before)) where
   told_one : (fault : LineFault) → Settles old new before after (refusal_line (refusal n fault) ∷ []) 1 → Gives first start new here.ops (here.refusals ++ refusal n fault ∷ []) (left_with space after)
-  told_one fault settles = settled first start old new here.ops here.refusals (refusal n fault ∷ []) space before after _ 1 refl settles here.gives
+  told_one fault settles = settled first start old new here.ops here.refusals (refusal n fault ∷ []) space before after settles.wrote settles.none settles.told here.gives
 
   count_one : (fault : LineFault) → Settles old new before after (refusal_line (refusal n fault) ∷ []) 1 → after.refused ≡ min (length (here.refusals ++ refusal n fault ∷ [])) (2 ^ 64 - 1)
   count_one fault settles =
@@ -197,14 +203,14 @@ module _ (manner : Manner) (first : Contents) (bytes : List ℕ) (start : Scene)
   }
 
   helps_one : (rest : Option (List ℕ)) (l others : List ℕ) (fault : LineFault) → n < 2 ^ 48 → rest ≡ Some others → lines here.so_far.rest ≡ l ∷ lines others
-      → manner ≡ Talks → IsHelp l → RefusesLine fault l → Settles old new before after [] 0 → IsAt manner first bytes start (n + 1) rest new (left_with space after)
-  helps_one rest l others fault below left_is split talks help refusing settles = record {
+      → manner ≡ Talks → IsHelp l → RefusesLine fault l → Quiets old new before after → IsAt manner first bytes start (n + 1) rest new (left_with space after)
+  helps_one rest l others fault below left_is split talks help refusing quiet = record {
     ops = here.ops;
     refusals = here.refusals;
     so_far = past_help manner bytes known n here.ops here.refusals here.so_far rest l others fault below left_is split talks help refusing;
     gives = subst (λ rs. Gives first start new here.ops rs (left_with space after)) (append-nil here.refusals)
-        (settled first start old new here.ops here.refusals [] space before after [] 0 refl settles here.gives);
-    count = none_more before.refused after.refused (length here.refusals) here.count settles.count;
+        (settled first start old new here.ops here.refusals [] space before after quiet.wrote quiet.none quiet.told here.gives);
+    count = quiet.same ∙ here.count;
   }
 
   -- The run ends at the refused line.
@@ -254,9 +260,9 @@ module _ (turn : Turn) (first : Contents) (bytes : List ℕ) (start : Scene) (kn
       → (result : Result Bool LocalFault) → Passes result turn fault buffer old new before after → Comes result
   passes_refused fault buffer l first_line real refusing holds (Ok more) h = goes more h.0 (elim h.1 [
     | inl talk ↦ helps_one turn.manner first bytes start turn.number known old new space before after here rest l first_line.rest fault below first_line.left_is first_line.split
-    talk.0 (help_held buffer l holds talk.1) refusing talk.2
+        talk.0 (help_held buffer l holds talk.1) refusing talk.2
     | inr over ↦ passes_one turn.manner first bytes start turn.number known old new space before after here rest l first_line.rest fault below first_line.left_is first_line.split
-    (over_held turn.manner buffer l holds over.0) real refusing over.1
+        (over_held turn.manner buffer l holds over.0) real refusing over.1
   ])
   passes_refused fault buffer l first_line real refusing holds (Err why) h = strictly why fault l (lines first_line.rest) first_line.split real refusing h
 
@@ -343,6 +349,28 @@ module _ {A : Type 0} (manner : Manner) (first : Contents) (bytes : List ℕ) (s
       let given = gives_line field (next.Operation op) e f in
       operates manner first bytes start n known rest now (left_with space held) (left_with later after) here (operation_of op) given.0 below given.1 given.2 ran h
 
+-- ---- a line that is at hand
+
+module _ (turn : Turn) (first : Contents) (bytes : List ℕ) (start : Scene) (known rest : Option (List ℕ)) (old : Scene) (space : SpaceState) (held : Held) (below : turn.number < 2 ^ 48)
+    (here : IsAt turn.manner first bytes start turn.number known old (left_with space held)) (l : List ℕ) (there : IfSome known (λ xs. IsNextLine l xs rest)) where
+  at_line : IsNextLine l here.so_far.rest rest
+  at_line = subst (λ o. IfSome o (λ xs. IsNextLine l xs rest)) here.so_far.left_is there
+
+  pub skips_line : IsSkipped l → IsAt turn.manner first bytes start (turn.number + 1) rest old (left_with space held)
+  skips_line skipped = skips_here turn.manner first bytes start turn.number known old (left_with space held) here rest l below at_line skipped
+
+  pub runs_line : (o : Operation) (later : SpaceState) (after : Held) (ran : Result Bool LocalFault) → IsLine o l → RunsOperation ran o (left_with space held) (left_with later after)
+      → MatchResult ran
+      (λ more. MatchBool more (IsAt turn.manner first bytes start (turn.number + 1) rest old (left_with later after)) (Runs turn.manner first bytes complete start old (left_with later after)))
+      (λ why. StopsBy why turn.manner first bytes start old after.results.items)
+  runs_line o later after ran is_line h =
+      operates turn.manner first bytes start turn.number known rest old (left_with space held) (left_with later after) here o l below at_line is_line ran h
+
+  pub passes_line : (fault : LineFault) (new : Scene) (after : Held) (result : Result Bool LocalFault) → fault ≢ no_memory → RefusesLine fault l → Passes result turn fault l old new held after
+      → Comes turn first bytes start known rest old new space held after below here result
+  passes_line fault new after result real refusing h =
+      passes_refused turn first bytes start known rest old new space held after below here fault l l at_line real refusing (inl refl) result h
+
 -- Nothing was said when the next line was asked for.
 pub asked : (manner : Manner) (first : Contents) (bytes : List ℕ) (start : Scene) (n : ℕ) (known : Option (List ℕ)) (now later : Scene) (left : Left) → later.written ≡ now.written
     → Says now.said later.said [] → IsAt manner first bytes start n known now left → IsAt manner first bytes start n known later left
@@ -407,9 +435,11 @@ module _ (manner : Manner) (first : Contents) (bytes : List ℕ) (start now writ
   breaks_written : (ending : Ending) (pending : List ℕ) → Appends now.written written.written pending → Breaks ending manner first bytes start now pending
       → Breaks ending manner first bytes start written []
   breaks_written ending pending appended h =
-      let left = h.0 in
-      (record left { pending = [] }, refl,
-        all_written ending left (record left { pending = [] }) (subst (Appends now.written written.written) (sym h.1) appended) refl refl refl h.2)
+      let left = h.0 in (
+        record left { pending = [] },
+        refl,
+        all_written ending left (record left { pending = [] }) (subst (Appends now.written written.written) (sym h.1) appended) refl refl refl h.2,
+      )
 
   pub written_at_fault : (pending : List ℕ) (fault : LocalFault) → Appends now.written written.written pending → StopsBy fault manner first bytes start now pending
       → StopsBy fault manner first bytes start written []
@@ -439,6 +469,14 @@ strict_ends first bytes start now tuples refused runs = record {
   count = ap length (sym (none_refused runs.said refl));
 }
 
+pub of_known : (P : List ℕ → Type 0) (known start : Option (List ℕ)) → known ≡ start → IfSome known P → IfSome start P
+of_known P known start e h = subst (λ s. IfSome s P) e h
+
+-- The number of a line is known by another name.
+pub at_number : (manner : Manner) (first : Contents) (whole : Option (List ℕ)) (start : Scene) (n m : ℕ) (known : Option (List ℕ)) (now : Scene) (left : Left) → n ≡ m
+    → IfSome whole (λ bytes. IsAt manner first bytes start n known now left) → IfSome whole (λ bytes. IsAt manner first bytes start m known now left)
+at_number manner first whole start n m known now left e h = subst (λ k. IfSome whole (λ bytes. IsAt manner first bytes start k known now left)) e h
+
 -- A new buffer holds nothing back.
 pub new_remaining : {T A : Type 0} (remaining : T → Option (List ℕ)) (reader : BufReader T A) (inner : T) → reader_inner reader ≡ inner → reader_buffer reader ≡ [] → reader_capacity reader ≡ 8192
     → reader_remaining remaining reader ≡ remaining inner
@@ -454,3 +492,49 @@ new_remaining remaining reader inner is_inner empty capacity =
 pub not_ended : (known : Option (List ℕ)) → option_map (λ bytes. if false then [] else bytes) known ≡ known
 not_ended None = refl
 not_ended (Some bytes) = refl
+
+-- What was pending was written at the end, or writing failed.
+pub all_ended : (manner : Manner) (first : Contents) (known : Option (List ℕ)) (start now written : Scene) (left : Left) (result : Result (Unit {0}) LocalFault) → written.said ≡ now.said
+    → OnOk result (Appends now.written written.written left.pending) → IfErr result IsWriteFault → IfSome known (λ bytes. Runs manner first bytes complete start now left)
+    → IfSome known (λ bytes. MatchResult result
+    (λ _. Runs manner first bytes complete start written (record left { pending = [] }))
+    (λ fault. StopsBy fault manner first bytes start written []))
+all_ended manner first None start now written left result said wrote fails runs = tt
+all_ended manner first (Some bytes) start now written left (Ok u) said wrote fails runs = written_at_last manner first bytes start now written said left wrote runs
+all_ended manner first (Some bytes) start now written left (Err fault) said wrote fails runs = write_stops manner first bytes start written [] fault fails
+
+-- The fault of a run whose results are all written.
+pub all_stopped : (manner : Manner) (first : Contents) (known : Option (List ℕ)) (start now written : Scene) (pending : List ℕ) (fault : LocalFault) → written.said ≡ now.said
+    → Appends now.written written.written pending → IfSome known (λ bytes. StopsBy fault manner first bytes start now pending)
+    → IfSome known (λ bytes. StopsBy fault manner first bytes start written [])
+all_stopped manner first known start now written pending fault said wrote stopped =
+    each_known _ _ known (λ bytes h. written_at_fault manner first bytes start now written said pending fault wrote h) stopped
+
+pub none_promised : (manner : Manner) (first : Contents) (known : Option (List ℕ)) (start now : Scene) (pending : List ℕ) (fault : LocalFault) → IsWriteFault fault
+    → IfSome known (λ bytes. StopsBy fault manner first bytes start now pending)
+none_promised manner first None start now pending fault fails = tt
+none_promised manner first (Some bytes) start now pending fault fails = write_stops manner first bytes start now pending fault fails
+
+pub once_remaining : {R A : Type 0} (remaining : R → Option (List ℕ)) (input : BufReader (EndsOnce R) A) (once : EndsOnce R) (reader : R)
+    → reader_inner input ≡ once → reader_buffer input ≡ [] → reader_capacity input ≡ 8192 → once ≡ record { reader = reader; has_ended = false }
+    → reader_remaining (λ r. option_map (λ (bytes : List ℕ). if r.has_ended then [] else bytes) (remaining r.reader)) input ≡ remaining reader
+once_remaining remaining input once reader inner empty capacity new =
+    new_remaining (λ r. option_map (λ (bytes : List ℕ). if r.has_ended then [] else bytes) (remaining r.reader)) input once inner empty capacity
+    ∙ ap (λ r. option_map (λ (bytes : List ℕ). if r.has_ended then [] else bytes) (remaining r.reader)) new ∙ not_ended (remaining reader)
+
+-- ---- what becomes of a refused line
+
+pub over_of : (manner : Manner) (l : List ℕ) → GoesOn manner → (manner ≡ Talks → IsHelp l → ⊥) → PassesOver manner l
+over_of Strict l on other = absurd on
+over_of KeepsGoing l on other = tt
+over_of Talks l on other = other refl
+
+pub unwritten : (why : LocalFault) (turn : Turn) (fault : LineFault) (old new : Scene) (before after : Held) → IsWriteFault why → EndsStrictly why turn fault old new before after
+unwritten (local.Write error) turn fault old new before after h = tt
+unwritten (local.Refused line why) turn fault old new before after h = absurd h
+unwritten local.NoMemory turn fault old new before after h = absurd h
+unwritten (local.Read error) turn fault old new before after h = absurd h
+
+pub on_ok : {V E P : Type 0} (result : Result V E) → P → OnOk result P
+on_ok (Ok v) p = p
+on_ok (Err e) p = tt

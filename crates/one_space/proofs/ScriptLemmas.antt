@@ -3,6 +3,7 @@ use Rattle.std.proofs.Common.{◌≡◌, inl, inr, ℕ, ◌+◌, ◌^◌, ◌<�
 use Rattle.std.proofs.lemmas.List.{map-append, length-append}
 use Rattle.std.specs.declared.alloc.Global.{Global}
 use Rattle.std.specs.Str.Lines.{lines}
+use Rattle.std.specs.Io.BufRead.{drop_through}
 use Rattle.tuple_codec.specs.Operations.{Operation}
 use Rattle.tuple_codec.specs.OperationView.{operation_of}
 use Rattle.tuple_codec.specs.declared.operations.Op.{Op}
@@ -10,13 +11,16 @@ use Rattle.tuple_text.specs.declared.faults.LineFault.{LineFault}
 use Rattle.tuple_text.specs.declared.faults.LineFault.TheVariants.{TooLong}
 use Rattle.one_space.specs.NextLines.{ReturnsLine, NextLineFails, BeginsWith}
 use Rattle.one_space.specs.Reading.{ReadSoFar}
-use Rattle.one_space.specs.Scripts.{AreFirstOperations, KeptSoFar, SaysSome, operations_of}
+use Rattle.one_space.specs.Complaints.{Says}
+use Rattle.one_space.specs.Scripts.{AreFirstOperations, EndsBy, EndsScript, KeepsOperation, KeptSoFar, SaysSome, TellsRefusal, lines_told, operations_of}
 use Rattle.one_space.specs.declared.input.NextLine.{NextLine}
 use Rattle.one_space.specs.declared.input.NextLine.TheVariants as next
 use Rattle.one_space.specs.declared.input.NoLine.{NoLine}
 use Rattle.one_space.specs.declared.input.NoLine.TheVariants as no
 use Rattle.one_space.specs.declared.pieces.ReadFault.{ReadFault}
+use Rattle.one_space.specs.declared.session.LocalFault.{LocalFault}
 use Rattle.one_space.specs.declared.session.Manner.TheVariants.{Strict}
+use Rattle.one_space.proofs.Giving.{Says-trans}
 use Rattle.one_space.proofs.SoFar.{unread, at_last, cut, late, refused, past_skipped, past_operation}
 
 pub starts : (most : ℕ) (known : Option (List ℕ)) (ops : Vec (Op Global) Global) → ops.items ≡ [] → IfSome known (λ bytes. KeptSoFar most bytes known 1 ops)
@@ -39,7 +43,7 @@ enough most n (Some bytes) left ops full kept = record {
 module _ (most : ℕ) (bytes : List ℕ) (known : Option (List ℕ)) (n : ℕ) (old : Vec (Op Global) Global) (before : KeptSoFar most bytes known n old)
     (left : Option (List ℕ)) (buffer : List ℕ) (result : Result (NextLine Global) NoLine)
     (read : IfSome known (λ xs. MatchResult result (λ x. ReturnsLine x xs left) (λ why. NextLineFails why xs left buffer))) where
-  rest : List ℕ
+  abbrev rest : List ℕ
   rest = before.so_far.rest
 
   told : MatchResult result (λ x. ReturnsLine x rest left) (λ why. NextLineFails why rest left buffer)
@@ -75,6 +79,12 @@ module _ (most : ℕ) (bytes : List ℕ) (known : Option (List ℕ)) (n : ℕ) (
         within = omega (arith, ap length longer, length-append old.items (op ∷ []), room);
       }
 
+  pub keeps_on : (new : Vec (Op Global) Global) (field : NextLine Global) (op : Op Global) (kept : Result Bool LocalFault) → n < 2 ^ 48 → result ≡ Ok field → field ≡ next.Operation op
+      → length old.items < most → KeepsOperation kept op old new
+      → MatchResult kept (λ more. MatchBool more (KeptSoFar most bytes left (n + 1) new) (AreFirstOperations most bytes new)) (λ fault. EndsBy fault bytes)
+  keeps_on new field op (Ok more) below e f room h = rw h.0 (calls_on new field op below e f room h.1)
+  keeps_on new field op (Err fault) below e f room h = rw h tt
+
   refused_by : (why : NoLine) (fault : LineFault) → n < 2 ^ 48 → NextLineFails why rest left buffer → (why ≡ no.Refused fault) → SaysSome bytes n fault
   refused_by why fault below f e =
       let g = subst (λ y. NextLineFails y rest left buffer) e f in
@@ -82,6 +92,11 @@ module _ (most : ℕ) (bytes : List ℕ) (known : Option (List ℕ)) (n : ℕ) (
 
   pub refuses_so : (field : NoLine) (fault : LineFault) → n < 2 ^ 48 → result ≡ Err field → field ≡ no.Refused fault → SaysSome bytes n fault
   refuses_so field fault below e f = refused_by (no.Refused fault) fault below (fails field (no.Refused fault) e f) refl
+
+  pub refused_early : (field : NoLine) (fault : LineFault) → n < 2 ^ 48 → result ≡ Err field → field ≡ no.RefusedEarly fault → SaysSome bytes n fault
+  refused_early field fault below e f =
+      let g = fails field (no.RefusedEarly fault) e f in
+      (operations_of old, refused Strict bytes known n (operations_of old) [] before.so_far fault g.0 (lines (drop_through 10 g.1.rest)) refl below g.2 g.3 g.1.split)
 
 -- The bytes left after the last possible line.
 module _ (most : ℕ) (bytes : List ℕ) (known : Option (List ℕ)) (n : ℕ) (old : Vec (Op Global) Global) (before : KeptSoFar most bytes known n old)
@@ -105,3 +120,15 @@ module _ (most : ℕ) (bytes : List ℕ) (known : Option (List ℕ)) (n : ℕ) (
 pub goes_on : (P Q R : List ℕ → Type 0) (start : Option (List ℕ)) (b : Bool) → b ≡ true → ((bytes : List ℕ) → P bytes → MatchBool b (Q bytes) (R bytes)) → IfSome start P → IfSome start Q
 goes_on P Q R None b e f h = tt
 goes_on P Q R (Some bytes) b e f h = subst (λ b. MatchBool b (Q bytes) (R bytes)) e (f bytes h)
+
+-- No line is left after the last possible one, or the script ends there.
+pub ends_at_last : (most n : ℕ) (start unread : Option (List ℕ)) (old new : Vec (Op Global) Global) (result : Result (Unit {0}) LocalFault) → n ≡ 2 ^ 48 → EndsScript result unread old new
+    → IfSome start (λ bytes. KeptSoFar most bytes unread n old)
+    → IfSome start (λ bytes. MatchResult result (λ _. AreFirstOperations most bytes new) (λ fault. EndsBy fault bytes))
+ends_at_last most n None unread old new result e ends_so kept = tt
+ends_at_last most n (Some bytes) unread old new result e ends_so kept = ends_so most bytes (subst (λ k. KeptSoFar most bytes unread k old) e kept)
+
+-- A console was told nothing, and then what it was told.
+pub tells_at_last : {V : Type 0} (result : Result V LocalFault) (old mid new : Option (List (List ℕ))) → Says old mid [] → TellsRefusal result mid new → TellsRefusal result old new
+tells_at_last (Ok v) old mid new h k = Says-trans old mid new [] [] h k
+tells_at_last (Err fault) old mid new h k = Says-trans old mid new [] (lines_told fault) h k

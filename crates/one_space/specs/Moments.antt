@@ -92,6 +92,13 @@ pub record Settles (old new : Scene) (before after : Held) (lines : List (List �
   pub told : Says old.said new.said lines
   pub count : after.refused ≡ min (before.refused + more) (2 ^ 64 - 1)
 
+-- What was held is written, and no line is told as refused.
+pub record Quiets (old new : Scene) (before after : Held) : Type 0 where
+  pub wrote : Appends old.written new.written before.results.items
+  pub none : after.results.items ≡ []
+  pub told : Says old.said new.said []
+  pub same : after.refused ≡ before.refused
+
 -- The line of this number is told as refused.
 abbrev pub TellsLine : ℕ → LineFault → Scene → Scene → Held → Held → Type 0
 TellsLine number fault old new before after =
@@ -116,7 +123,7 @@ RefusesSo result turn fault old new before after =
 -- The line is one that asks for help, or the run goes on after it.
 abbrev pub HelpsOrPasses : Turn → LineFault → List ℕ → Scene → Scene → Held → Held → Type 0
 HelpsOrPasses turn fault line old new before after =
-    ((turn.manner ≡ Talks) × IsHelp line × Settles old new before after [] 0)
+    ((turn.manner ≡ Talks) × IsHelp line × Quiets old new before after)
     ⊎ (PassesOver turn.manner line × TellsLine turn.number fault old new before after)
 
 -- What came of a refused line, which the buffer has.

@@ -1,5 +1,5 @@
 -- The operations of a script's lines, until a line is refused or there are enough of them.
-use Rattle.std.specs.Prelude.{◌≡◌, ◌⊎◌, ℕ, ◌+◌, ◌^◌, ◌<◌, ◌≤◌, Bool, MatchBool, List, [], ◌∷◌, length, map, Option, IfSome, Result, MatchResult, Vec}
+use Rattle.std.specs.Prelude.{◌≡◌, ◌⊎◌, ℕ, ◌+◌, ◌^◌, ◌<◌, ◌≤◌, Bool, true, MatchBool, List, [], ◌∷◌, ◌++◌, length, map, Option, IfSome, Result, MatchResult, Vec}
 use Rattle.std.specs.declared.alloc.Global.{Global}
 use Rattle.std.specs.Str.Lines.{lines}
 use Rattle.tuple_codec.specs.Operations.{Operation}
@@ -70,6 +70,11 @@ ReadsScriptLine most result n unread old rest new =
     → MatchResult result
     (λ more. MatchBool more (KeptSoFar most bytes rest (n + 1) new) (AreFirstOperations most bytes new))
     (λ fault. EndsBy fault bytes)
+
+-- The operation was kept behind the others, or memory ran out.
+abbrev pub KeepsOperation : Result Bool LocalFault → Op Global → Vec (Op Global) Global → Vec (Op Global) Global → Type 0
+KeepsOperation result op old new =
+    MatchResult result (λ more. (more ≡ true) × (new.items ≡ old.items ++ op ∷ [])) (λ fault. fault ≡ NoMemory)
 
 -- No line is left after the last possible one, or the fault says so.
 abbrev pub EndsScript : Result (Unit {0}) LocalFault → Option (List ℕ)

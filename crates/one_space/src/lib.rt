@@ -2,10 +2,14 @@
 //!
 //! # What is proved
 //!
-//! [`local`] holds over any reader and writer whose bytes are known. At `Ok` it wrote the result lines of the run
-//! over the lines read, which begins with the empty space of the requested version. At a refused line it wrote those
-//! of the lines before it, and the fault has its number and refusal. At out of memory or a reader's error it wrote
-//! those of some first lines.
+//! [`run_lines`] holds over any reader and writer whose bytes are known, and any console that says what it was told. A
+//! run begins with the empty space of the requested version. At `Ok` it wrote the result line of each line that isn't
+//! refused, by the space as the lines before left it. It told each refused line, in order, by its number and refusal.
+//! A strict run ends at the first refused line, and the fault has that line's number and refusal. Then, and at out of
+//! memory or a reader's error, it wrote and told what belongs to some first lines. [`local`] is a strict run.
+//!
+//! [`run_opened`] gives the status 0 exactly if a script was run to its end and no line was refused. What it tells the
+//! console at a fault is the complaint about that fault. Only `-` and `/dev/stdin` name the standard input.
 //!
 //! [`show`] writes the tuple that the digits spell, and refuses them exactly if they spell none. [`read_script`]
 //! gives the operations of all lines, or the first ones if there are more than requested. If a line is refused, it

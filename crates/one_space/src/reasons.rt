@@ -56,6 +56,9 @@ fn character_from(line: &[u8], place: usize) -> usize
     ensures within { result ≤ length line.now }
     ensures near { result ≤ place + 3 }
 {
-    let goes_on = line[place..].iter().take(3).take_while(|byte| **byte & 0xc0 == 0x80);
+    let goes_on = line[place..]
+        .iter()
+        .take(3)
+        .take_while(|byte| **byte & 0xc0 == 0x80);
     place + goes_on.count()
 }

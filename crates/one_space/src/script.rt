@@ -4,7 +4,7 @@ ghost use Rattle.std.specs.Prelude.{◌≡◌, ◌+◌, ◌^◌, ◌<◌, ◌≤
 ghost use Rattle.std.specs.Io.Buffered.{reader_remaining};
 ghost use Rattle.one_space.specs.Complaints.{Says, refusal_line};
 ghost use Rattle.one_space.specs.Run.{refusal};
-ghost use Rattle.one_space.specs.Scripts.{EndsScript, JudgesScript, ReadsScript, ReadsScriptLine, TellsRefusal};
+ghost use Rattle.one_space.specs.Scripts.{EndsScript, JudgesScript, KeepsOperation, ReadsScript, ReadsScriptLine, TellsRefusal};
 ghost use Rattle.one_space.specs.declared.session.LocalFault.TheVariants as LocalFault;
 
 use crate::complaints::Complaint;
@@ -95,15 +95,24 @@ impl Script {
         match next_line(alloc, reader, &mut self.line) {
             Ok(NextLine::End) => Ok(false),
             Ok(NextLine::Skipped) => Ok(true),
-            Ok(NextLine::Operation(op)) => match self.ops.push(op) {
-                Ok(()) => Ok(true),
-                Err(_) => Err(LocalFault::NoMemory),
-            },
-            Err(NoLine::Refused(fault) | NoLine::RefusedEarly(fault)) => {
+            Ok(NextLine::Operation(op)) => self.keep(op),
+            Err(NoLine::Refused(fault)) => {
+                Err(refused_line(number, fault, self.line.as_slice(), console))
+            }
+            Err(NoLine::RefusedEarly(fault)) => {
                 Err(refused_line(number, fault, self.line.as_slice(), console))
             }
             Err(NoLine::NoMemory) => Err(LocalFault::NoMemory),
             Err(NoLine::Read(error)) => Err(LocalFault::Read(error)),
+        }
+    }
+
+    fn keep(&mut self, op: Op<Global>) -> Result<bool, LocalFault>
+        ensures { KeepsOperation result op self.old.ops self.new.ops }
+    {
+        match self.ops.push(op) {
+            Ok(()) => Ok(true),
+            Err(_) => Err(LocalFault::NoMemory),
         }
     }
 

@@ -510,11 +510,7 @@ impl Held {
     }
 
     // The first line that is one too many ends the run, whatever its manner.
-    fn refuse_late<W: Write, C: Console>(
-        &mut self,
-        writer: &mut W,
-        console: &mut C,
-    ) -> LocalFault
+    fn refuse_late<W: Write, C: Console>(&mut self, writer: &mut W, console: &mut C) -> LocalFault
         ensures { EndsLate result
             (scene_of W.contents C.said writer.old console.old)
             (scene_of W.contents C.said writer.new console.new) self.old self.new }

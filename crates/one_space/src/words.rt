@@ -38,7 +38,10 @@ fn refuse_words<R: Env + Eprint>(rt: &R, error: &io::Error) -> u8 {
             Ok(len) => {
                 let (word, _) = buffer.split_at(len);
                 if std::str::from_utf8(word).is_err() {
-                    let _ = eprintln!(rt; "error: word {number} is not UTF-8: {}", ShownBytes(word));
+                    let _ = eprintln!(rt;
+                        "error: word {number} is not UTF-8: {}",
+                        ShownBytes(word)
+                    );
                     return 2;
                 }
             }

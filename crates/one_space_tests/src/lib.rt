@@ -4,8 +4,12 @@
 #[cfg(test)]
 mod endings;
 #[cfg(test)]
+mod manners;
+#[cfg(test)]
 mod rows;
 #[cfg(test)]
 mod scripts;
+#[cfg(test)]
+mod shown;
 #[cfg(test)]
 mod turns;

@@ -201,7 +201,7 @@ fn runs_wide_rows(rt: HostRuntime) {
 }
 
 // So many times the same between two ends.
-fn repeated(
+pub fn repeated(
     alloc: Global,
     front: &str,
     part: &str,

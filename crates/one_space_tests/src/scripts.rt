@@ -228,7 +228,10 @@ fn says_others(alloc: Global) -> Result<bool, AllocError> {
 }
 
 static LINES: [(LineFault, &str); 4] = [
-    (LineFault::BadByte { offset: 5 }, "line 1: refused 6 at byte 5"),
+    (
+        LineFault::BadByte { offset: 5 },
+        "line 1: refused 6 at byte 5",
+    ),
     (LineFault::TooManyFields, "line 1: refused 1"),
     (LineFault::TooDeep, "line 1: refused 2"),
     (LineFault::TooLong, "line 1: refused 3"),

@@ -1,16 +1,8 @@
-use Rattle.std.proofs.Common.{rules, ◌≡◌, ◌++◌, ◌+◌, ◌^◌, ◌<◌, ◌≤◌, ◌*◌, ◌↔◌, ℕ, List, [], ◌∷◌, Option, Some, IsTrue, OnOk, OnErr, IfErr, IfSome, ◌-◌, length, ◌/◌, ◌%◌, Bool, true, false, nat_eq, nat_lt, slice_index_or, slice_set, bit_and, bit_or, Fits, w8, w32, w64, Bor, MutBor}
-use Rattle.std.specs.Io.Buffered.{reader_buffer, reader_remaining}
-use Rattle.memchr.specs.Find.{IsFirstByte, is_byte}
-use Rattle.tuple_codec.specs.OperationView.{operation_of}
-use Rattle.tuple_codec.specs.Operations.{found, absent}
-use Rattle.tuple_text.specs.Written.{WritesText}
-use Rattle.space.specs.Births.{StateFollows, TuplesFollow, empty_in}
-use Rattle.one_space.specs.Endings.{EndsKnown, EndsStrict, HeldForLine, IsWriteFault, scene_of}
-use Rattle.one_space.specs.Moments.{AddsResult, EndsAll, EndsLate, EndsLines, EndsSome, Passes, PassesEarly, RefusesSo, RunsLine, TellsLine, WritesAll, WritesDue, left_of}
-use Rattle.one_space.specs.NextLines.{IsNextLine}
-use Rattle.one_space.specs.Run.{IsHelp, result_line}
+use Rattle.space.specs.Applying.{nothing_in}
+use Rattle.space.specs.Births.{tuples_of}
+use Rattle.one_space.proofs.RunLemmas.{each_known, strict_ends}
 use Rattle.one_space.proofs.session.local.Goals as goal
 
--- src/session.rt:142:1
 pub returns-in-Ok : goal.returns-in-Ok
-returns-in-Ok g c = ?
+returns-in-Ok g c =
+    each_known _ _ _ (λ bytes runs. strict_ends (nothing_in c.args.version) bytes _ _ (tuples_of c.in-Ok.ended.space) c.in-Ok.ended.refused runs) (c.in-Ok.ensures {u = tt})

@@ -1,16 +1,13 @@
-use Rattle.std.proofs.Common.{rules, ◌≡◌, ◌++◌, ◌+◌, ◌^◌, ◌<◌, ◌≤◌, ◌*◌, ◌↔◌, ℕ, List, [], ◌∷◌, Option, Some, IsTrue, OnOk, OnErr, IfErr, IfSome, ◌-◌, length, ◌/◌, ◌%◌, Bool, true, false, nat_eq, nat_lt, slice_index_or, slice_set, bit_and, bit_or, Fits, w8, w32, w64, Bor, MutBor}
-use Rattle.std.specs.Io.Buffered.{reader_buffer, reader_remaining}
-use Rattle.memchr.specs.Find.{IsFirstByte, is_byte}
-use Rattle.tuple_codec.specs.OperationView.{operation_of}
-use Rattle.tuple_codec.specs.Operations.{found, absent}
-use Rattle.tuple_text.specs.Written.{WritesText}
-use Rattle.space.specs.Births.{StateFollows, TuplesFollow, empty_in}
-use Rattle.one_space.specs.Endings.{EndsKnown, EndsStrict, HeldForLine, IsWriteFault, scene_of}
-use Rattle.one_space.specs.Moments.{AddsResult, EndsAll, EndsLate, EndsLines, EndsSome, Passes, PassesEarly, RefusesSo, RunsLine, TellsLine, WritesAll, WritesDue, left_of}
-use Rattle.one_space.specs.NextLines.{IsNextLine}
-use Rattle.one_space.specs.Run.{IsHelp, result_line}
+use Rattle.std.proofs.Common.{◌==◌, arith, eqb-true, eq-eqb}
+use Rattle.std.specs.Io.Buffered.{reader_buffer, reader_capacity}
+use Rattle.one_space.proofs.PieceLemmas.{at_hand}
+use Rattle.one_space.proofs.NextLemmas.{next_at}
 use Rattle.one_space.proofs.session.Session.answer_at_hand.Goals as goal
 
--- src/session.rt:341:5
 pub returns-clause-along : goal.returns-clause-along
-returns-clause-along g c = ?
+returns-clause-along g c =
+    let buffer = reader_buffer c.args.reader.now in
+    let first = c.requires.place in
+    c.answer_whole-answered.ensures.along _ _ (rw c.without_return.ensures (next_at _ _ 65538 c.split_at.result.0.now
+    (rw (c.split_at.ensures.front, c.buffer.ensures) (at_hand (reader_capacity c.args.reader.now == 0) buffer _ _ 65538 c.args.place first.0.high
+    (λ k below e. first.0.before k (omega arith) below (eq-eqb _ 10 e)) (eqb-true _ 10 first.1) c.consume.ensures.bytes))))

@@ -21,4 +21,4 @@ pub returns-in-Err-clause-along : goal.returns-in-Err-clause-along
 returns-in-Err-clause-along g c first bytes start here =
     comes_of _ first bytes start _ _ _ _ _ c.args.self.now.space c.args.self.now.held _ c.requires.early here _ c.in-Err.no c.pass_read.result
     (fails_line _ first bytes start _ _ _ _ c.args.self.now.space c.args.self.now.held here _ c.next_line.result c.next_line.ensures c.in-Err.no c.in-Err.no c.in-Err.is refl)
-    c.pass_read.ensures
+    (rw c.as_slice-line.ensures.value at c.pass_read.ensures)

@@ -1,32 +1,30 @@
-use Rattle.std.proofs.Common.{rules, ◌≡◌, ◌++◌, ◌+◌, ◌^◌, ◌<◌, ◌≤◌, ◌*◌, ◌↔◌, ℕ, List, [], ◌∷◌, Option, Some, IsTrue, OnOk, OnErr, IfErr, IfSome, ◌-◌, length, ◌/◌, ◌%◌, Bool, true, false, nat_eq, nat_lt, slice_index_or, slice_set, bit_and, bit_or, Fits, w8, w32, w64, Bor, MutBor}
-use Rattle.std.specs.Io.Buffered.{reader_buffer, reader_remaining}
-use Rattle.memchr.specs.Find.{IsFirstByte, is_byte}
+use Rattle.std.proofs.Common.{rules, Ok, Err, arith, refl, ap, subst, ◌∙◌}
 use Rattle.tuple_codec.specs.OperationView.{operation_of}
-use Rattle.tuple_codec.specs.Operations.{found, absent}
-use Rattle.tuple_text.specs.Written.{WritesText}
-use Rattle.space.specs.Births.{StateFollows, TuplesFollow, empty_in}
-use Rattle.one_space.specs.Endings.{EndsKnown, EndsStrict, HeldForLine, IsWriteFault, scene_of}
-use Rattle.one_space.specs.Moments.{AddsResult, EndsAll, EndsLate, EndsLines, EndsSome, Passes, PassesEarly, RefusesSo, RunsLine, TellsLine, WritesAll, WritesDue, left_of}
-use Rattle.one_space.specs.NextLines.{IsNextLine}
-use Rattle.one_space.specs.Run.{IsHelp, result_line}
+use Rattle.tuple_text.specs.Judged.{JudgesLine}
+use Rattle.one_space.specs.Moments.{left_of}
+use Rattle.one_space.proofs.RunLemmas.{breaks_here, on_ok, passes_line, runs_line, skips_line}
 use Rattle.one_space.proofs.session.Session.answer_whole.Goals as goal
 
--- src/session.rt:383:5
-pub returns-in-Ok-clause-births : goal.returns-in-Ok-clause-births
-returns-in-Ok-clause-births g c = ?
-
--- src/session.rt:383:5
-pub returns-in-Ok-clause-along : goal.returns-in-Ok-clause-along
-returns-in-Ok-clause-along g c = ?
-
--- src/session.rt:383:5
 pub returns-in-Ok-Some-clause-along : goal.returns-in-Ok-Some-clause-along
-returns-in-Ok-Some-clause-along g c = ?
+returns-in-Ok-Some-clause-along g c unread rest there first bytes start here =
+    runs_line c.args.turn first bytes start unread rest _ c.args.self.now.space c.args.self.now.held c.requires.early here c.args.line.now there (operation_of c.in-Ok-Some.op)
+    c.run_op.new.self.space c.run_op.new.self.held c.run_op.result
+    (subst (λ r. JudgesLine c.args.line.now r) (c.in-Ok-Some.is ∙ ap (λ f. Ok f) c.in-Ok-Some.field-0-is) c.read_line.ensures.answer)
+    (rw c.in-Ok-Some.field-0-is at c.run_op.ensures.runs)
 
--- src/session.rt:383:5
 pub returns-in-Ok-None-clause-along : goal.returns-in-Ok-None-clause-along
-returns-in-Ok-None-clause-along g c = ?
+returns-in-Ok-None-clause-along g c unread rest there first bytes start here =
+    skips_line c.args.turn first bytes start unread rest _ c.args.self.now.space c.args.self.now.held c.requires.early here c.args.line.now there
+    (subst (λ r. JudgesLine c.args.line.now r) (c.in-Ok-None.is ∙ ap (λ f. Ok f) c.in-Ok-None.field-0-is) c.read_line.ensures.answer)
 
--- src/session.rt:367:5
-pub returns-clause-along : goal.returns-clause-along
-returns-clause-along g c = ?
+pub returns-in-Err-NoMemory-clause-along : goal.returns-in-Err-NoMemory-clause-along
+returns-in-Err-NoMemory-clause-along g c unread rest there first bytes start here =
+    breaks_here c.args.turn.manner first bytes start c.args.turn.number unread _ (left_of c.args.self.now) here _ refl
+
+pub returns-in-Err : goal.returns-in-Err
+returns-in-Err g c = record {
+  births = on_ok c.pass.result (omega arith);
+  along = λ unread rest there first bytes start here.
+      passes_line c.args.turn first bytes start unread rest _ c.args.self.now.space c.args.self.now.held c.requires.early here c.args.line.now there c.in-Err.fault _ _ c.pass.result
+      (search rules) (subst (λ r. JudgesLine c.args.line.now r) c.in-Err.is c.read_line.ensures.answer) c.pass.ensures;
+}

@@ -1,24 +1,19 @@
-use Rattle.std.proofs.Common.{rules, ◌≡◌, ◌++◌, ◌+◌, ◌^◌, ◌<◌, ◌≤◌, ◌*◌, ◌↔◌, ℕ, List, [], ◌∷◌, Option, Some, IsTrue, OnOk, OnErr, IfErr, IfSome, ◌-◌, length, ◌/◌, ◌%◌, Bool, true, false, nat_eq, nat_lt, slice_index_or, slice_set, bit_and, bit_or, Fits, w8, w32, w64, Bor, MutBor}
-use Rattle.std.specs.Io.Buffered.{reader_buffer, reader_remaining}
-use Rattle.memchr.specs.Find.{IsFirstByte, is_byte}
-use Rattle.tuple_codec.specs.OperationView.{operation_of}
-use Rattle.tuple_codec.specs.Operations.{found, absent}
-use Rattle.tuple_text.specs.Written.{WritesText}
-use Rattle.space.specs.Births.{StateFollows, TuplesFollow, empty_in}
-use Rattle.one_space.specs.Endings.{EndsKnown, EndsStrict, HeldForLine, IsWriteFault, scene_of}
-use Rattle.one_space.specs.Moments.{AddsResult, EndsAll, EndsLate, EndsLines, EndsSome, Passes, PassesEarly, RefusesSo, RunsLine, TellsLine, WritesAll, WritesDue, left_of}
-use Rattle.one_space.specs.NextLines.{IsNextLine}
-use Rattle.one_space.specs.Run.{IsHelp, result_line}
+use Rattle.std.proofs.Common.{refl}
+use Rattle.one_space.proofs.RunLemmas.{late_so, moved, none_left, not_read, one_too_many}
 use Rattle.one_space.proofs.session.Session.end_lines.Goals as goal
 
--- src/session.rt:395:5
 pub returns-in-Ok-true : goal.returns-in-Ok-true
-returns-in-Ok-true g c = ?
+returns-in-Ok-true g c first bytes start here =
+    let gone = moved _ first bytes start _ _ _ _ _ _ refl refl refl (c.in_default.ensures {u = tt}).results here in
+    late_so _ first bytes start _ _ _ _ c.args.self.now.space _ _ gone c.refuse_late.result refl
+    (one_too_many _ first bytes start _ _ _ _ gone c.has_line.result c.has_line.ensures c.in-Ok-true.field-0 c.in-Ok-true.is c.in-Ok-true.field-0-test) c.refuse_late.ensures
 
--- src/session.rt:395:5
 pub returns-in-Ok-false : goal.returns-in-Ok-false
-returns-in-Ok-false g c = ?
+returns-in-Ok-false g c first bytes start here =
+    let gone = moved _ first bytes start _ _ _ _ _ _ refl refl refl (c.in_default.ensures {u = tt}).results here in
+    none_left _ first bytes start _ _ _ _ gone c.has_line.result c.has_line.ensures c.in-Ok-false.field-0 c.in-Ok-false.is c.in-Ok-false.field-0-test
 
--- src/session.rt:395:5
 pub returns-in-Err-has_line : goal.returns-in-Err-has_line
-returns-in-Err-has_line g c = ?
+returns-in-Err-has_line g c first bytes start here =
+    let gone = moved _ first bytes start _ _ _ _ _ _ refl refl refl (c.in_default.ensures {u = tt}).results here in
+    rw c.from.ensures (not_read _ first bytes start _ _ _ _ gone c.has_line.result c.has_line.ensures c.in-Err-has_line.fault)

@@ -1,24 +1,22 @@
-use Rattle.std.proofs.Common.{rules, ◌≡◌, ◌++◌, ◌+◌, ◌^◌, ◌<◌, ◌≤◌, ◌*◌, ◌↔◌, ℕ, List, [], ◌∷◌, Option, Some, IsTrue, OnOk, OnErr, IfErr, IfSome, ◌-◌, length, ◌/◌, ◌%◌, Bool, true, false, nat_eq, nat_lt, slice_index_or, slice_set, bit_and, bit_or, Fits, w8, w32, w64, Bor, MutBor}
-use Rattle.std.specs.Io.Buffered.{reader_buffer, reader_remaining}
-use Rattle.memchr.specs.Find.{IsFirstByte, is_byte}
-use Rattle.tuple_codec.specs.OperationView.{operation_of}
-use Rattle.tuple_codec.specs.Operations.{found, absent}
-use Rattle.tuple_text.specs.Written.{WritesText}
-use Rattle.space.specs.Births.{StateFollows, TuplesFollow, empty_in}
-use Rattle.one_space.specs.Endings.{EndsKnown, EndsStrict, HeldForLine, IsWriteFault, scene_of}
-use Rattle.one_space.specs.Moments.{AddsResult, EndsAll, EndsLate, EndsLines, EndsSome, Passes, PassesEarly, RefusesSo, RunsLine, TellsLine, WritesAll, WritesDue, left_of}
-use Rattle.one_space.specs.NextLines.{IsNextLine}
-use Rattle.one_space.specs.Run.{IsHelp, result_line}
+use Rattle.std.proofs.Common.{refl}
+use Rattle.space.specs.Births.{tuples_of}
+use Rattle.one_space.specs.Moments.{left_of}
+use Rattle.one_space.proofs.RunLemmas.{all_ended, all_stopped, not_begun, of_known, once_remaining}
 use Rattle.one_space.proofs.session.Session.run.Goals as goal
 
--- src/session.rt:211:23
 pub returns-in-Err : goal.returns-in-Err
-returns-in-Err g c = ?
+returns-in-Err g c = not_begun c.args.manner (g.R.Read.remaining c.args.reader) _ (left_of c.args.self.now) c.requires.no_results c.requires.no_refusals
 
--- src/session.rt:208:5
 pub returns-in-Ok-run_lines : goal.returns-in-Ok-run_lines
-returns-in-Ok-run_lines g c = ?
+returns-in-Ok-run_lines g c =
+    let made = c.in-Ok.ensures {u = tt} in
+    let known = once_remaining g.R.Read.remaining c.in-Ok.input c.new.result c.args.reader made.inner made.empty made.capacity c.new.ensures in
+    all_ended c.args.manner (tuples_of c.args.self.now.space) (g.R.Read.remaining c.args.reader) _ _ _ (left_of c.run_lines.new.self) c.write_out.result refl
+    c.write_out.ensures.written c.write_out.ensures.err (of_known _ _ _ known (c.in-Ok-run_lines.ensures {u = tt}))
 
--- src/session.rt:208:5
 pub returns-in-Ok-write_out : goal.returns-in-Ok-write_out
-returns-in-Ok-write_out g c = ?
+returns-in-Ok-write_out g c =
+    let made = c.in-Ok.ensures {u = tt} in
+    let known = once_remaining g.R.Read.remaining c.in-Ok.input c.new.result c.args.reader made.inner made.empty made.capacity c.new.ensures in
+    all_stopped c.args.manner (tuples_of c.args.self.now.space) (g.R.Read.remaining c.args.reader) _ _ _ _ c.in-Err-run_lines.fault refl
+    (c.in-Ok-write_out.ensures {u = tt}).written (of_known _ _ _ known (c.in-Err-run_lines.ensures {u = tt}))

@@ -1,16 +1,7 @@
-use Rattle.std.proofs.Common.{rules, ◌≡◌, ◌++◌, ◌+◌, ◌^◌, ◌<◌, ◌≤◌, ◌*◌, ◌↔◌, ℕ, List, [], ◌∷◌, Option, Some, IsTrue, OnOk, OnErr, IfErr, IfSome, ◌-◌, length, ◌/◌, ◌%◌, Bool, true, false, nat_eq, nat_lt, slice_index_or, slice_set, bit_and, bit_or, Fits, w8, w32, w64, Bor, MutBor}
-use Rattle.std.specs.Io.Buffered.{reader_buffer, reader_remaining}
-use Rattle.memchr.specs.Find.{IsFirstByte, is_byte}
-use Rattle.tuple_codec.specs.OperationView.{operation_of}
-use Rattle.tuple_codec.specs.Operations.{found, absent}
-use Rattle.tuple_text.specs.Written.{WritesText}
-use Rattle.space.specs.Births.{StateFollows, TuplesFollow, empty_in}
-use Rattle.one_space.specs.Endings.{EndsKnown, EndsStrict, HeldForLine, IsWriteFault, scene_of}
-use Rattle.one_space.specs.Moments.{AddsResult, EndsAll, EndsLate, EndsLines, EndsSome, Passes, PassesEarly, RefusesSo, RunsLine, TellsLine, WritesAll, WritesDue, left_of}
-use Rattle.one_space.specs.NextLines.{IsNextLine}
-use Rattle.one_space.specs.Run.{IsHelp, result_line}
+use Rattle.std.proofs.Common.{refl}
+use Rattle.one_space.proofs.RunLemmas.{moved}
 use Rattle.one_space.proofs.session.Session.run_line.Goals as goal
 
--- src/session.rt:252:5
 pub returns-clause-along : goal.returns-clause-along
-returns-clause-along g c = ?
+returns-clause-along g c first bytes start here =
+    c.answer_line-answered.ensures.along first bytes start (moved _ first bytes start _ _ _ _ _ _ refl refl refl (c.in_default.ensures {u = tt}).results here)

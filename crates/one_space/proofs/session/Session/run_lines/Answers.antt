@@ -1,16 +1,14 @@
-use Rattle.std.proofs.Common.{rules, ◌≡◌, ◌++◌, ◌+◌, ◌^◌, ◌<◌, ◌≤◌, ◌*◌, ◌↔◌, ℕ, List, [], ◌∷◌, Option, Some, IsTrue, OnOk, OnErr, IfErr, IfSome, ◌-◌, length, ◌/◌, ◌%◌, Bool, true, false, nat_eq, nat_lt, slice_index_or, slice_set, bit_and, bit_or, Fits, w8, w32, w64, Bor, MutBor}
-use Rattle.std.specs.Io.Buffered.{reader_buffer, reader_remaining}
-use Rattle.memchr.specs.Find.{IsFirstByte, is_byte}
-use Rattle.tuple_codec.specs.OperationView.{operation_of}
-use Rattle.tuple_codec.specs.Operations.{found, absent}
-use Rattle.tuple_text.specs.Written.{WritesText}
-use Rattle.space.specs.Births.{StateFollows, TuplesFollow, empty_in}
-use Rattle.one_space.specs.Endings.{EndsKnown, EndsStrict, HeldForLine, IsWriteFault, scene_of}
-use Rattle.one_space.specs.Moments.{AddsResult, EndsAll, EndsLate, EndsLines, EndsSome, Passes, PassesEarly, RefusesSo, RunsLine, TellsLine, WritesAll, WritesDue, left_of}
-use Rattle.one_space.specs.NextLines.{IsNextLine}
-use Rattle.one_space.specs.Run.{IsHelp, result_line}
+use Rattle.std.proofs.Common.{arith, ◌^◌}
+use Rattle.std.specs.Io.Buffered.{reader_remaining}
+use Rattle.one_space.specs.Moments.{left_of}
+use Rattle.one_space.proofs.RunLemmas.{at_number, begins_known, each_known}
 use Rattle.one_space.proofs.session.Session.run_lines.Goals as goal
 
--- src/session.rt:240:9
 pub loop-number-init : goal.loop-number-init
-loop-number-init g c = ?
+loop-number-init g c = record {
+  births = omega (arith, c.requires.no_births);
+  along = begins_known c.args.manner (reader_remaining g.R.Read.remaining c.args.reader.now) _ (left_of c.args.self.now) c.requires.no_results c.requires.no_refusals;
+}
+
+pub returns : goal.returns
+returns g c = each_known _ _ _ (λ bytes here. c.end_lines.ensures _ bytes _ here) (at_number _ _ _ _ c.loop-number.number (2 ^ 48) _ _ _ (omega arith) c.loop-number.invariant.along)
