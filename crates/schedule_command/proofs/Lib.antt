@@ -1,5 +1,3 @@
 pub mod Reasons
-pub mod Trimmed
-pub mod Behind
-pub mod Pieces
-pub mod Reading
+pub mod Telling
+pub mod Written

@@ -16,7 +16,7 @@ use Rattle.schedule_text.specs.StepView.{step_of}
 use Rattle.schedule_world.specs.Reports.{ReportIsRight}
 use Rattle.schedule_world.specs.declared.report.Report.{Report}
 use Rattle.schedule_command.specs.Allowed.{IsReason}
-use Rattle.schedule_command.specs.Lines.{Ending, complete, refused_at, LinesSay}
+use Rattle.schedule_lines.specs.Lines.{Ending, complete, refused_at, LinesSay}
 use Rattle.schedule_command.specs.Texts.{report_text, numbered_lines}
 use Rattle.schedule_command.specs.declared.fault.ScheduleFault.{ScheduleFault}
 use Rattle.schedule_command.specs.declared.fault.ScheduleFault.TheVariants as faults

@@ -5,8 +5,17 @@ use Rattle.one_space.specs.declared.complaints.Complaint.{Complaint}
 use Rattle.one_space.specs.declared.complaints.Complaint.TheVariants as complaint
 use Rattle.one_space.specs.declared.pieces.ReadFault.{ReadFault}
 use Rattle.one_space.specs.declared.pieces.ReadFault.TheVariants as read
+use Rattle.schedule_lines.specs.declared.reading.LineRefusal.{LineRefusal}
+use Rattle.schedule_lines.specs.declared.reading.LineRefusal.TheVariants as lines
 use Rattle.schedule_command.specs.declared.fault.ScheduleFault.{ScheduleFault}
 use Rattle.schedule_command.specs.declared.fault.ScheduleFault.TheVariants.{Configuration, Step, NoEntry, TooHigh, TooWide, NoMemory, Read, Write}
+use Rattle.schedule_command.specs.declared.fault.StepReason.{StepReason}
+use Rattle.schedule_command.specs.declared.fault.StepReason.TheVariants as reasons
+
+-- why a line is refused that is none of a step
+abbrev pub reason_of : LineRefusal → StepReason
+reason_of (lines.NoStep byte reason) = reasons.NoStep byte reason
+reason_of lines.LastLine = reasons.LastLine
 
 -- the fault of a reader
 abbrev pub fault_of_reader : ReadFault → ScheduleFault

@@ -1,9 +1,7 @@
 pub mod Allowed
 pub mod Commands
 pub mod Faults
-pub mod Lines
 pub mod Misfits
-pub mod Reading
 pub mod Settings
 pub mod Texts
 pub mod Writing

@@ -13,12 +13,13 @@ use Rattle.schedule_world.specs.Reports.{ReportIsRight, StopsHere}
 use Rattle.schedule_world.specs.Stages.{acceptance_of}
 use Rattle.schedule_world.specs.declared.report.Report.{Report}
 use Rattle.schedule_command.specs.Commands.{GivesReason}
+use Rattle.schedule_command.specs.Faults.{reason_of}
 use Rattle.schedule_command.specs.Texts.{numbered_lines, report_lines}
 use Rattle.schedule_command.specs.declared.fault.ScheduleFault.{ScheduleFault}
 use Rattle.schedule_command.specs.declared.fault.ScheduleFault.TheVariants as faults
 use Rattle.schedule_command.specs.declared.fault.StepReason.{StepReason}
-use Rattle.schedule_command.specs.declared.reading.RefusedLine.{RefusedLine}
-use Rattle.schedule_command.specs.declared.reading.Schedule.{Schedule}
+use Rattle.schedule_lines.specs.declared.reading.RefusedLine.{RefusedLine}
+use Rattle.schedule_lines.specs.declared.reading.Schedule.{Schedule}
 
 -- ---- runs
 
@@ -48,7 +49,7 @@ abbrev pub EndsRun : Schedule → Report → Result Report ScheduleFault → Typ
 EndsRun s report result =
     MatchResult result (λ given. (s.refused ≡ None) × (given ≡ report))
     (λ fault. (refused : RefusedLine) × (s.refused ≡ Some refused)
-    × (fault ≡ faults.Step refused.number refused.reason))
+    × (fault ≡ faults.Step refused.number (reason_of refused.reason)))
 
 abbrev pub RunsAll : Configuration → Schedule → Result Report ScheduleFault → Type 0
 RunsAll c s result =

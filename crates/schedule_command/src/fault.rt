@@ -1,12 +1,13 @@
 //! Why no report was printed.
 
 ghost use Rattle.std.specs.Prelude.{◌≡◌};
-ghost use Rattle.schedule_command.specs.Faults.{HasComplaint, IsPictureFault, IsReadFault, status_of};
+ghost use Rattle.schedule_command.specs.Faults.{HasComplaint, IsPictureFault, IsReadFault, reason_of, status_of};
 
 use crate::allowed::NotAllowed;
 use config_text::ConfigFault;
 use one_space::{Complaint, ReadFault, StandardError, complain};
 use picture::PictureFault;
+use schedule_lines::LineRefusal;
 use schedule_text::Reason;
 use std::io;
 use terms::NoMemory;
@@ -49,6 +50,18 @@ pub enum StepReason {
     /// Its step may not come there.
     #[error("{0}")]
     NotAllowed(NotAllowed),
+}
+
+impl StepReason {
+    /// The reason of a line that is none of a step.
+    pub(crate) fn of_line(refusal: LineRefusal) -> StepReason
+        ensures { result ≡ reason_of refusal }
+    {
+        match refusal {
+            LineRefusal::NoStep { byte, reason } => StepReason::NoStep { byte, reason },
+            LineRefusal::LastLine => StepReason::LastLine,
+        }
+    }
 }
 
 impl ScheduleFault {

@@ -1,14 +1,19 @@
 //! The command `schedule`: the steps of a schedule in a world of its own, and the report of the run, its trace or its
 //! picture. Both commands that take a configuration read it here.
 //!
-//! Nothing is proved of the written files. The world, the lines of the trace and the picture have contracts of their
-//! own (`schedule_world`, `trace_text`, `picture`); how they are put together is tested (`command_tests`).
+//! # What is proved
+//!
+//! [`schedule`] holds over any reader and writer whose bytes are known. At `Ok` all lines said steps, which led to a
+//! trace, and its text was written (`WritesRun`). At a refused line nothing was written, and the line is none of a
+//! step, or has one that isn't allowed: in the world to which the steps before it led, the reason holds that is given
+//! (`TellsFault`). [`read_settings`] gives the settings that the text says, and a refused text says none. The
+//! complaints and statuses follow from the faults ([`end_schedule`]).
+//!
+//! Out of memory may come at any time. How a picture is drawn is proved in part (`picture`).
 #![tactic(auto)]
 
 mod allowed;
 mod fault;
-mod lines;
-mod reading;
 mod running;
 mod settings;
 mod writing;

@@ -9,11 +9,11 @@ ghost use Rattle.schedule_command.specs.Writing.{EndsRun, RunsAll, StopsRun, Wri
 
 use crate::allowed::why;
 use crate::fault::{ScheduleFault, StepReason};
-use crate::reading::Schedule;
 use crate::writing::{put_report, write_out, write_trace};
 use command_line::{Positions, Printed};
 use events::{Config, Entry, EntryKind};
 use picture::{Run, write_picture};
+use schedule_lines::Schedule;
 use schedule_text::Step;
 use schedule_world::{Report, RunFault, run};
 use std::alloc::Global;
@@ -79,7 +79,7 @@ fn end_run(report: Report, schedule: &Schedule) -> Result<Report, ScheduleFault>
             forget(report);
             Err(ScheduleFault::Step {
                 line: refused.number,
-                reason: refused.reason,
+                reason: StepReason::of_line(refused.reason),
             })
         }
     }

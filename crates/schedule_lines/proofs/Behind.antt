@@ -1,25 +1,25 @@
 -- Lines that begin with blanks, of which all but one were let go.
-use Rattle.std.proofs.Common.{◌≡◌, inl, inr, ℕ, zero, suc, ◌+◌, ◌-◌, ◌<◌, ◌≤◌, ◌==◌, Bool, true, false, cond, List, [], ◌∷◌, ◌++◌, Option, None, Some, IfSome, Result, Ok, Err, length, take, get_or, refl, sym, ap, subst, ◌∙◌, arith, append_assoc, length-append}
+use Rattle.std.proofs.Common.{◌≡◌, inl, inr, ℕ, ◌+◌, ◌-◌, ◌<◌, ◌==◌, Bool, true, false, cond, List, [], ◌∷◌, ◌++◌, Option, None, Some, IfSome, Result, Ok, Err, length, take, get_or, refl, sym, ap, subst, ◌∙◌, arith, append_assoc, length-append}
 use Rattle.std.proofs.lemmas.List.Elements.{All-nil, All-append}
 use Rattle.std.proofs.lemmas.List.{get_or-append-add}
 use Rattle.std.proofs.Math.Seq.{take-append-add}
 use Rattle.std.specs.Str.Lines.{lines, strip_carriage_return}
 use Rattle.tuple_text.specs.Texts.{AreBlanks}
-use Rattle.tuple_text.specs.Lines.{IsSkipped, IsComment}
+use Rattle.tuple_text.specs.Lines.{IsSkipped}
 use Rattle.one_space.specs.Pieces.{NoLineFeed, TakesPiece}
-use Rattle.one_space.specs.NextLines.{IsNextLine, BeginsWith}
+use Rattle.one_space.specs.NextLines.{IsNextLine}
 use Rattle.one_space.specs.declared.pieces.PieceEnd.TheVariants.{Full}
 use Rattle.one_space.proofs.LineLemmas.{lines-at, lines-last, line_rest, LineRest, NoLineFeed-cons}
 use Rattle.schedule_text.specs.Words.{trimmed}
 use Rattle.schedule_text.specs.Judged.{IsNone}
 use Rattle.schedule_text.specs.Steps.{IsStepLine}
 use Rattle.schedule_text.specs.StepView.{step_of}
-use Rattle.schedule_command.specs.Reading.{ReadsLine, ReadsOn, ReturnsLine, NextLineFails}
-use Rattle.schedule_command.specs.declared.lines.NextLine.{NextLine}
-use Rattle.schedule_command.specs.declared.lines.NextLine.TheVariants as next
-use Rattle.schedule_command.specs.declared.lines.NoLine.{NoLine}
-use Rattle.schedule_command.specs.declared.lines.NoLine.TheVariants as no
-use Rattle.schedule_command.proofs.Trimmed.{trimmed_behind, not_comment, skipped_as, step_as, none_as}
+use Rattle.schedule_lines.specs.Reading.{ReadsLine, ReadsOn, ReturnsLine, NextLineFails}
+use Rattle.schedule_lines.specs.declared.lines.NextLine.{NextLine}
+use Rattle.schedule_lines.specs.declared.lines.NextLine.TheVariants as next
+use Rattle.schedule_lines.specs.declared.lines.NoLine.{NoLine}
+use Rattle.schedule_lines.specs.declared.lines.NoLine.TheVariants as no
+use Rattle.schedule_lines.proofs.Trimmed.{trimmed_behind, not_comment, skipped_as, step_as, none_as}
 
 -- ---- blanks
 
@@ -107,13 +107,13 @@ no_lines x xs ls e f = cc
 
 -- what is read of a line that begins with a blank is so with more blanks in front
 module _ (p zs : List ℕ) (left : Option (List ℕ)) (blank : AreBlanks p) where
-  first : BlankLine zs
+  abbrev first : BlankLine zs
   first = blank_line zs
 
-  short : List ℕ
+  abbrev short : List ℕ
   short = 32 ∷ first.more
 
-  long : List ℕ
+  abbrev long : List ℕ
   long = p ++ 32 ∷ first.more
 
   same : trimmed long ≡ trimmed short

@@ -2,40 +2,54 @@
 
 ghost use Rattle.std.specs.Prelude.{◌≡◌, vec_len};
 
-use crate::fault::StepReason;
 use crate::lines::{NextLine, NoLine, next_line};
 use one_space::ReadFault;
-use schedule_text::Step;
+use schedule_text::{Reason, Step};
 use std::alloc::Global;
 use std::io::{BufReader, Read};
 use terms::NoMemory;
+use thiserror::Error;
 
 // The number of the first line that is one too many.
 const LINES_END: u64 = 1 << 48;
 
+/// Why a line is none of a step.
+#[derive(Clone, Copy, Debug, Error)]
+pub enum LineRefusal {
+    /// It is the text of no step, which its byte of this place, from 0, shows.
+    #[error("byte {byte}: {reason}")]
+    NoStep { byte: u64, reason: Reason },
+    /// Lines have no greater numbers.
+    #[error("there are too many lines")]
+    LastLine,
+}
+
 /// A line that is none of a step.
 #[derive(Clone, Copy, Drop)]
-pub(crate) struct RefusedLine {
-    pub(crate) number: u64,
-    pub(crate) reason: StepReason,
+pub struct RefusedLine {
+    /// From 1.
+    pub number: u64,
+    pub reason: LineRefusal,
 }
 
 /// The steps of a schedule up to the first line that is none, with the numbers of their lines.
 #[derive(Drop)]
-pub(crate) struct Schedule {
-    pub(crate) steps: Vec<Step>,
-    pub(crate) numbers: Vec<u64>,
-    pub(crate) refused: Option<RefusedLine>,
+pub struct Schedule {
+    pub steps: Vec<Step>,
+    pub numbers: Vec<u64>,
+    pub refused: Option<RefusedLine>,
     ghost same: { vec_len numbers ≡ vec_len steps },
 }
 
 impl Schedule {
     ghost use Rattle.std.specs.Prelude.{◌≡◌, ◌∷◌, ◌++◌, ◌^◌, ◌<◌, [], None, IfSome, IfOk, OnOk};
     ghost use Rattle.std.specs.Io.Buffered.{reader_remaining};
-    ghost use Rattle.schedule_command.specs.Reading.{EndsLines, IsRead, IsUnread, KeepsStep, ReadsStepLine, RefusesAt};
+    ghost use Rattle.schedule_lines.specs.Schedules.{IsRead};
+    ghost use Rattle.schedule_lines.specs.declared.reading.LineRefusal.TheVariants.{LastLine};
+    ghost use Rattle.schedule_lines.specs.Reading.{EndsLines, IsUnread, KeepsStep, ReadsStepLine, RefusesAt};
 
     /// Reads the lines up to one that is none. Nothing is kept of those that are no steps.
-    pub(crate) fn read<R: Read + Drop>(alloc: Global, reader: R) -> Result<Schedule, ReadFault>
+    pub fn read<R: Read + Drop>(alloc: Global, reader: R) -> Result<Schedule, ReadFault>
         ensures { IfSome (R.remaining reader) (λ bytes. IfOk result (IsRead bytes)) }
     {
         let mut input = match BufReader::new(alloc, reader) {
@@ -100,7 +114,7 @@ impl Schedule {
                 Err(NoMemory) => Err(ReadFault::NoMemory),
             },
             Err(NoLine::Refused { byte, reason }) => {
-                self.refuse(number, StepReason::NoStep { byte, reason });
+                self.refuse(number, LineRefusal::NoStep { byte, reason });
                 Ok(false)
             }
             Err(NoLine::NoMemory) => Err(ReadFault::NoMemory),
@@ -119,13 +133,27 @@ impl Schedule {
     {
         match next_line(alloc, reader, line) {
             Ok(NextLine::End) => Ok(()),
-            Err(NoLine::NoMemory) => Err(ReadFault::NoMemory),
-            Err(NoLine::Read(error)) => Err(ReadFault::Read(error)),
-            Ok(NextLine::Skipped | NextLine::Step(_)) | Err(NoLine::Refused { .. }) => {
-                self.refuse(LINES_END, StepReason::LastLine);
+            Ok(NextLine::Skipped) => {
+                self.refuse_last();
                 Ok(())
             }
+            Ok(NextLine::Step(_step)) => {
+                self.refuse_last();
+                Ok(())
+            }
+            Err(NoLine::Refused { .. }) => {
+                self.refuse_last();
+                Ok(())
+            }
+            Err(NoLine::NoMemory) => Err(ReadFault::NoMemory),
+            Err(NoLine::Read(error)) => Err(ReadFault::Read(error)),
         }
+    }
+
+    fn refuse_last(&mut self)
+        ensures { RefusesAt (2 ^ 48) LastLine self.old self.new }
+    {
+        self.refuse(LINES_END, LineRefusal::LastLine);
     }
 
     fn keep(&mut self, step: Step, number: u64) -> Result<(), NoMemory>
@@ -137,7 +165,7 @@ impl Schedule {
         Ok(())
     }
 
-    fn refuse(&mut self, number: u64, reason: StepReason)
+    fn refuse(&mut self, number: u64, reason: LineRefusal)
         ensures { RefusesAt number reason self.old self.new }
     {
         self.refused = Some(RefusedLine { number, reason });

@@ -5,7 +5,7 @@ ghost use Rattle.std.specs.Prelude.{◌≡◌, ◌≤◌, ◌∷◌, [], vec_len
 ghost use Rattle.tuple_text.specs.Texts.{AreBlanks};
 ghost use Rattle.tuple_text.specs.Lines.{IsComment};
 ghost use Rattle.schedule_text.specs.Words.{trimmed};
-ghost use Rattle.schedule_command.specs.Reading.{JudgesLine, ReadsNext, ReadsOn};
+ghost use Rattle.schedule_lines.specs.Reading.{JudgesLine, ReadsNext, ReadsOn};
 
 use one_space::{PieceEnd, ReadFault, drop_return, is_blank, read_piece};
 use schedule_text::{MAX_STEP, Reason, Step, StepFault, read_step};
@@ -35,7 +35,7 @@ pub(crate) enum NoLine {
 
 impl From<ReadFault> for NoLine {
     ghost use Rattle.std.specs.Prelude.{◌≡◌};
-    ghost use Rattle.schedule_command.specs.Reading.{no_line_of};
+    ghost use Rattle.schedule_lines.specs.Reading.{no_line_of};
 
     ghost from_gives = { λ fault no. no ≡ no_line_of fault };
 
@@ -49,7 +49,7 @@ impl From<ReadFault> for NoLine {
 
 impl From<AllocError> for NoLine {
     ghost use Rattle.std.specs.Prelude.{◌≡◌};
-    ghost use Rattle.schedule_command.specs.declared.lines.NoLine.TheVariants.{NoMemory};
+    ghost use Rattle.schedule_lines.specs.declared.lines.NoLine.TheVariants.{NoMemory};
 
     ghost from_gives = { λ _ no. no ≡ NoMemory };
 
@@ -143,9 +143,9 @@ fn step_line<B: BufRead>(
     passed: u64,
     line: &mut Vec<u8>,
 ) -> Result<NextLine, NoLine>
-    requires other { AreBlanks line.old.items → ⊥ }
-    requires plain { IsComment line.old.items → ⊥ }
-    ensures { ReadsOn result line.old.items (B.remaining reader.old) (B.remaining reader.new) }
+    requires { AreBlanks line.old.items → ⊥ }
+    ensures { (IsComment line.old.items → ⊥)
+        → ReadsOn result line.old.items (B.remaining reader.old) (B.remaining reader.new) }
 {
     // With one byte more than a step may have the line is too long, and one more may be the return of its end.
     let blanks = line.len() - without_blanks(line.as_slice()).len();

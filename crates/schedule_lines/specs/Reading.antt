@@ -1,5 +1,5 @@
 -- Definitions for the private functions that read lines.
-use Rattle.std.specs.Prelude.{◌≡◌, ℕ, ◌+◌, ◌^◌, Bool, MatchBool, List, [], ◌∷◌, ◌++◌, map, Option, None, Some, IfSome, IfOk, OnOk, Result, MatchResult, ⊤}
+use Rattle.std.specs.Prelude.{◌≡◌, ℕ, ◌+◌, ◌^◌, Bool, MatchBool, List, [], ◌∷◌, ◌++◌, Option, None, Some, IfSome, IfOk, OnOk, Result, MatchResult, ⊤}
 use Rattle.std.specs.Str.Lines.{lines}
 use Rattle.tuple_text.specs.Lines.{IsSkipped}
 use Rattle.one_space.specs.NextLines.{IsNextLine, BeginsWith}
@@ -11,14 +11,14 @@ use Rattle.schedule_text.specs.declared.step.Step.{Step}
 use Rattle.schedule_text.specs.Judged.{IsNone}
 use Rattle.schedule_text.specs.Steps.{IsStepLine}
 use Rattle.schedule_text.specs.StepView.{step_of}
-use Rattle.schedule_command.specs.Lines.{Ending, complete, refused_at, LinesSay}
-use Rattle.schedule_command.specs.declared.fault.StepReason.{StepReason}
-use Rattle.schedule_command.specs.declared.lines.NextLine.{NextLine}
-use Rattle.schedule_command.specs.declared.lines.NextLine.TheVariants as next
-use Rattle.schedule_command.specs.declared.lines.NoLine.{NoLine}
-use Rattle.schedule_command.specs.declared.lines.NoLine.TheVariants as no
-use Rattle.schedule_command.specs.declared.reading.RefusedLine.{RefusedLine}
-use Rattle.schedule_command.specs.declared.reading.Schedule.{Schedule}
+use Rattle.schedule_lines.specs.Lines.{Ending, LinesSay}
+use Rattle.schedule_lines.specs.declared.reading.LineRefusal.{LineRefusal}
+use Rattle.schedule_lines.specs.Schedules.{steps_in, IsRead}
+use Rattle.schedule_lines.specs.declared.lines.NextLine.{NextLine}
+use Rattle.schedule_lines.specs.declared.lines.NextLine.TheVariants as next
+use Rattle.schedule_lines.specs.declared.lines.NoLine.{NoLine}
+use Rattle.schedule_lines.specs.declared.lines.NoLine.TheVariants as no
+use Rattle.schedule_lines.specs.declared.reading.Schedule.{Schedule}
 
 -- ---- one line
 
@@ -66,17 +66,6 @@ no_line_of (read.Read error) = no.Read error
 
 -- ---- all lines
 
-abbrev pub ending_of : Option RefusedLine → Ending
-ending_of None = complete
-ending_of (Some refused) = refused_at refused.number
-
-abbrev pub steps_in : Schedule → List schedules.Step
-steps_in s = map step_of s.steps.items
-
--- The lines of the bytes say the steps that were read.
-abbrev pub IsRead : List ℕ → Schedule → Type 0
-IsRead bytes s = LinesSay 1 (lines bytes) s.numbers.items (steps_in s) (ending_of s.refused)
-
 abbrev pub IsUnread : Schedule → Type 0
 IsUnread s = (s.steps.items ≡ []) × (s.numbers.items ≡ []) × (s.refused ≡ None)
 
@@ -87,7 +76,7 @@ KeepsStep step number old new =
     × (new.refused ≡ old.refused)
 
 -- The line of this number is refused.
-abbrev pub RefusesAt : ℕ → StepReason → Schedule → Schedule → Type 0
+abbrev pub RefusesAt : ℕ → LineRefusal → Schedule → Schedule → Type 0
 RefusesAt number reason old new =
     (new.steps ≡ old.steps) × (new.numbers ≡ old.numbers)
     × (new.refused ≡ Some (record { number = number; reason = reason }))

@@ -1,20 +1,19 @@
 -- A schedule up to one of its lines.
-use Rattle.std.proofs.Common.{◌≡◌, ℕ, ◌+◌, ◌^◌, ◌<◌, ◌≤◌, Bool, true, false, List, [], ◌∷◌, ◌++◌, Option, None, Some, IfSome, OnOk, Result, Ok, Err, MatchBool, map, refl, sym, ap, subst, ◌∙◌, append_assoc, append-nil, arith}
+use Rattle.std.proofs.Common.{◌≡◌, ℕ, ◌+◌, ◌^◌, ◌<◌, ◌≤◌, List, [], ◌∷◌, ◌++◌, Option, None, Some, IfSome, Result, Ok, Err, map, refl, sym, ap, subst, ◌∙◌, append_assoc, append-nil}
 use Rattle.std.proofs.lemmas.List.{map-append}
 use Rattle.std.specs.Str.Lines.{lines}
-use Rattle.protocol.specs.System.Schedule as schedules
 use Rattle.schedule_text.specs.declared.fault.Reason.{Reason}
 use Rattle.schedule_text.specs.declared.step.Step.{Step}
-use Rattle.schedule_text.specs.Judged.{IsNone}
 use Rattle.schedule_text.specs.StepView.{step_of}
-use Rattle.schedule_command.specs.Lines.{Ending, complete, refused_at, LinesSay, at_end, skips, says, refuses, is_late}
-use Rattle.schedule_command.specs.Reading.{ReturnsLine, NextLineFails, ReadsLine, ending_of, steps_in, IsRead, IsUnread, KeepsStep, RefusesAt, ReadSoFar}
-use Rattle.schedule_command.specs.declared.fault.StepReason.{StepReason}
-use Rattle.schedule_command.specs.declared.lines.NextLine.{NextLine}
-use Rattle.schedule_command.specs.declared.lines.NextLine.TheVariants as next
-use Rattle.schedule_command.specs.declared.lines.NoLine.{NoLine}
-use Rattle.schedule_command.specs.declared.lines.NoLine.TheVariants as no
-use Rattle.schedule_command.specs.declared.reading.Schedule.{Schedule}
+use Rattle.schedule_lines.specs.Lines.{Ending, complete, refused_at, LinesSay, at_end, skips, says, refuses, is_late}
+use Rattle.schedule_lines.specs.Schedules.{ending_of, steps_in, IsRead}
+use Rattle.schedule_lines.specs.Reading.{ReturnsLine, NextLineFails, ReadsLine, IsUnread, KeepsStep, RefusesAt, ReadSoFar}
+use Rattle.schedule_lines.specs.declared.reading.LineRefusal.{LineRefusal}
+use Rattle.schedule_lines.specs.declared.lines.NextLine.{NextLine}
+use Rattle.schedule_lines.specs.declared.lines.NextLine.TheVariants as next
+use Rattle.schedule_lines.specs.declared.lines.NoLine.{NoLine}
+use Rattle.schedule_lines.specs.declared.lines.NoLine.TheVariants as no
+use Rattle.schedule_lines.specs.declared.reading.Schedule.{Schedule}
 
 pub starts : (known : Option (List ℕ)) (s : Schedule) → IsUnread s → IfSome known (λ bytes. ReadSoFar bytes known 1 s)
 starts None s empty = tt
@@ -78,13 +77,13 @@ module _ (bytes : List ℕ) (known : Option (List ℕ)) (n : ℕ) (old : Schedul
             (sym (append_assoc (steps_in old) (step_of step ∷ []) steps) ∙ ap (λ ss. ss ++ steps) (sym steps_are)) said);
       }
 
-  refused_by : (new : Schedule) (reason : StepReason) → RefusesAt n reason old new → LinesSay n (lines before.rest) [] [] (refused_at n) → IsRead bytes new
+  refused_by : (new : Schedule) (reason : LineRefusal) → RefusesAt n reason old new → LinesSay n (lines before.rest) [] [] (refused_at n) → IsRead bytes new
   refused_by new reason at r =
       subst (λ o. LinesSay 1 (lines bytes) new.numbers.items (steps_in new) (ending_of o)) (sym at.2)
       (subst (λ ns. LinesSay 1 (lines bytes) ns.items (steps_in new) (refused_at n)) (sym at.1)
       (subst (λ ss. LinesSay 1 (lines bytes) old.numbers.items (map step_of ss.items) (refused_at n)) (sym at.0) (ends_so (refused_at n) r)))
 
-  pub refuses_so : (new : Schedule) (field : NoLine) (byte : ℕ) (why : Reason) (reason : StepReason) → n < 2 ^ 48 → result ≡ Err field
+  pub refuses_so : (new : Schedule) (field : NoLine) (byte : ℕ) (why : Reason) (reason : LineRefusal) → n < 2 ^ 48 → result ≡ Err field
       → field ≡ no.Refused byte why → RefusesAt n reason old new → IsRead bytes new
   refuses_so new field byte why reason below e f at =
       let begins = fails field (no.Refused byte why) e f in
@@ -94,15 +93,15 @@ module _ (bytes : List ℕ) (known : Option (List ℕ)) (n : ℕ) (old : Schedul
   late : (l : List ℕ) (others : List (List ℕ)) → 2 ^ 48 ≤ n → lines before.rest ≡ l ∷ others → LinesSay n (lines before.rest) [] [] (refused_at n)
   late l others low split = subst (λ ls. LinesSay n ls [] [] (refused_at n)) (sym split) (is_late low)
 
-  pub late_skipped : (new : Schedule) (field : NextLine) (reason : StepReason) → 2 ^ 48 ≤ n → result ≡ Ok field → field ≡ next.Skipped → RefusesAt n reason old new → IsRead bytes new
+  pub late_skipped : (new : Schedule) (field : NextLine) (reason : LineRefusal) → 2 ^ 48 ≤ n → result ≡ Ok field → field ≡ next.Skipped → RefusesAt n reason old new → IsRead bytes new
   late_skipped new field reason low e f at =
       let given = gives field next.Skipped e f in refused_by new reason at (late given.0 (lines given.1.rest) low given.1.split)
 
-  pub late_step : (new : Schedule) (field : NextLine) (step : Step) (reason : StepReason) → 2 ^ 48 ≤ n → result ≡ Ok field → field ≡ next.Step step → RefusesAt n reason old new → IsRead bytes new
+  pub late_step : (new : Schedule) (field : NextLine) (step : Step) (reason : LineRefusal) → 2 ^ 48 ≤ n → result ≡ Ok field → field ≡ next.Step step → RefusesAt n reason old new → IsRead bytes new
   late_step new field step reason low e f at =
       let given = gives field (next.Step step) e f in refused_by new reason at (late given.0 (lines given.1.rest) low given.1.split)
 
-  pub late_none : (new : Schedule) (field : NoLine) (byte : ℕ) (why : Reason) (reason : StepReason) → 2 ^ 48 ≤ n → result ≡ Err field
+  pub late_none : (new : Schedule) (field : NoLine) (byte : ℕ) (why : Reason) (reason : LineRefusal) → 2 ^ 48 ≤ n → result ≡ Err field
       → field ≡ no.Refused byte why → RefusesAt n reason old new → IsRead bytes new
   late_none new field byte why reason low e f at =
       let begins = fails field (no.Refused byte why) e f in refused_by new reason at (late begins.first begins.others low begins.split)
@@ -110,6 +109,3 @@ module _ (bytes : List ℕ) (known : Option (List ℕ)) (n : ℕ) (old : Schedul
 pub each_known : (P Q : List ℕ → Type 0) (start : Option (List ℕ)) → ((bytes : List ℕ) → P bytes → Q bytes) → IfSome start P → IfSome start Q
 each_known P Q None f h = tt
 each_known P Q (Some bytes) f h = f bytes h
-
-pub at_number : (start known : Option (List ℕ)) (n m : ℕ) (s : Schedule) → n ≡ m → IfSome start (λ bytes. ReadSoFar bytes known n s) → IfSome start (λ bytes. ReadSoFar bytes known m s)
-at_number start known n m s e h = subst (λ k. IfSome start (λ bytes. ReadSoFar bytes known k s)) e h

@@ -1,6 +1,6 @@
 -- Lines without the blanks in front of them.
 use Rattle.std.proofs.Common.{◌≡◌, inl, inr, ℕ, zero, suc, ◌+◌, ◌-◌, ◌<◌, ◌≤◌, ◌==◌, Bool, true, false, cond, List, [], ◌∷◌, ◌++◌, length, take, drop, refl, sym, ap, subst, ◌∙◌, arith, eq-eqb, eqb-true, length-append}
-use Rattle.std.proofs.lemmas.List.{take-append-drop, length-take-le}
+use Rattle.std.proofs.lemmas.List.{take-append-drop, length-drop}
 use Rattle.tuple_text.specs.Texts.{AreBlanks}
 use Rattle.tuple_text.specs.Lines.{IsSkipped, IsComment}
 use Rattle.protocol.specs.System.Schedule.{Step}
@@ -17,51 +17,41 @@ trimmed_behind (b ∷ p) l h = ap (λ s. cond s (trimmed (p ++ l)) (b ∷ (p ++ 
 -- bytes behind a line that is not all blank
 pub trimmed_before : (p l : List ℕ) → (AreBlanks p → ⊥) → trimmed (p ++ l) ≡ trimmed p ++ l
 trimmed_before [] l other = absurd (other tt)
-trimmed_before (b ∷ p) l other = at (b == 32) refl
+trimmed_before (b ∷ p) l other = at (b == 32) refl (trimmed_before p l)
   where
-    at : (s : Bool) → (b == 32) ≡ s → cond s (trimmed (p ++ l)) (b ∷ (p ++ l)) ≡ cond s (trimmed p) (b ∷ p) ++ l
-    at true e = trimmed_before p l (λ h. other (eqb-true b 32 e, h))
-    at false e = refl
+    at : (s : Bool) → (b == 32) ≡ s → ((AreBlanks p → ⊥) → trimmed (p ++ l) ≡ trimmed p ++ l)
+        → cond s (trimmed (p ++ l)) (b ∷ (p ++ l)) ≡ cond s (trimmed p) (b ∷ p) ++ l
+    at true e more = more (λ h. other (eqb-true b 32 e, h))
+    at false e more = refl
 
 -- more bytes leave no fewer
 pub trimmed_grows : (p l : List ℕ) → length (trimmed p) ≤ length (trimmed (p ++ l))
 trimmed_grows [] l = omega arith
-trimmed_grows (b ∷ p) l = at (b == 32)
+trimmed_grows (b ∷ p) l = at (b == 32) (trimmed_grows p l)
   where
-    at : (s : Bool) → length (cond s (trimmed p) (b ∷ p)) ≤ length (cond s (trimmed (p ++ l)) (b ∷ (p ++ l)))
-    at true = trimmed_grows p l
-    at false = omega (arith, length-append p l)
+    at : (s : Bool) → length (trimmed p) ≤ length (trimmed (p ++ l))
+        → length (cond s (trimmed p) (b ∷ p)) ≤ length (cond s (trimmed (p ++ l)) (b ∷ (p ++ l)))
+    at true more = more
+    at false more = omega (arith, length-append p l)
 
--- one byte more leaves at most one more
-pub trimmed_one : (p : List ℕ) (x : ℕ) → length (trimmed (p ++ x ∷ [])) ≤ length (trimmed p) + 1
-trimmed_one [] x = at (x == 32)
-  where
-    at : (s : Bool) → length (cond s [] (x ∷ [])) ≤ 0 + 1
-    at true = omega arith
-    at false = omega arith
-trimmed_one (b ∷ p) x = at (b == 32)
-  where
-    at : (s : Bool) → length (cond s (trimmed (p ++ x ∷ [])) (b ∷ (p ++ x ∷ []))) ≤ length (cond s (trimmed p) (b ∷ p)) + 1
-    at true = trimmed_one p x
-    at false = omega (arith, length-append p (x ∷ []))
-
-trimmed_short : (l : List ℕ) → length (trimmed l) ≤ length l
+pub trimmed_short : (l : List ℕ) → length (trimmed l) ≤ length l
 trimmed_short [] = omega arith
-trimmed_short (b ∷ l) = at (b == 32)
+trimmed_short (b ∷ l) = at (b == 32) (trimmed_short l)
   where
-    at : (s : Bool) → length (cond s (trimmed l) (b ∷ l)) ≤ length (b ∷ l)
-    at true = omega (arith, trimmed_short l)
-    at false = omega arith
+    at : (s : Bool) → length (trimmed l) ≤ length l → length (cond s (trimmed l) (b ∷ l)) ≤ length (b ∷ l)
+    at true more = omega (arith, more)
+    at false more = omega arith
 
 -- a part of a line leaves at least what the whole one does, but for the bytes that it lacks
 pub trimmed_front : (l : List ℕ) (n : ℕ) → length (trimmed l) ≤ length (trimmed (take n l)) + (length l - n)
 trimmed_front l zero = omega (arith, trimmed_short l)
 trimmed_front [] (suc n) = omega arith
-trimmed_front (b ∷ l) (suc n) = at (b == 32)
+trimmed_front (b ∷ l) (suc n) = at (b == 32) (trimmed_front l n)
   where
-    at : (s : Bool) → length (cond s (trimmed l) (b ∷ l)) ≤ length (cond s (trimmed (take n l)) (b ∷ take n l)) + (length (b ∷ l) - suc n)
-    at true = omega (arith, trimmed_front l n)
-    at false = omega (arith, ap length (take-append-drop n l), length-append (take n l) (drop n l))
+    at : (s : Bool) → length (trimmed l) ≤ length (trimmed (take n l)) + (length l - n)
+        → length (cond s (trimmed l) (b ∷ l)) ≤ length (cond s (trimmed (take n l)) (b ∷ take n l)) + (length (b ∷ l) - suc n)
+    at true more = omega (arith, more)
+    at false more = omega (arith, ap length (take-append-drop n l), length-append (take n l) (drop n l), length-drop n l)
 
 pub not_comment : (p zs : List ℕ) → AreBlanks p → IsComment (p ++ 32 ∷ zs) → ⊥
 not_comment [] zs h c = omega (arith, c)
@@ -94,3 +84,12 @@ none_long line front n same plain long = too_long line plain (omega (arith, long
     grown : length (trimmed front) ≤ length (trimmed line)
     grown = subst (λ f. length (trimmed f) ≤ length (trimmed line)) same
         (subst (λ l. length (trimmed (take n line)) ≤ length (trimmed l)) (take-append-drop n line) (trimmed_grows (take n line) (drop n line)))
+
+-- a line that begins with no blank
+pub trimmed_stays : (l : List ℕ) → ((xs : List ℕ) → l ≡ 32 ∷ xs → ⊥) → trimmed l ≡ l
+trimmed_stays [] other = refl
+trimmed_stays (b ∷ l) other = at (b == 32) refl
+  where
+    at : (s : Bool) → (b == 32) ≡ s → cond s (trimmed l) (b ∷ l) ≡ b ∷ l
+    at true e = absurd (other l (ap (λ x. x ∷ l) (eqb-true b 32 e)))
+    at false e = refl

@@ -1,12 +1,14 @@
 -- From pieces to lines.
-use Rattle.std.proofs.Common.{◌≡◌, inl, inr, ℕ, zero, suc, ◌+◌, ◌-◌, ◌<◌, ◌≤◌, ◌==◌, Bool, true, false, List, [], ◌∷◌, ◌++◌, Option, None, Some, IfSome, Result, Ok, Err, length, take, drop, get_or, refl, sym, ap, subst, ◌∙◌, arith, append_assoc, append-nil, length-append}
+use Rattle.std.proofs.Common.{◌≡◌, inl, inr, ℕ, zero, suc, ◌+◌, ◌-◌, ◌<◌, ◌≤◌, ◌==◌, min, false, List, [], ◌∷◌, ◌++◌, Option, None, Some, IfSome, Result, Ok, Err, length, take, get_or, refl, sym, ap, subst, ◌∙◌, arith, append_assoc, append-nil, length-append}
+use Rattle.std.proofs.lemmas.Bool.{cases_lt}
 use Rattle.std.proofs.lemmas.List.Elements.{All-nil, All-append}
+use Rattle.std.proofs.Math.Nat.{min-eq_left, min-eq_right, le_of_lt}
 use Rattle.std.specs.Str.Lines.{lines, strip_carriage_return}
 use Rattle.std.specs.Io.BufRead.{drop_through, DropsThrough}
 use Rattle.tuple_text.specs.Texts.{AreBlanks}
-use Rattle.tuple_text.specs.Lines.{IsSkipped, IsComment}
+use Rattle.tuple_text.specs.Lines.{IsComment}
 use Rattle.one_space.specs.Pieces.{NoLineFeed, TakesPiece}
-use Rattle.one_space.specs.NextLines.{IsNextLine, BeginsWith}
+use Rattle.one_space.specs.NextLines.{IsNextLine}
 use Rattle.one_space.specs.declared.pieces.PieceEnd.TheVariants.{Full, LineFeed, InputEnd}
 use Rattle.one_space.specs.declared.pieces.ReadFault.{ReadFault}
 use Rattle.one_space.specs.declared.pieces.ReadFault.TheVariants as read
@@ -14,15 +16,12 @@ use Rattle.one_space.proofs.LineLemmas.{lines-at, lines-last, long_line_of}
 use Rattle.schedule_text.specs.declared.fault.Reason.{Reason}
 use Rattle.schedule_text.specs.declared.lines.TheConstants.{MAX_STEP}
 use Rattle.schedule_text.specs.Words.{trimmed}
-use Rattle.schedule_text.specs.Judged.{IsNone}
-use Rattle.schedule_text.specs.Steps.{IsStepLine}
-use Rattle.schedule_text.specs.StepView.{step_of}
-use Rattle.schedule_command.specs.Reading.{IsJudged, IsRefused, JudgesLine, ReturnsLine, NextLineFails, ReadsLine, ReadsNext, ReadsOn, no_line_of}
-use Rattle.schedule_command.specs.declared.lines.NextLine.{NextLine}
-use Rattle.schedule_command.specs.declared.lines.NextLine.TheVariants as next
-use Rattle.schedule_command.specs.declared.lines.NoLine.{NoLine}
-use Rattle.schedule_command.specs.declared.lines.NoLine.TheVariants as no
-use Rattle.schedule_command.proofs.Trimmed.{trimmed_before, trimmed_front, none_long}
+use Rattle.schedule_lines.specs.Reading.{IsJudged, IsRefused, JudgesLine, ReturnsLine, NextLineFails, ReadsLine, ReadsNext, ReadsOn, no_line_of}
+use Rattle.schedule_lines.specs.declared.lines.NextLine.{NextLine}
+use Rattle.schedule_lines.specs.declared.lines.NextLine.TheVariants as next
+use Rattle.schedule_lines.specs.declared.lines.NoLine.{NoLine}
+use Rattle.schedule_lines.specs.declared.lines.NoLine.TheVariants as no
+use Rattle.schedule_lines.proofs.Trimmed.{trimmed_before, trimmed_front, none_long, not_comment}
 
 -- the judgement of the first line is that of the bytes
 module _ (l xs : List ℕ) (left : Option (List ℕ)) where
@@ -76,6 +75,13 @@ at_end None left limit before after r some taken judged = tt
 at_end (Some ys) left limit before after r some taken judged = λ clean.
     judged_of after (before ++ ys) left r (ends_last before after ys left limit clean taken some) judged
 
+-- the same, where the bytes before are some
+pub at_end_behind : (start left : Option (List ℕ)) (limit : ℕ) (before after : List ℕ) (r : Result NextLine NoLine)
+    → 0 < length before → IfSome start (λ ys. TakesPiece (Some InputEnd) limit ys left before after) → JudgesLine r after → ReadsOn r before start left
+at_end_behind None left limit before after r some taken judged = tt
+at_end_behind (Some ys) left limit before after r some taken judged =
+    at_end (Some ys) left limit before after r (omega (arith, some, ap length taken.kept, length-append before taken.part)) taken judged
+
 -- the line goes on behind a full piece
 pub on_piece : (start known left : Option (List ℕ)) (limit : ℕ) (before after : List ℕ) (r : Result NextLine NoLine)
     → IfSome start (λ ys. TakesPiece (Some Full) limit ys known before after) → ReadsOn r after known left → ReadsOn r before start left
@@ -84,6 +90,14 @@ on_piece (Some ys) known left limit before after r taken read = λ clean.
     let told = subst (λ o. ReadsOn r after o left) taken.left_is read in
     subst (λ bytes. ReadsLine r bytes left) (sym (joined before after ys known limit clean taken.part taken.rest taken.kept taken.taken))
     (told (pure before after ys known limit clean taken.part taken.kept taken.one_line))
+
+-- a piece behind a blank begins no comment
+pub on_blank : (start known left : Option (List ℕ)) (limit : ℕ) (after : List ℕ) (r : Result NextLine NoLine)
+    → IfSome start (λ ys. TakesPiece (Some Full) limit ys known (32 ∷ []) after) → ((IsComment after → ⊥) → ReadsOn r after known left)
+    → ReadsOn r (32 ∷ []) start left
+on_blank None known left limit after r taken read = tt
+on_blank (Some ys) known left limit after r taken read =
+    on_piece (Some ys) known left limit (32 ∷ []) after r taken (read (λ c. not_comment [] taken.part tt (subst IsComment taken.kept c)))
 
 clean_none : NoLineFeed []
 clean_none = All-nil (λ b. (b == 10) ≡ false)
@@ -140,7 +154,7 @@ comment_back [] p q (suc n) same some more c = absurd c
 comment_back (x ∷ l) [] q (suc n) same some more c = absurd (omega arith)
 comment_back (x ∷ l) (y ∷ p) q (suc n) same some more c = let e : x ≡ y = cc in sym e ∙ c
 
-some_of : (p : List ℕ) → (AreBlanks p → ⊥) → 1 ≤ length p
+pub some_of : (p : List ℕ) → (AreBlanks p → ⊥) → 1 ≤ length p
 some_of [] other = absurd (other tt)
 some_of (x ∷ p) other = omega arith
 
@@ -170,3 +184,14 @@ pub too_long_on : (start left : Option (List ℕ)) (limit byte : ℕ) (reason : 
 too_long_on None left limit byte reason before after taken other plain long = tt
 too_long_on (Some ys) left limit byte reason before after taken other plain long = λ clean.
     refused_long before after ys left limit byte reason clean taken other plain long
+
+pub hash_first : (l : List ℕ) → IsComment l → get_or l 0 0 ≡ 35
+hash_first [] c = absurd c
+hash_first (x ∷ l) c = c
+
+-- A sum that is cut off at m is the sum, if it is at most a number below m.
+pub not_cut : (a m n : ℕ) → min a m ≤ n → n < m → a ≤ n
+not_cut a m n most below = elim (cases_lt m a) [
+  | inl over ↦ absurd (omega (arith, below, subst (λ x. x ≤ n) (min-eq_right (le_of_lt over)) most))
+  | inr under ↦ subst (λ x. x ≤ n) (min-eq_left under) most
+]

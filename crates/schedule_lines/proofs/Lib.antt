@@ -1,0 +1,4 @@
+pub mod Trimmed
+pub mod Behind
+pub mod Pieces
+pub mod SoFar
