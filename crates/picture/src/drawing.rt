@@ -54,9 +54,10 @@ fn put_rows(alloc: Global, run: Run<'_>, rows: Rows, svg: &mut String) -> Result
 {
     let arrows = arrows_of(alloc, run, rows)?;
     let lanes = Lanes::of(alloc, run, rows, arrows.as_slice())?;
-    if lanes.count() > MAX_LANES {
+    let parties = lanes.count();
+    if parties > MAX_LANES {
         return Err(PictureFault::TooWide {
-            parties: lanes.count(),
+            parties,
             most: MAX_LANES,
         });
     }
