@@ -1,5 +1,7 @@
 //! Runs that go on after refused lines, and what they say beside the results.
 
+ghost use Rattle.std.specs.Prelude.{◌≤◌, length};
+
 use crate::rows::repeated;
 use one_space::{Complaint, Console, Manner, Rules, is_standard_input, run_opened};
 use space::Version;
@@ -48,13 +50,19 @@ struct Typed<'a> {
 
 impl Read for Typed<'_> {
     fn read(&mut self, buf: &mut [u8]) -> io::Result<usize> {
-        let end = match self.rest.iter().position(|byte| *byte == b'\n') {
-            Some(place) => place + 1,
-            None => self.rest.len(),
-        };
-        let (mut line, others) = self.rest.split_at(end);
+        let (mut line, others) = self.rest.split_at(line_end(self.rest));
         self.rest = others;
         line.read(buf)
+    }
+}
+
+// Where the first line ends, with its line feed.
+fn line_end(bytes: &[u8]) -> usize
+    ensures { result ≤ length bytes.now }
+{
+    match bytes.iter().position(|byte| *byte == b'\n') {
+        Some(place) => place + 1,
+        None => bytes.len(),
     }
 }
 
