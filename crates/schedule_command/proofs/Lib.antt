@@ -1,3 +1,4 @@
 pub mod Reasons
 pub mod Telling
 pub mod Written
+pub mod Limited

@@ -1,51 +1,22 @@
 -- From what a part of a step shows to the reason.
-use Rattle.std.proofs.Common.{◌≡◌, ◌⊎◌, ℕ, zero, suc, ◌+◌, ◌*◌, ◌<◌, ◌≤◌, Bool, true, false, inl, inr, List, [], ◌∷◌, length, map, refl, sym, ap, subst, ◌∙◌, arith, Option, None, Some, MatchOption}
-use Rattle.std.specs.Prelude.{◌&&◌, ◌||◌, not, nat_lt}
+use Rattle.std.proofs.Common.{◌≡◌, ℕ, ◌<◌, ◌≤◌, Bool, true, false, inl, inr, List, ◌∷◌, length, map, refl, sym, subst, arith, Option, None, Some, MatchOption}
+use Rattle.std.specs.Prelude.{◌&&◌, ◌||◌, nat_lt}
 use Rattle.std.specs.List.{list_all}
-use Rattle.std.proofs.lemmas.Bool.{and_from, le-ltb, lt-ltb, cases_lt}
+use Rattle.std.proofs.lemmas.Bool.{and_from, le-ltb, lt-ltb}
 use Rattle.terms.specs.Parties.{client_party, party_number}
 use Rattle.terms.specs.declared.parties.Party.{Party}
 use Rattle.wire_format.specs.Lists.{ascends}
 use Rattle.schedule_world.proofs.Meant.{are_receivers}
 use Rattle.tuple_codec.specs.Operations.{Operation, IsOperation}
-use Rattle.trace_text.specs.declared.names.Name.{Name}
 use Rattle.protocol.specs.Client.RightClient.{open_call}
 use Rattle.protocol.specs.System.Configuration.{Configuration, IsConfiguration, replicas, is_correct, is_correct_client, is_replica}
 use Rattle.protocol.specs.System.Trace.{history_of}
 use Rattle.protocol.specs.System.Schedule.{World, Step, AreReceivers, IsAllowed, is_party}
-use Rattle.protocol.specs.System.Schedule.Step.{calls, deliver, sign}
-use Rattle.schedule_command.specs.Allowed.{IsOfCorrect, IsOfFaulty, IsReason, IsRefused, SaysWhy, receivers_named}
-use Rattle.schedule_command.specs.Misfits.{FitsParties, MisfitsCorrect, MisfitsFaulty, MisfitsSigner, MisfitsOrder, MisfitsReceivers}
+use Rattle.protocol.specs.System.Schedule.Step.{calls, sign}
+use Rattle.schedule_command.specs.Allowed.{IsCall, IsReason, receivers_named}
+use Rattle.schedule_command.specs.Misfits.{FitsParties, MisfitsSigner, MisfitsOrder, MisfitsReceivers}
 use Rattle.schedule_command.specs.declared.allowed.NotAllowed.{NotAllowed}
 use Rattle.schedule_command.specs.declared.allowed.NotAllowed.TheVariants as why
-
--- a step of correct parties, whose party is none
-pub correct_reason : (c : Configuration) (w : World) (step : Step) (p : ℕ) (reason : NotAllowed) → IsOfCorrect step p → MisfitsCorrect c p reason → IsReason c w step reason
-correct_reason c w step p (why.NoParty name) h k =
-    (inl (subst (IsOfCorrect step) (sym k.0) h), subst (λ q. is_party c q ≡ false) (sym k.0) k.1)
-correct_reason c w step p (why.Faulty name) h k =
-    (subst (IsOfCorrect step) (sym k.0) h, subst (λ q. is_party c q ≡ true) (sym k.0) k.1, subst (λ q. is_correct c q ≡ false) (sym k.0) k.2)
-correct_reason c w step p (why.Correct name) h k = absurd k
-correct_reason c w step p (why.NoReplica name) h k = absurd k
-correct_reason c w step p (why.Busy name) h k = absurd k
-correct_reason c w step p (why.NoFrame frame made) h k = absurd k
-correct_reason c w step p (why.NoLeaf leaf) h k = absurd k
-correct_reason c w step p (why.Receivers count) h k = absurd k
-correct_reason c w step p (why.NotAscending first second) h k = absurd k
-
--- a step of faulty parties, whose party is none
-pub faulty_reason : (c : Configuration) (w : World) (step : Step) (p : ℕ) (reason : NotAllowed) → IsOfFaulty step p → MisfitsFaulty c p reason → IsReason c w step reason
-faulty_reason c w step p (why.NoParty name) h k =
-    (inr (inl (subst (IsOfFaulty step) (sym k.0) h)), subst (λ q. is_party c q ≡ false) (sym k.0) k.1)
-faulty_reason c w step p (why.Correct name) h k =
-    (subst (IsOfFaulty step) (sym k.0) h, subst (λ q. is_correct c q ≡ true) (sym k.0) k.1)
-faulty_reason c w step p (why.Faulty name) h k = absurd k
-faulty_reason c w step p (why.NoReplica name) h k = absurd k
-faulty_reason c w step p (why.Busy name) h k = absurd k
-faulty_reason c w step p (why.NoFrame frame made) h k = absurd k
-faulty_reason c w step p (why.NoLeaf leaf) h k = absurd k
-faulty_reason c w step p (why.Receivers count) h k = absurd k
-faulty_reason c w step p (why.NotAscending first second) h k = absurd k
 
 -- a step that signs, whose party or leaf is none
 pub signer_reason : (c : Configuration) (w : World) (replica leaf : ℕ) (receivers body : List ℕ) (reason : NotAllowed) → MisfitsSigner c replica leaf reason → IsReason c w (sign replica leaf receivers body) reason
@@ -80,11 +51,6 @@ receivers_reason c w step (why.NoLeaf leaf) k = absurd k
 abbrev Found : Configuration → Step → Option NotAllowed → Type 0
 Found c step found = MatchOption found (FitsParties c step) (λ reason. (w : World) → IsReason c w step reason)
 
-pub correct_found : (c : Configuration) (step : Step) (p : ℕ) (found : Option NotAllowed) → IsOfCorrect step p → (is_correct c p ≡ true → FitsParties c step)
-    → MatchOption found (is_correct c p ≡ true) (MisfitsCorrect c p) → Found c step found
-correct_found c step p None of fits h = fits h
-correct_found c step p (Some reason) of fits h = λ w. correct_reason c w step p reason of h
-
 pub receivers_found : (c : Configuration) (step : Step) (found : Option NotAllowed) → (AreReceivers c (receivers_named step) → FitsParties c step)
     → MatchOption found (AreReceivers c (receivers_named step)) (MisfitsReceivers c (receivers_named step)) → Found c step found
 receivers_found c step None fits h = fits h
@@ -107,24 +73,9 @@ busy : (c : Configuration) (w : World) (k : ℕ) (op : Operation) → is_correct
 busy c w k op correct valid refused none = refused (correct, none, valid)
 
 -- the call of a correct client that isn't allowed
-pub why_busy : (c : Configuration) (k : ℕ) (op : Operation) (name : Name) → IsConfiguration c → party_number name.0 ≡ client_party k → is_correct c (client_party k) ≡ true
-    → IsOperation op → SaysWhy c (calls k op) (why.Busy name)
-why_busy c k op name valid e correct ranged w refused = (
-  e,
-  subst (λ p. open_call (history_of p w.past) ≡ None → ⊥) (sym e) (busy c w k op (client_correct c k valid correct) ranged refused),
-)
-
--- the delivery to a correct party that isn't allowed
-pub why_no_frame : (c : Configuration) (frame party made : ℕ) → is_correct c party ≡ true → SaysWhy c (deliver frame party) (why.NoFrame frame made)
-why_no_frame c frame party made correct w refused = (refl, later (cases_lt frame (length w.frames)))
-  where
-    later : (frame < length w.frames) ⊎ (length w.frames ≤ frame) → length w.frames ≤ frame
-    later (inl early) = absurd (refused (early, correct))
-    later (inr late) = late
-
--- a step that no world refuses
-pub not_refused : (c : Configuration) (step : Step) → ((w : World) → IsAllowed c w step) → IsRefused c step → ⊥
-not_refused c step allowed refused = refused.1 (allowed refused.0)
+pub why_busy : (c : Configuration) (k : ℕ) (op : Operation) → IsConfiguration c → is_correct c (client_party k) ≡ true → IsOperation op
+    → (w : World) → (IsAllowed c w (calls k op) → ⊥) → IsCall (calls k op) (client_party k) × (open_call (history_of (client_party k) w.past) ≡ None → ⊥)
+why_busy c k op valid correct ranged w refused = (refl, busy c w k op (client_correct c k valid correct) ranged refused)
 
 -- ---- receivers
 

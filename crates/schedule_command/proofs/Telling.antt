@@ -1,8 +1,9 @@
 -- From the report of a run to what the command tells of it.
-use Rattle.std.proofs.Common.{◌≡◌, ℕ, inl, inr, List, [], ◌++◌, length, map, take, reverse, Option, None, Some, IfSome, Result, Ok, Err, MatchResult, refl, sym, ap, subst, ◌∙◌}
+use Rattle.std.proofs.Common.{◌≡◌, ℕ, inl, inr, List, ◌++◌, length, map, reverse, get_or, Option, None, Some, IfSome, Result, Ok, Err, MatchResult, refl, sym, ap, subst, ◌∙◌}
 use Rattle.std.proofs.lemmas.List.{reverse-reverse, take-map, length-reverse}
-use Rattle.std.proofs.lemmas.Option.{slice_get-map}
+use Rattle.std.proofs.lemmas.Option.{slice_get-map, get_or_from_slice_get}
 use Rattle.std.specs.Option.{option_map}
+use Rattle.std.specs.List.{slice_get}
 use Rattle.std.specs.Str.Lines.{lines}
 use Rattle.std.specs.Io.KnownBytes.{Appends}
 use Rattle.command_line.specs.declared.Printed.{Printed}
@@ -13,22 +14,20 @@ use Rattle.points.specs.PointView.{item_of}
 use Rattle.protocol.specs.System.Configuration.{Configuration}
 use Rattle.protocol.specs.System.Schedule.{StepsLead, new_world, acceptances}
 use Rattle.protocol.specs.Space.Linear.{IsLinear}
-use Rattle.schedule_lines.specs.Lines.{refused_at, complete, LinesSay}
+use Rattle.schedule_lines.specs.Lines.{refused_at, LinesSay}
 use Rattle.schedule_lines.specs.Schedules.{ending_of, steps_in, IsRead}
 use Rattle.schedule_lines.specs.declared.reading.RefusedLine.{RefusedLine}
 use Rattle.schedule_lines.specs.declared.reading.Schedule.{Schedule}
 use Rattle.schedule_text.specs.declared.step.Step.{Step as RunStep}
 use Rattle.schedule_text.specs.StepView.{step_of}
 use Rattle.schedule_world.specs.Reports.{ReportIsRight, trace_of}
-use Rattle.schedule_world.specs.Stages.{acceptance_of}
 use Rattle.schedule_world.specs.declared.report.Report.{Report}
 use Rattle.schedule_command.specs.Commands.{LeadTo, IsPrinted, TellsFault, TellsReport, EndsSchedule}
 use Rattle.schedule_command.specs.Faults.{fault_of_reader}
 use Rattle.schedule_command.specs.Texts.{report_lines, report_text, numbered_lines}
-use Rattle.schedule_command.specs.Writing.{StopsRun, RunsAll, IsTextOf, FailsToWrite, lines_of_report}
+use Rattle.schedule_command.specs.Writing.{EndsRun, StopsRun, RunsAll, IsTextOf, FailsToWrite, lines_of_report}
 use Rattle.schedule_command.specs.declared.fault.ScheduleFault.{ScheduleFault}
 use Rattle.schedule_command.specs.declared.fault.ScheduleFault.TheVariants as faults
-use Rattle.schedule_command.specs.declared.fault.StepReason.{StepReason}
 
 lead_of : (c : Configuration) (steps : List RunStep) (report : Report) → ReportIsRight c steps report → LeadTo c (map step_of steps) (trace_of report)
 lead_of c steps report h = record {
@@ -49,32 +48,32 @@ tells_fault : (c : Configuration) (bytes : List ℕ) (s : Schedule) (fault : Sch
 tells_fault c bytes s (faults.Step line reason) said (inl h) written = (
   refl,
   inl
-    record {
-      numbers = s.numbers.items;
-      steps = steps_in s;
-      trace = trace_of h.report;
-      said = up_to_line bytes s h.refused_line line said h.is_refused h.number;
-      lead = lead_of c s.steps.items h.report h.tells;
-    },
+      record {
+        numbers = s.numbers.items;
+        steps = steps_in s;
+        trace = trace_of h.report;
+        said = up_to_line bytes s h.refused_line line said h.is_refused h.number;
+        lead = lead_of c s.steps.items h.report h.tells;
+      },
 )
 tells_fault c bytes s (faults.Step line reason) said (inr h) written = (
   refl,
   inr
-    record {
-      numbers = s.numbers.items;
-      steps = steps_in s;
-      ending = ending_of s.refused;
-      said = said;
-      n = h.n;
-      step = step_of h.stops.step;
-      is_step = slice_get-map step_of s.steps.items h.n ∙ ap (option_map step_of) h.stops.is_step;
-      is_line = h.is_line;
-      trace = trace_of h.before;
-      world = h.stops.world;
-      goes = subst (λ steps. StepsLead c new_world steps (reverse (trace_of h.before)) h.stops.world) (sym (take-map step_of h.n s.steps.items)) h.stops.goes;
-      refused = h.stops.refused;
-      gives = h.gives;
-    },
+      record {
+        numbers = s.numbers.items;
+        steps = steps_in s;
+        ending = ending_of s.refused;
+        said = said;
+        n = h.n;
+        step = step_of h.stops.step;
+        is_step = slice_get-map step_of s.steps.items h.n ∙ ap (option_map step_of) h.stops.is_step;
+        is_line = h.is_line;
+        trace = trace_of h.before;
+        world = h.stops.world;
+        goes = subst (λ steps. StepsLead c new_world steps (reverse (trace_of h.before)) h.stops.world) (sym (take-map step_of h.n s.steps.items)) h.stops.goes;
+        refused = h.stops.refused;
+        gives = h.gives;
+      },
 )
 tells_fault c bytes s (faults.Configuration fault) said h written = absurd h
 tells_fault c bytes s (faults.NoEntry entries) said h written = absurd h
@@ -105,7 +104,7 @@ tells_unread c (Some bytes) fault = λ written. tells_read c bytes fault written
 
 report_same : (c : Configuration) (steps : List RunStep) (report : Report) → ReportIsRight c steps report → lines_of_report report ≡ report_text c (trace_of report)
 report_same c steps report h =
-    ap (λ as. report_lines as (map item_of report.points.items) (length report.trace.items)) h.accepted
+    ap (λ accepted. report_lines accepted (map item_of report.points.items) (length report.trace.items)) h.accepted
     ∙ ap (λ ps. report_lines (reverse (acceptances (trace_of report))) ps (length report.trace.items)) h.points
     ∙ ap (report_lines (reverse (acceptances (trace_of report))) _) (sym (length-reverse report.trace.items))
 
@@ -150,3 +149,16 @@ pub ends_untold : (c : Configuration) (asked : Printed) (known : Option (List �
     → EndsSchedule c asked known (Err fault) written written
 ends_untold c asked None fault written told = tt
 ends_untold c asked (Some bytes) fault written told = told written
+
+-- ---- runs
+
+-- all steps ran, and the line behind them is judged
+pub runs_to_end : (c : Configuration) (s : Schedule) (report : Report) (result : Result Report ScheduleFault) → ReportIsRight c s.steps.items report → EndsRun s report result
+    → RunsAll c s result
+runs_to_end c s report (Ok given) right h = (h.0, subst (ReportIsRight c s.steps.items) (sym h.1) right)
+runs_to_end c s report (Err fault) right h =
+    subst (StopsRun c s) (sym h.2) (inl record { report = report; tells = right; refused_line = h.0; is_refused = h.1; number = refl })
+
+-- the step of this place, as the code reads it
+pub step_read : (steps : List RunStep) (n : ℕ) (step shown : RunStep) → slice_get steps n ≡ Some step → shown ≡ get_or steps n shown → step ≡ shown
+step_read steps n step shown e r = sym (get_or_from_slice_get steps n step shown e) ∙ sym r

@@ -1,10 +1,10 @@
 -- Why a step is not allowed.
-use Rattle.std.specs.Prelude.{◌≡◌, ℕ, ◌≤◌, ◌<◌, true, false, ◌⊎◌, List, [], ◌∷◌, length, Contains, None}
+use Rattle.std.specs.Prelude.{◌≡◌, ℕ, ◌≤◌, true, false, ◌⊎◌, List, [], ◌∷◌, length, Contains, None}
 use Rattle.terms.specs.Parties.{client_party, party_number}
 use Rattle.protocol.specs.System.Configuration.{Configuration, is_correct, is_replica}
 use Rattle.protocol.specs.System.Trace.{history_of}
 use Rattle.protocol.specs.System.Schedule.{World, Step, IsAllowed, is_party}
-use Rattle.protocol.specs.System.Schedule.Step.{calls, deliver, feed, seal, sign, ticks, flush}
+use Rattle.protocol.specs.System.Schedule.Step.{calls, deliver, feed, seal, sign, ticks}
 use Rattle.protocol.specs.Client.RightClient.{open_call}
 use Rattle.schedule_command.specs.declared.allowed.NotAllowed.{NotAllowed}
 use Rattle.schedule_command.specs.declared.allowed.NotAllowed.TheVariants as why

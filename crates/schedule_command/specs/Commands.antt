@@ -1,5 +1,5 @@
 -- What the command writes, or why it writes nothing.
-use Rattle.std.specs.Prelude.{◌≡◌, ℕ, ◌⊎◌, List, [], ◌++◌, length, map, reverse, take, slice_get, Option, Some, IfSome, Result, MatchResult, ⊤}
+use Rattle.std.specs.Prelude.{◌≡◌, ℕ, ◌⊎◌, List, [], ◌++◌, map, reverse, take, slice_get, Option, Some, IfSome, Result, MatchResult, ⊤}
 use Rattle.std.specs.Str.Lines.{lines}
 use Rattle.std.specs.Io.KnownBytes.{Appends}
 use Rattle.command_line.specs.declared.Printed.{Printed}

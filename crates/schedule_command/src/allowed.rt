@@ -55,6 +55,8 @@ pub(crate) fn why(config: &Config, step: &Step, made: u64) -> NotAllowed
     }
     match step {
         Step::Invoke { client, op } => {
+            // The calls show that the configuration and the operation are valid.
+            let _faults = config.faults();
             op.note_valid();
             NotAllowed::Busy(Name(Party::Client(*client)))
         }

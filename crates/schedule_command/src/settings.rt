@@ -1,7 +1,7 @@
 //! The configuration that a command names.
 
 ghost use Rattle.std.specs.Prelude.{IfSome};
-ghost use Rattle.schedule_command.specs.Settings.{TellsSettings};
+ghost use Rattle.schedule_command.specs.Settings.{IsConfigFault, TellsSettings};
 
 use crate::fault::ScheduleFault;
 use config_text::{ConfigFault, MAX_CONFIG, Settings, read_config};
@@ -25,7 +25,15 @@ pub fn read_settings<R: Read + Drop>(alloc: Global, reader: R) -> Result<Setting
     }
     match read_config(alloc, text.as_slice()) {
         Ok(settings) => Ok(settings),
-        Err(ConfigFault::NoMemory) => Err(ScheduleFault::NoMemory),
-        Err(fault) => Err(ScheduleFault::Configuration(fault)),
+        Err(fault) => Err(fault_of(fault)),
+    }
+}
+
+fn fault_of(fault: ConfigFault) -> ScheduleFault
+    ensures { IsConfigFault fault result }
+{
+    match fault {
+        ConfigFault::NoMemory => ScheduleFault::NoMemory,
+        other => ScheduleFault::Configuration(other),
     }
 }
