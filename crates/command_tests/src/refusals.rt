@@ -381,7 +381,7 @@ fn is_unreadable(alloc: Global, front: &[u8]) -> bool {
     ) {
         Ok(()) => false,
         Err(fault) => {
-            written.is_empty() && is_told(alloc, &fault, "cannot read four.toml\nnot read: ", 1)
+            written.is_empty() && is_told(alloc, &fault, "cannot read four.toml\n", 1)
         }
     }
 }

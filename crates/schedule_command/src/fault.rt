@@ -32,7 +32,7 @@ pub enum ScheduleFault {
     TooWide { parties: u64, most: u64 },
     #[error("out of memory")]
     NoMemory,
-    #[error("not read: {0}")]
+    #[error("{0}")]
     Read(io::Error),
     #[error("not written: {0}")]
     Write(io::Error),
