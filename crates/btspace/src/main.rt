@@ -21,9 +21,7 @@ use one_space::{
     Complaint, EscapedErrors, LocalRequest, StandardError, Terminals, complain, is_standard_input,
     print_tuple, run_script, script_at, words_of,
 };
-use run_command::{
-    Display, Forecast, RunFault, drilled, drills_of, end_run, most_operations, run,
-};
+use run_command::{Display, Forecast, RunFault, drilled, drills_of, end_run, most_operations, run};
 use schedule_command::{ScheduleFault, end_schedule, read_settings, schedule};
 use space::Version;
 use std::alloc::Global;
@@ -170,7 +168,11 @@ fn is_read_twice(config: &str, file: &str) -> bool {
 
 fn refuse_second<R: Eprint>(rt: &R, path: &str) -> u8 {
     let complaint = Complaint::Unreadable { path };
-    complain(&mut StandardError::new(rt), complaint, "the standard input is read for the first file")
+    complain(
+        &mut StandardError::new(rt),
+        complaint,
+        "the standard input is read for the first file",
+    )
 }
 
 // The configuration is read and judged before the schedule is read.
@@ -190,7 +192,10 @@ fn run_configured<R: Files + Input + Print + Eprint + AllocGlobal>(
 }
 
 // The settings in the file at this path, or the status after a complaint.
-fn settings_at<R: Files + Input + Eprint + AllocGlobal>(rt: &R, path: &str) -> Result<Settings, u8> {
+fn settings_at<R: Files + Input + Eprint + AllocGlobal>(
+    rt: &R,
+    path: &str,
+) -> Result<Settings, u8> {
     let settings = if is_standard_input(path) {
         read_settings(rt.alloc(), rt.reader())
     } else {

@@ -18,7 +18,6 @@ ghost use Rattle.clap.specs.Values.{kind_of};
 ghost use Rattle.command_line.specs.Requests.{ArePositions, AsksFor, IsFlag, IsPrinted, IsRequest, IsShown};
 
 pub use crate::drills::{DrillKind, Drilled, Drills, MOST_DRILLS};
-
 use crate::drills::{DRILLS, drills_among};
 use clap::error::ErrorKind;
 use clap::{Arg, ArgAction, ArgMatches, Command, Error, value_parser};
@@ -286,7 +285,9 @@ fn drill_option<'a>(alloc: Global) -> Arg<'a> {
         .action(ArgAction::Append)
         .value_parser(DRILLS.as_slice())
         .hide_possible_values(true)
-        .help("Let a replica lie, up to f of them: 3=silent sends nothing, 3=stale answers reads from an empty space")
+        .help(
+            "Let a replica lie, up to f of them: 3=silent sends nothing, 3=stale answers reads from an empty space",
+        )
 }
 
 fn schedule<'a>(alloc: Global) -> Result<Command<'a>, AllocError> {
