@@ -4,8 +4,9 @@
 //!
 //! `local` and `show` are those of `one_space`. `run` writes a result line for each operation, in their order. The
 //! line has the answer that the operation's client accepted to this call. It did so in a trace of the cluster that is
-//! linearizable unless two different texts of it have one digest. At a fault `run` writes nothing, unless the writer
-//! failed. If the words are no request, the status follows from the reason.
+//! linearizable, if nothing in it is forged, unless two different texts of it have one digest. Without drills nothing
+//! is forged. At a fault `run` writes nothing, unless the writer failed. If the words are no request, the status
+//! follows from the reason.
 //!
 //! Tests show that a faulty party is refused before the script is read, and what the program shows while it runs.
 #![tactic(auto)]
