@@ -1,7 +1,7 @@
 //! The drills of a cluster's faulty replicas.
 
 ghost use Rattle.std.specs.Prelude.{◌≡◌, ◌==◌, ◌++◌, IfOk, MatchOption, OnOk};
-ghost use Rattle.std.specs.List.{list_any};
+ghost use Rattle.std.specs.List.{flat_map, list_any};
 ghost use Rattle.quorum.specs.Quorum.{member};
 ghost use Rattle.space_node.specs.Drills.{replicas_of};
 ghost use Rattle.run_command.specs.Drilled.{EndsDrilled, IsDrillFault, IsDrilledFor, MayBeDrilled};
@@ -33,8 +33,14 @@ pub enum DrillFault {
 pub fn drills_of(alloc: Global, asked: &Drills) -> Result<Vec<(u16, Drill)>, NoMemory>
     ensures { IfOk result (λ drills. drills.items ≡ drills_asked asked.now) }
 {
+    drills_in(alloc, asked.0.as_slice())
+}
+
+fn drills_in(alloc: Global, asked: &[Option<Drilled>]) -> Result<Vec<(u16, Drill)>, NoMemory>
+    ensures { IfOk result (λ drills. drills.items ≡ flat_map one_asked asked.now) }
+{
     let mut drills = Vec::new(alloc);
-    for drilled in &asked.0 {
+    for drilled in asked {
         put_drill(drilled, &mut drills)?;
     }
     Ok(drills)
