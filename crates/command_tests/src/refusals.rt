@@ -266,11 +266,10 @@ impl Read for Endless<'_> {
         let mut place = 0usize;
         for byte in buf.iter_mut() {
             *byte = self.text.get(place).copied().unwrap_or(0);
-            place = if place + 1 < self.text.len() {
-                place + 1
-            } else {
-                0
-            };
+            place = place.saturating_add(1);
+            if place >= self.text.len() {
+                place = 0;
+            }
         }
         let asked = self.asked.get().saturating_add(buf.len() as u64);
         self.asked.set(asked);

@@ -430,133 +430,6 @@ fn prints_help_and_mistakes(rt: HostRuntime) {
     }
 }
 
-// Words, and what they ask for.
-static ASKED: [(&[&str], Request<'static>); 12] = [
-    (
-        &["btspace", "local", "a.bts"],
-        Request::Local {
-            script: "a.bts",
-            space: SpaceVersion::One,
-            keeps_going: false,
-        },
-    ),
-    (
-        &["btspace", "local", "--space", "1", "a.bts"],
-        Request::Local {
-            script: "a.bts",
-            space: SpaceVersion::One,
-            keeps_going: false,
-        },
-    ),
-    (
-        &["btspace", "local", "--space", "2", "a.bts"],
-        Request::Local {
-            script: "a.bts",
-            space: SpaceVersion::Two,
-            keeps_going: false,
-        },
-    ),
-    (
-        &["btspace", "local", "a.bts", "--space=2"],
-        Request::Local {
-            script: "a.bts",
-            space: SpaceVersion::Two,
-            keeps_going: false,
-        },
-    ),
-    (
-        &["btspace", "run", "a.toml", "a.bts"],
-        Request::Run {
-            config: "a.toml",
-            script: "a.bts",
-            drills: Drills::NONE,
-            has_summary: false,
-        },
-    ),
-    (
-        &["btspace", "local", "-", "--keep-going"],
-        Request::Local {
-            script: "-",
-            space: SpaceVersion::One,
-            keeps_going: true,
-        },
-    ),
-    (
-        &[
-            "btspace",
-            "run",
-            "--drill=6=stale",
-            "--summary",
-            "--drill",
-            "0=silent",
-            "a.toml",
-            "-",
-        ],
-        Request::Run {
-            config: "a.toml",
-            script: "-",
-            drills: Drills([
-                Some(Drilled {
-                    replica: 6,
-                    kind: DrillKind::Stale,
-                }),
-                Some(Drilled {
-                    replica: 0,
-                    kind: DrillKind::Silent,
-                }),
-                None,
-                None,
-            ]),
-            has_summary: true,
-        },
-    ),
-    (&["btspace", "show", "00"], Request::Show { digits: "00" }),
-    (
-        &["btspace", "schedule", "a.toml", "b"],
-        Request::Schedule {
-            config: "a.toml",
-            file: "b",
-            printed: Printed::Report,
-        },
-    ),
-    (
-        &["btspace", "schedule", "a.toml", "b", "--trace"],
-        Request::Schedule {
-            config: "a.toml",
-            file: "b",
-            printed: Printed::Trace,
-        },
-    ),
-    (
-        &["btspace", "schedule", "--picture", "a.toml", "b"],
-        Request::Schedule {
-            config: "a.toml",
-            file: "b",
-            printed: Printed::Picture(Positions {
-                from: 0,
-                to: u64::MAX,
-            }),
-        },
-    ),
-    (
-        &[
-            "btspace",
-            "schedule",
-            "--picture",
-            "a.toml",
-            "b",
-            "--from",
-            "7",
-            "--to=19",
-        ],
-        Request::Schedule {
-            config: "a.toml",
-            file: "b",
-            printed: Printed::Picture(Positions { from: 7, to: 19 }),
-        },
-    ),
-];
-
 fn asks_for(alloc: Global, words: &[&str], request: Request<'_>) -> bool {
     let console = Console::new(alloc, true);
     match read_words(&(&console, alloc), words) {
@@ -565,9 +438,129 @@ fn asks_for(alloc: Global, words: &[&str], request: Request<'_>) -> bool {
     }
 }
 
+fn asks_for_local(alloc: Global, words: &[&str], space: SpaceVersion, keeps_going: bool) -> bool {
+    let script = "a.bts";
+    let request = Request::Local {
+        script,
+        space,
+        keeps_going,
+    };
+    asks_for(alloc, words, request)
+}
+
 #[test]
-fn reads_words(rt: HostRuntime) {
-    for (words, request) in &ASKED {
-        assert!(rt; asks_for(rt.alloc(), words, *request), "{words:?}");
-    }
+fn reads_the_words_of_local(rt: HostRuntime) {
+    let alloc = rt.alloc();
+    let one = SpaceVersion::One;
+    let two = SpaceVersion::Two;
+    assert!(rt; asks_for_local(alloc, &["btspace", "local", "a.bts"], one, false));
+    assert!(rt;
+        asks_for_local(
+            alloc,
+            &["btspace", "local", "--space", "1", "a.bts"],
+            one,
+            false
+        )
+    );
+    assert!(rt;
+        asks_for_local(
+            alloc,
+            &["btspace", "local", "--space", "2", "a.bts"],
+            two,
+            false
+        )
+    );
+    assert!(rt;
+        asks_for_local(
+            alloc,
+            &["btspace", "local", "a.bts", "--space=2"],
+            two,
+            false
+        )
+    );
+    assert!(rt;
+        asks_for_local(
+            alloc,
+            &["btspace", "local", "a.bts", "--keep-going"],
+            one,
+            true
+        )
+    );
+}
+
+fn asks_for_run(alloc: Global, words: &[&str], drills: Drills, has_summary: bool) -> bool {
+    let request = Request::Run {
+        config: "a.toml",
+        script: "-",
+        drills,
+        has_summary,
+    };
+    asks_for(alloc, words, request)
+}
+
+fn drill(replica: u8, kind: DrillKind) -> Option<Drilled> {
+    Some(Drilled { replica, kind })
+}
+
+#[test]
+fn reads_the_words_of_run(rt: HostRuntime) {
+    let alloc = rt.alloc();
+    let none = Drills([None, None, None, None]);
+    assert!(rt; asks_for_run(alloc, &["btspace", "run", "a.toml", "-"], none, false));
+    let stale = drill(6, DrillKind::Stale);
+    let silent = drill(0, DrillKind::Silent);
+    let words = [
+        "btspace",
+        "run",
+        "--drill=6=stale",
+        "--summary",
+        "--drill",
+        "0=silent",
+        "a.toml",
+        "-",
+    ];
+    let drills = Drills([stale, silent, None, None]);
+    assert!(rt; asks_for_run(alloc, &words, drills, true));
+}
+
+fn asks_for_schedule(alloc: Global, words: &[&str], printed: Printed) -> bool {
+    let request = Request::Schedule {
+        config: "a.toml",
+        file: "b",
+        printed,
+    };
+    asks_for(alloc, words, request)
+}
+
+#[test]
+fn reads_the_words_of_schedule(rt: HostRuntime) {
+    let alloc = rt.alloc();
+    let words = ["btspace", "schedule", "a.toml", "b"];
+    assert!(rt; asks_for_schedule(alloc, &words, Printed::Report));
+    let words = ["btspace", "schedule", "a.toml", "b", "--trace"];
+    assert!(rt; asks_for_schedule(alloc, &words, Printed::Trace));
+    let words = ["btspace", "schedule", "--picture", "a.toml", "b"];
+    let all = Positions {
+        from: 0,
+        to: u64::MAX,
+    };
+    assert!(rt; asks_for_schedule(alloc, &words, Printed::Picture(all)));
+    let words = [
+        "btspace",
+        "schedule",
+        "--picture",
+        "a.toml",
+        "b",
+        "--from",
+        "7",
+        "--to=19",
+    ];
+    let some = Positions { from: 7, to: 19 };
+    assert!(rt; asks_for_schedule(alloc, &words, Printed::Picture(some)));
+}
+
+#[test]
+fn reads_the_words_of_show(rt: HostRuntime) {
+    let request = Request::Show { digits: "00" };
+    assert!(rt; asks_for(rt.alloc(), &["btspace", "show", "00"], request));
 }
