@@ -379,7 +379,9 @@ fn is_unreadable(alloc: Global, front: &[u8]) -> bool {
         &mut written,
     ) {
         Ok(()) => false,
-        Err(fault) => { written.is_empty() && is_told(alloc, &fault, "cannot read four.toml\n", 1) }
+        Err(fault) => {
+            written.is_empty() && is_told(alloc, &fault, "cannot read four.toml\nbroken pipe\n", 1)
+        }
     }
 }
 
