@@ -1,8 +1,8 @@
 -- The parts of a frame that is spelled.
-use Rattle.std.proofs.Common.{◌≡◌, ◌+◌, [], ◌≤◌, ◌<◌, ◌^◌, ℕ, ◌||◌, List, ◌++◌, length, length-append, arith, subst, sym, refl, lit≤}
+use Rattle.std.proofs.Common.{◌≡◌, ◌+◌, [], ◌≤◌, ◌<◌, ◌^◌, ℕ, ◌||◌, List, ◌++◌, length, length-append, arith, subst, sym, refl, lit≤, Option}
 use Rattle.wire_format.specs.Messages.{MacData, MessageData, view_change, FrameData, AuthenticatorData, macs}
 use Rattle.wire_format.specs.Spelling.{SpellsFrame, frame_limit, body_spelling, authenticator_spelling, authenticator_is_signed, piece}
-use Rattle.authenticator.specs.Authentic.{has_mac, proves}
+use Rattle.authenticator.specs.Authentic.{has_some_mac, proves_some}
 
 frame_limit-le : (m : MessageData) → frame_limit m ≤ 4194304
 frame_limit-le (view_change c) = lit≤ tt
@@ -19,10 +19,10 @@ body-short bytes f spells =
     omega arith
 
 -- MACs prove a body to a party if they have its entry
-pub proves-macs : (party : ℕ) (mac : List ℕ) (entries : List MacData) (authenticator : AuthenticatorData) → authenticator ≡ macs entries
-    → has_mac party mac entries ≡ (authenticator_is_signed authenticator || proves party mac authenticator)
+pub proves-macs : (party : ℕ) (mac : Option (List ℕ)) (entries : List MacData) (authenticator : AuthenticatorData) → authenticator ≡ macs entries
+    → has_some_mac party mac entries ≡ (authenticator_is_signed authenticator || proves_some party mac authenticator)
 proves-macs party mac entries authenticator is =
-    let P : AuthenticatorData → Type 0 = λ p. has_mac party mac entries ≡ (authenticator_is_signed p || proves party mac p) in subst P (sym is) refl
+    let P : AuthenticatorData → Type 0 = λ p. has_some_mac party mac entries ≡ (authenticator_is_signed p || proves_some party mac p) in subst P (sym is) refl
 
 -- the same of a body before its authenticator
 pub piece-short : (m : MessageData) (text : List ℕ) (authenticator : ℕ) → length (piece text) + authenticator ≤ frame_limit m → length text < 2 ^ 32

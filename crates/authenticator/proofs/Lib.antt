@@ -1,4 +1,5 @@
 pub mod Blocks
+pub mod Dealing
 pub mod Differences
 pub mod Digests
 pub mod Entries

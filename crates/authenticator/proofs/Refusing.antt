@@ -27,21 +27,21 @@ both_hold false proved e = absurd (let g : ⊥ = cc in g)
 
 module _ (m : Membership) (party : ℕ) (bytes : List ℕ) (frame : FrameData) (spells : SpellsFrame bytes frame) where
   pub refused : (fault : OpenFault) → Some fault ≡ frame_refusal m party frame → RefusesFrame m party bytes fault
-  refused fault e = elim (one_fails (has_sender m frame.body) (may_open m.seed party frame) fault e) [
+  refused fault e = elim (one_fails (has_sender m frame.body) (may_open m.keys party frame) fault e) [
     | inl k ↦ subst (RefusesFrame m party bytes) (sym k.1) (record { frame = frame; spelled = spells; sender = k.0 })
     | inr k ↦ subst (RefusesFrame m party bytes) (sym k.2) (record { frame = frame; spelled = spells; sender = k.0; proved = k.1 })
   ]
 
   pub opened : None ≡ frame_refusal m party frame → Opens m party bytes frame
   opened e =
-      let k = both_hold (has_sender m frame.body) (may_open m.seed party frame) e in
+      let k = both_hold (has_sender m frame.body) (may_open m.keys party frame) e in
       record { spelled = spells; sender = k.0; proved = k.1 }
 
   -- a frame that opens isn't refused
   pub not_refused : (fault : OpenFault) (other : FrameData) → Some fault ≡ frame_refusal m party frame → Opens m party bytes other → frame ≡ other → ⊥
   not_refused fault other e o same =
       let known : has_sender m frame.body ≡ true = ap (λ f. has_sender m f.body) same ∙ o.sender in
-      let proved : may_open m.seed party frame ≡ true = ap (may_open m.seed party) same ∙ o.proved in
+      let proved : may_open m.keys party frame ≡ true = ap (may_open m.keys party) same ∙ o.proved in
       let none : frame_refusal m party frame ≡ None = rw (known, proved) refl in
       let g : ⊥ = cc in g
 
@@ -52,7 +52,7 @@ sends_so m party (request timestamp mode operation) = refl
 sends_so m party _ = refl
 
 refusal_so : (m : Membership) (party : ℕ) (frame : FrameData) → header_refusal m party (header_of frame) ≡ frame_refusal m party frame
-refusal_so m party frame = ap (λ known. by_tests known (may_open m.seed party frame)) (sends_so m frame.body.sender frame.body.message)
+refusal_so m party frame = ap (λ known. by_tests known (may_open m.keys party frame)) (sends_so m frame.body.sender frame.body.message)
 
 module _ (m : Membership) (party : ℕ) (bytes : List ℕ) (header : HeaderData) (has : HasHeader bytes header) where
   by_header : (o : Option OpenFault) → o ≡ header_refusal m party header → o ≡ frame_refusal m party has.0

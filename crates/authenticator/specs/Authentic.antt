@@ -1,14 +1,16 @@
 -- When a frame is authentic to a party: its sender made a MAC of its body for that party (Castro and Liskov, Practical
 -- Byzantine fault tolerance and proactive recovery, TOCS 2002, on the authentication of messages).
-use Rattle.std.specs.Prelude.{ℕ, Bool, false, ◌&&◌, ◌==◌, List, bytes_eq}
+use Rattle.std.specs.Prelude.{ℕ, Bool, false, ◌&&◌, ◌==◌, List, Option, bytes_eq}
 use Rattle.std.specs.List.{list_any}
+use Rattle.std.specs.Option.{option_map_or}
 use Rattle.wire_format.specs.Messages.{BodyData, MacData, AuthenticatorData, macs, signature, FrameData}
 use Rattle.wire_format.specs.Spelling.{body_spelling}
-use Rattle.authenticator.specs.Keys.{mac_between}
+use Rattle.authenticator.specs.Keys.{mac_between, shared_mac}
+use Rattle.authenticator.specs.declared.row.SharedKey.{SharedKey}
 
--- the MAC of a body for a party
-abbrev pub mac_of : List ℕ → ℕ → BodyData → List ℕ
-mac_of seed party body = mac_between seed body.sender party (body_spelling body)
+-- the MAC that its sender makes of a body for a party
+abbrev pub mac_of : List SharedKey → ℕ → BodyData → List ℕ
+mac_of keys party body = mac_between keys body.sender party (body_spelling body)
 
 abbrev pub is_mac_for : ℕ → List ℕ → MacData → Bool
 is_mac_for party mac entry = (entry.receiver == party) && bytes_eq entry.mac mac
@@ -22,6 +24,14 @@ abbrev pub proves : ℕ → List ℕ → AuthenticatorData → Bool
 proves party mac (macs entries) = has_mac party mac entries
 proves party mac (signature s) = false
 
--- the frame's entry for the party is the MAC of its body under the key from its sender
-abbrev pub is_authentic : List ℕ → ℕ → FrameData → Bool
-is_authentic seed party frame = proves party (mac_of seed party frame.body) frame.authenticator
+-- the same of a MAC that may be missing
+abbrev pub has_some_mac : ℕ → Option (List ℕ) → List MacData → Bool
+has_some_mac party mac entries = option_map_or (λ m. has_mac party m entries) mac false
+
+abbrev pub proves_some : ℕ → Option (List ℕ) → AuthenticatorData → Bool
+proves_some party mac authenticator = option_map_or (λ m. proves party m authenticator) mac false
+
+-- the frame's entry for the party is the MAC of its body under the key that the sender shares with the party
+abbrev pub is_authentic : List SharedKey → ℕ → FrameData → Bool
+is_authentic keys party frame =
+    proves_some party (shared_mac keys frame.body.sender party (body_spelling frame.body)) frame.authenticator

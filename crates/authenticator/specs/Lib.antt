@@ -1,7 +1,9 @@
 pub mod Headers
 pub mod Authentic
+pub mod Dealing
 pub mod Faults
 pub mod Results
+pub mod RingView
 pub mod Kept
 pub mod Keys
 pub mod Laws

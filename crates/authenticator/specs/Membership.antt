@@ -1,14 +1,17 @@
--- Who takes part, and the seed of their keys. A party goes by its number: replica r has the number r, client c the
--- number 256 + c.
+-- What one party knows: who takes part, its keys, and the public keys of the replicas. A party goes by its number:
+-- replica r has the number r, client c the number 256 + c.
 use Rattle.std.specs.Prelude.{ℕ, ◌+◌, ◌*◌, Bool, ◌&&◌, nat_lt, nat_le, List}
 use Rattle.terms.specs.declared.parties.TheConstants.{FIRST_CLIENT}
 use Rattle.wire_format.specs.Messages.{MessageData, request, BodyData}
+use Rattle.authenticator.specs.declared.row.SharedKey.{SharedKey}
 
--- a seed, how many replicas may be faulty, and how many clients there are
+-- how many replicas may be faulty, how many clients there are, the keys that the party shares with others, and the
+-- public keys of the replicas, in their order
 pub record Membership : Type 0 where
-  pub seed : List ℕ
   pub faults : ℕ
   pub clients : ℕ
+  pub keys : List SharedKey
+  pub publics : List (List ℕ)
 
 -- how many replicas there are: 3 f + 1 if f may be faulty
 abbrev pub replicas : Membership → ℕ

@@ -7,24 +7,25 @@ use Rattle.authenticator.specs.declared.sealed.OpenFault.{OpenFault}
 use Rattle.authenticator.specs.declared.sealed.OpenFault.TheVariants as faults
 use Rattle.authenticator.specs.Membership.{Membership, has_sender}
 use Rattle.authenticator.specs.Authentic.{is_authentic}
+use Rattle.authenticator.specs.declared.row.SharedKey.{SharedKey}
 
 -- The authenticator of the frame has the right entry for the party, or is a signature.
-abbrev pub may_open : List ℕ → ℕ → FrameData → Bool
-may_open seed party frame =
-    authenticator_is_signed frame.authenticator || is_authentic seed party frame
+abbrev pub may_open : List SharedKey → ℕ → FrameData → Bool
+may_open keys party frame =
+    authenticator_is_signed frame.authenticator || is_authentic keys party frame
 
 -- Why the party refuses the frame, if it does.
 abbrev pub frame_refusal : Membership → ℕ → FrameData → Option OpenFault
 frame_refusal m party frame =
     if has_sender m frame.body
-    then (if may_open m.seed party frame then None else Some faults.BadMac)
+    then (if may_open m.keys party frame then None else Some faults.BadMac)
     else Some faults.UnknownSender
 
 -- The bytes are this frame, its sender may send such messages, and it is authentic to the party or signed.
 pub record Opens (m : Membership) (party : ℕ) (bytes : List ℕ) (frame : FrameData) : Type 0 where
   pub spelled : SpellsFrame bytes frame
   pub sender : IsTrue (has_sender m frame.body)
-  pub proved : IsTrue (may_open m.seed party frame)
+  pub proved : IsTrue (may_open m.keys party frame)
 
 -- The bytes are a frame, but its sender may not send such messages.
 pub record HasNoSender (m : Membership) (bytes : List ℕ) : Type 0 where
@@ -37,7 +38,7 @@ pub record HasNoMac (m : Membership) (party : ℕ) (bytes : List ℕ) : Type 0 w
   pub frame : FrameData
   pub spelled : SpellsFrame bytes frame
   pub sender : IsTrue (has_sender m frame.body)
-  pub proved : may_open m.seed party frame ≡ false
+  pub proved : may_open m.keys party frame ≡ false
 
 -- Why the bytes are refused. If several refusals hold, the first in this order counts.
 abbrev pub RefusesFrame : Membership → ℕ → List ℕ → OpenFault → Type 0

@@ -4,18 +4,19 @@ use Rattle.wire_format.specs.Lists.{ascends}
 use Rattle.wire_format.specs.Messages.{BodyData, MacData, macs, FrameData}
 use Rattle.wire_format.specs.Spelling.{IsBody, is_signed, body_spelling, frame_spelling, frame_limit}
 use Rattle.authenticator.specs.Keys.{mac_between}
+use Rattle.authenticator.specs.declared.row.SharedKey.{SharedKey}
 
 -- the entry of an authenticator for a party
-abbrev pub entry_for : List ℕ → ℕ → List ℕ → ℕ → MacData
-entry_for seed sender text party =
-    record { receiver = party; mac = mac_between seed sender party text }
+abbrev pub entry_for : List SharedKey → ℕ → List ℕ → ℕ → MacData
+entry_for keys sender text party =
+    record { receiver = party; mac = mac_between keys sender party text }
 
 -- a body with its MACs for these parties
-abbrev pub sealed_for : List ℕ → BodyData → List ℕ → FrameData
-sealed_for seed body parties =
+abbrev pub sealed_for : List SharedKey → BodyData → List ℕ → FrameData
+sealed_for keys body parties =
     record {
       body = body;
-      authenticator = macs (map (entry_for seed body.sender (body_spelling body)) parties);
+      authenticator = macs (map (entry_for keys body.sender (body_spelling body)) parties);
     }
 
 -- A party may send the body with MACs, to 1 to 10 parties, which ascend.

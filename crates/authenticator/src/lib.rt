@@ -15,9 +15,11 @@
 mod laws;
 mod mac;
 mod ring;
+mod row;
 mod sealed;
 
 pub use laws::sealed_frames_open;
 pub use mac::{Key, hmac, same};
-pub use ring::{Ring, signing_seed};
+pub use ring::Ring;
+pub use row::{SharedKey, deal, signing_seed};
 pub use sealed::{OpenFault, Opened, SealFault};

@@ -1,20 +1,21 @@
-//! The keys of all parties, derived from one seed.
+//! The keys under which parties seal and open frames.
 
-ghost use Rattle.std.specs.Prelude.{◌≡◌, ◌∷◌, ◌++◌, ◌<◌, IfSome};
-ghost use Rattle.std.specs.Int.{w16, to_be_bytes};
-ghost use Rattle.authenticator.specs.Kept.{KeepsOrTakesText};
-ghost use Rattle.authenticator.specs.Keys.{key_between, mac_between, signing_seed};
+ghost use Rattle.std.specs.Prelude.{◌≡◌, IfSome, [], Some, option_map};
+ghost use Rattle.authenticator.specs.Dealing.{all_keys};
+ghost use Rattle.authenticator.specs.Kept.{IsCodeBetween, IsKeyBetween, KeepsOrTakesText};
+ghost use Rattle.authenticator.specs.Keys.{find_key, mac_between, shared_mac};
 ghost use Rattle.authenticator.specs.Made.{AreMacsTo};
 ghost use Rattle.authenticator.specs.Headers.{takes_part};
+ghost use Rattle.authenticator.specs.RingView.{keys_of};
 ghost use Rattle.authenticator.specs.Membership.{has_sender};
-ghost use Rattle.terms.specs.Parties.{party_number};
 ghost use Rattle.wire_format.specs.Views.{body_data};
 
 use crate::mac::{Key, hmac, mac_four};
+use crate::row::{Seed, SharedKey, key_among};
 use std::alloc::Global;
 use std::collections::HashMap;
 use std::marker::Model;
-use terms::{FIRST_CLIENT, Party};
+use terms::FIRST_CLIENT;
 use wire::{Body, Message};
 
 /// A text with its authentication code.
@@ -40,46 +41,79 @@ impl CodedText {
     }
 }
 
-/// The keys between the parties of one configuration. The ring derives each when it first needs it, and keeps it. It
-/// also keeps the last genuine request of each client, since a replica receives most requests twice: from the client,
-/// and in the batch that orders them.
+/// Where a ring has its keys from: a seed that gives those of all parties, or the keys of one party.
+#[derive(Drop)]
+enum Source {
+    Seed(Seed),
+    Row(Vec<SharedKey>),
+}
+
+/// The keys of one party, or of all parties of a seed. The ring makes each ready for texts when it first needs it, and
+/// keeps it. It also keeps the last genuine request of each client, since a replica receives most requests twice: from
+/// the client, and in the batch that orders them. It knows no public keys.
 #[derive(Drop)]
 pub struct Ring {
     alloc: Global,
-    seed: [u8; 32],
     faults: u8,
     clients: u16,
-    source: Key,
+    source: Source,
     kept: HashMap<(u16, u16), Key>,
     requests: HashMap<(u16, u16), CodedText>,
 }
 
 impl Model for Ring {
+    ghost use Rattle.std.specs.Prelude.{[]};
     ghost use Rattle.authenticator.specs.Kept.{CodesFit, KeysFit};
-    ghost use Rattle.authenticator.specs.Made.{IsMadeOf};
     ghost use Rattle.authenticator.specs.Membership.{Membership};
+    ghost use Rattle.authenticator.specs.RingView.{keys_of};
 
     ghost Value = { Membership };
 
-    ghost view = { λ r. record { seed = r.seed; faults = r.faults; clients = r.clients } };
+    ghost view = { λ r. record {
+        faults = r.faults;
+        clients = r.clients;
+        keys = keys_of r.source r.faults r.clients;
+        publics = [];
+    } };
 
-    ghost invariant = { λ r.
-        IsMadeOf r.source r.seed × KeysFit r.seed r.kept × CodesFit r.seed r.requests };
+    ghost invariant = { λ r. KeysFit (keys_of r.source r.faults r.clients) r.kept
+        × CodesFit (keys_of r.source r.faults r.clients) r.requests };
 }
 
 impl Ring {
-    /// The keys of a seed of 32 bytes. Of `3 * faults + 1` replicas `faults`, 1 to 3, may be faulty; `clients`, 1 to
-    /// 256, is the number of clients. Other numbers are taken as they are. It derives no key yet and takes no memory,
-    /// so it gives no error.
+    /// The keys that a seed of 32 bytes gives all parties. Of `3 * faults + 1` replicas `faults`, 1 to 3, may be faulty;
+    /// `clients`, 1 to 256, is the number of clients. It derives no key yet and takes no memory, so it gives no error.
     pub fn new(alloc: Global, seed: &[u8; 32], faults: u8, clients: u16) -> Ring
-        ensures { result ≡ record { seed = seed.now; faults = faults; clients = clients } }
+        ensures { result ≡ record {
+            faults = faults;
+            clients = clients;
+            keys = all_keys seed.now faults clients;
+            publics = [];
+        } }
+    {
+        Ring::from_source(alloc, faults, clients, Source::Seed(Seed::new(seed)))
+    }
+
+    /// The keys that one party has, and no other.
+    pub fn of_party(alloc: Global, faults: u8, clients: u16, keys: Vec<SharedKey>) -> Ring
+        ensures { result ≡ record { faults = faults; clients = clients; keys = keys.items; publics = [] } }
+    {
+        Ring::from_source(alloc, faults, clients, Source::Row(keys))
+    }
+
+    fn from_source(alloc: Global, faults: u8, clients: u16, source: Source) -> Ring
+        ensures { result ≡ record {
+            faults = faults;
+            clients = clients;
+            keys = keys_of source faults clients;
+            publics = [];
+        } }
     {
         Ring {
             alloc,
-            seed: *seed,
             faults,
             clients,
-            source: Key::new(seed),
+            source,
             kept: HashMap::new(alloc),
             requests: HashMap::new(alloc),
         }
@@ -108,21 +142,56 @@ impl Ring {
         }
     }
 
-    /// The authentication code of a text from one party to another.
-    pub(crate) fn mac(&mut self, from: u16, to: u16, text: &[u8]) -> [u8; 32]
-        ensures code { result ≡ mac_between self.old.seed from to text.now }
+    /// The authentication code of a text from one party to another, if they share a key.
+    pub(crate) fn shared_mac(&mut self, from: u16, to: u16, text: &[u8]) -> Option<[u8; 32]>
+        ensures code { result ≡ shared_mac self.old.keys from to text.now }
         ensures same { self.new ≡ self.old }
     {
         if let Some(key) = self.kept.get(&(from, to)) {
-            return key.mac(text);
+            return Some(key.mac(text));
         }
         self.first_mac(from, to, text)
     }
 
-    /// The authentication codes of a text from one party to four others. They are made together, but for the first text:
-    /// then some key is not kept yet.
+    // The code under a key that is not ready yet. A function pays for the size of its locals at each call, so the key is
+    // made ready here, apart from those that are kept.
+    fn first_mac(&mut self, from: u16, to: u16, text: &[u8]) -> Option<[u8; 32]>
+        ensures code { result ≡ shared_mac self.old.keys from to text.now }
+        ensures same { self.new ≡ self.old }
+    {
+        let bytes = self.shared_key(from, to)?;
+        let key = Key::new(&bytes);
+        let code = key.mac(text);
+        // If there is no room for a key, it is made ready again at the next use.
+        let _ = self.kept.insert((from, to), key);
+        Some(code)
+    }
+
+    // The key from one party to another, if they share one.
+    fn shared_key(&self, from: u16, to: u16) -> Option<[u8; 32]>
+        ensures { result ≡ find_key self.now.keys from to }
+    {
+        match &self.source {
+            Source::Seed(seed) => seed.shared_key(self.faults, self.clients, from, to),
+            Source::Row(keys) => key_among(keys.as_slice(), from, to),
+        }
+    }
+
+    /// The authentication code that one party makes of a text for another.
+    pub(crate) fn mac(&mut self, from: u16, to: u16, text: &[u8]) -> [u8; 32]
+        ensures code { result ≡ mac_between self.old.keys from to text.now }
+        ensures same { self.new ≡ self.old }
+    {
+        match self.shared_mac(from, to, text) {
+            Some(code) => code,
+            None => hmac(&[], text),
+        }
+    }
+
+    /// The codes that one party makes of a text for four others. They are made together, but for the first text: then
+    /// some key is not ready yet.
     pub(crate) fn macs(&mut self, from: u16, to: [u16; 4], text: &[u8]) -> [[u8; 32]; 4]
-        ensures codes { AreMacsTo self.old.seed from to text.now result }
+        ensures codes { AreMacsTo self.old.keys from to text.now result }
         ensures same { self.new ≡ self.old }
     {
         if let Some(macs) = self.kept_macs(from, to, text) {
@@ -139,7 +208,7 @@ impl Ring {
 
     // The codes of a text from one party to four others, if all their keys are kept.
     fn kept_macs(&self, from: u16, to: [u16; 4], text: &[u8]) -> Option<[[u8; 32]; 4]>
-        ensures { IfSome result (AreMacsTo self.now.seed from to text.now) }
+        ensures { IfSome result (AreMacsTo self.now.keys from to text.now) }
     {
         let [a, b, c, d] = to;
         let a = self.kept.get(&(from, a))?;
@@ -149,22 +218,9 @@ impl Ring {
         Some(mac_four([a, b, c, d], text))
     }
 
-    // The code under a key that is not kept yet. A function pays for the size of its locals at each call, so the key is
-    // made here, apart from those that are kept.
-    fn first_mac(&mut self, from: u16, to: u16, text: &[u8]) -> [u8; 32]
-        ensures code { result ≡ mac_between self.old.seed from to text.now }
-        ensures same { self.new ≡ self.old }
-    {
-        let key = Key::new(&self.source.mac(&key_text(from, to)));
-        let code = key.mac(text);
-        // If there is no room for a key, it is derived again at the next use.
-        let _ = self.kept.insert((from, to), key);
-        code
-    }
-
     /// The authentication code of a request's text from one party to another, if it is the last that was kept.
     pub(crate) fn kept_code(&self, from: u16, to: u16, text: &[u8]) -> Option<[u8; 32]>
-        ensures { IfSome result (λ code. code ≡ mac_between self.now.seed from to text.now) }
+        ensures { IfSome result (λ code. IsCodeBetween self.now.keys from to text.now code) }
     {
         let last = self.requests.get(&(from, to))?;
         if last.text.as_slice() != text {
@@ -175,7 +231,7 @@ impl Ring {
 
     /// Keeps a request's text with its code, instead of the last one between these parties.
     pub(crate) fn keep_code(&mut self, from: u16, to: u16, text: &[u8], code: [u8; 32])
-        requires { code ≡ mac_between self.old.seed from to text.now }
+        requires { IsCodeBetween self.old.keys from to text.now code }
         ensures { self.new ≡ self.old }
     {
         match self.requests.get_mut(&(from, to)) {
@@ -186,7 +242,7 @@ impl Ring {
 
     // Keeps the first text between these parties, with its code.
     fn keep_first_code(&mut self, from: u16, to: u16, text: &[u8], code: [u8; 32])
-        requires { code ≡ mac_between self.old.seed from to text.now }
+        requires { IsCodeBetween self.old.keys from to text.now code }
         ensures { self.new ≡ self.old }
     {
         // If there is no room for it, the code is made again at the next use.
@@ -195,21 +251,4 @@ impl Ring {
         };
         let _ = self.requests.insert((from, to), CodedText { text, code });
     }
-}
-
-/// The seed of a party's signatures, derived from that of the configuration. Only replicas sign.
-pub fn signing_seed(seed: &[u8; 32], signer: Party) -> [u8; 32]
-    ensures { result ≡ signing_seed seed.now (party_number signer) }
-{
-    let [high, low] = signer.number().to_be_bytes();
-    hmac(seed, &[b'S', high, low])
-}
-
-// The text that the key from one party to another is derived from.
-fn key_text(from: u16, to: u16) -> [u8; 5]
-    ensures { result ≡ 0x4d ∷ to_be_bytes w16 from ++ to_be_bytes w16 to }
-{
-    let [from_high, from_low] = from.to_be_bytes();
-    let [to_high, to_low] = to.to_be_bytes();
-    [b'M', from_high, from_low, to_high, to_low]
 }

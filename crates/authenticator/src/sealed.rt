@@ -6,8 +6,8 @@ ghost use Rattle.wire_format.specs.Lists.{Each};
 ghost use Rattle.authenticator.specs.Sealing.{IsSealable};
 ghost use Rattle.terms.specs.Parties.{party_number};
 ghost use Rattle.wire_format.specs.Views.{body_data, mac_data};
-ghost use Rattle.authenticator.specs.Authentic.{has_mac, is_mac_for};
-ghost use Rattle.authenticator.specs.Keys.{mac_between};
+ghost use Rattle.authenticator.specs.Authentic.{has_mac, has_some_mac, is_mac_for};
+ghost use Rattle.authenticator.specs.Keys.{shared_mac};
 ghost use Rattle.authenticator.specs.Opening.{RefusesFrame};
 ghost use Rattle.authenticator.specs.Headers.{is_authenticated};
 ghost use Rattle.wire.specs.Headers.{header_data};
@@ -109,8 +109,8 @@ impl Ring {
         receivers: &[Party],
     ) -> Result<Vec<u8>, SealFault>
         requires { IsSealable (body_data body.now) (map party_number receivers.now) }
-        ensures sealed { IfOk result (SealsBody self.old.seed body.now receivers.now) }
-        ensures large { TellsTooLong self.old.seed body.now receivers.now result }
+        ensures sealed { IfOk result (SealsBody self.old.keys body.now receivers.now) }
+        ensures large { TellsTooLong self.old.keys body.now receivers.now result }
         ensures same { self.new ≡ self.old }
     {
         let mut frame = match begin_frame(alloc, body, 2 + 34 * receivers.len()) {
@@ -132,7 +132,7 @@ impl Ring {
         receivers: &[Party],
     ) -> ArrayVec<ReceiverMac, MAX_RECEIVERS>
         requires { length receivers.now ≤ 10 }
-        ensures made { AreMacsFor self.old.seed sender text.now receivers.now result.items }
+        ensures made { AreMacsFor self.old.keys sender text.now receivers.now result.items }
         ensures formed { Each IsMac (map mac_data result.items) }
         ensures same { self.new ≡ self.old }
     {
@@ -151,7 +151,7 @@ impl Ring {
     fn group_entries(&mut self, sender: u16, text: &[u8], group: &[Party]) -> [ReceiverMac; 4]
         requires some { 0 < length group.now }
         requires few { length group.now ≤ 4 }
-        ensures made { AreMacsFor self.old.seed sender text.now group.now (take (length group.now) result) }
+        ensures made { AreMacsFor self.old.keys sender text.now group.now (take (length group.now) result) }
         ensures formed { Each IsMac (map mac_data (take (length group.now) result)) }
         ensures same { self.new ≡ self.old }
     {
@@ -170,7 +170,7 @@ impl Ring {
 
     // The MACs of the text for four receivers, which are made together.
     fn four_entries(&mut self, sender: u16, text: &[u8], receivers: [Party; 4]) -> [ReceiverMac; 4]
-        ensures made { AreMacsFor self.old.seed sender text.now receivers result }
+        ensures made { AreMacsFor self.old.keys sender text.now receivers result }
         ensures formed { Each IsMac (map mac_data result) }
         ensures same { self.new ≡ self.old }
     {
@@ -218,7 +218,7 @@ impl Ring {
 
     // Whether the authenticator has the right entry for the party or is a signature.
     fn is_authenticated(&mut self, header: &Header<'_>, party: u16) -> bool
-        ensures value { result ≡ is_authenticated self.old.seed party (header_data header.now) }
+        ensures value { result ≡ is_authenticated self.old.keys party (header_data header.now) }
         ensures same { self.new ≡ self.old }
     {
         match &header.authenticator {
@@ -227,8 +227,10 @@ impl Ring {
                 if header.is_request {
                     return self.proves_request(sender, party, header.text, entries);
                 }
-                let mac = self.mac(sender, party, header.text);
-                has_mac(entries, party, &mac)
+                match self.shared_mac(sender, party, header.text) {
+                    Some(mac) => has_mac(entries, party, &mac),
+                    None => false,
+                }
             },
             AuthenticatorBytes::Signature(_) => true,
         }
@@ -243,13 +245,15 @@ impl Ring {
         text: &[u8],
         entries: &MacBytes<'_>,
     ) -> bool
-        ensures value { result ≡ has_mac party (mac_between self.old.seed client party text.now) entries.now }
+        ensures value { result ≡ has_some_mac party (shared_mac self.old.keys client party text.now) entries.now }
         ensures same { self.new ≡ self.old }
     {
         if let Some(mac) = self.kept_code(client, party, text) {
             return has_mac(entries, party, &mac);
         }
-        let mac = self.mac(client, party, text);
+        let Some(mac) = self.shared_mac(client, party, text) else {
+            return false;
+        };
         if !has_mac(entries, party, &mac) {
             return false;
         }

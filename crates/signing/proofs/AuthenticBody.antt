@@ -10,7 +10,6 @@ use Rattle.wire_format.specs.Spelling.{SpellsFrame, body_spelling, is_signed, au
 use Rattle.wire_format.specs.Words.{frame_of}
 use Rattle.wire_format.proofs.Saying.{reads_frames}
 use Rattle.authenticator.specs.Authentic.{is_authentic}
-use Rattle.authenticator.specs.Keys.{signing_seed}
 use Rattle.authenticator.specs.Membership.{Membership, has_sender}
 use Rattle.authenticator.specs.Opening.{may_open}
 use Rattle.signing.specs.Signatures.{Verifies, verifies, shown_root, signature_of}
@@ -80,13 +79,13 @@ parts_of_another m party body h =
     (parts.0, eqb-false body.sender party (not-true (body.sender == party) parts.1))
 
 is_heard_of : (m : Membership) (party : ℕ) (frame : FrameData) → is_from_another m party frame.body ≡ true
-    → (is_signed frame.body.message ≡ true → has_signature m.seed frame ≡ true)
-    → (is_signed frame.body.message ≡ false → is_authentic m.seed party frame ≡ true) → is_authentic_to m party frame ≡ true
-is_heard_of m party frame = by_kind (is_signed frame.body.message) (is_from_another m party frame.body) (is_authentic m.seed party frame) (has_signature m.seed frame)
+    → (is_signed frame.body.message ≡ true → has_signature m.publics frame ≡ true)
+    → (is_signed frame.body.message ≡ false → is_authentic m.keys party frame ≡ true) → is_authentic_to m party frame ≡ true
+is_heard_of m party frame = by_kind (is_signed frame.body.message) (is_from_another m party frame.body) (is_authentic m.keys party frame) (has_signature m.publics frame)
 
 -- the test of a signed body
 abbrev is_signed_by : Membership → FrameData → Bool
-is_signed_by m frame = is_signed frame.body.message && (has_sender m frame.body && has_signature m.seed frame)
+is_signed_by m frame = is_signed frame.body.message && (has_sender m frame.body && has_signature m.publics frame)
 
 -- ---- the laws
 
@@ -96,7 +95,7 @@ opened_is_authentic m party bytes frame opens other signed =
     passes (is_authentic_to m party) (frame_of bytes) frame ((reads_frames bytes frame).1 opens.spelled)
     (is_heard_of m party frame (from_another m party frame.body opens.sender other) signed by_macs)
   where
-    by_macs : is_signed frame.body.message ≡ false → is_authentic m.seed party frame ≡ true
+    by_macs : is_signed frame.body.message ≡ false → is_authentic m.keys party frame ≡ true
     by_macs plain =
         let kind : authenticator_is_signed frame.authenticator ≡ false = opens.spelled.valid.proved ∙ plain in
         rw kind at opens.proved
@@ -109,7 +108,7 @@ authentic_was_opened m party bytes body h =
     let spelled : SpellsFrame bytes frame = (reads_frames bytes frame).0 from.1 in
     let parts = and_parts _ _ from.2 in
     let another = parts_of_another m party frame.body parts.0 in
-    let kinds = of_kind (is_signed frame.body.message) (is_authentic m.seed party frame) (has_signature m.seed frame) parts.1 in
+    let kinds = of_kind (is_signed frame.body.message) (is_authentic m.keys party frame) (has_signature m.publics frame) parts.1 in
     record {
       frame = frame;
       opens = record { spelled = spelled; sender = another.0; proved = proved frame spelled kinds.1 (is_signed frame.body.message) refl };
@@ -118,8 +117,8 @@ authentic_was_opened m party bytes body h =
       other = subst (λ (b : BodyData). b.sender ≢ party) from.3 another.1;
     }
   where
-    proved : (frame : FrameData) → SpellsFrame bytes frame → (is_signed frame.body.message ≡ false → is_authentic m.seed party frame ≡ true)
-        → (b : Bool) → is_signed frame.body.message ≡ b → may_open m.seed party frame ≡ true
+    proved : (frame : FrameData) → SpellsFrame bytes frame → (is_signed frame.body.message ≡ false → is_authentic m.keys party frame ≡ true)
+        → (b : Bool) → is_signed frame.body.message ≡ b → may_open m.keys party frame ≡ true
     proved frame spelled plain true is = rw (spelled.valid.proved, is) refl
     proved frame spelled plain false is = rw (plain is) (or-true _)
 
@@ -139,7 +138,7 @@ authentic_was_signed m party bytes body h signed =
     let parts = and_parts _ _ from.2 in
     let known = (parts_of_another m party from.0.body parts.0).0 in
     let kind : is_signed from.0.body.message ≡ true = rw from.3 signed in
-    let kinds = of_kind (is_signed from.0.body.message) (is_authentic m.seed party from.0) (has_signature m.seed from.0) parts.1 in
+    let kinds = of_kind (is_signed from.0.body.message) (is_authentic m.keys party from.0) (has_signature m.publics from.0) parts.1 in
     passes (is_signed_by m) (frame_of bytes) from.0 from.1 (and_from _ _ kind (and_from _ _ known (kinds.0 kind))) ∙ ap Some from.3
 
 pub signed_was_signed : SignedWasSigned
@@ -159,9 +158,11 @@ signed_was_signed m bytes body h =
 
 pub signer_is_authentic : SignerIsAuthentic
 unfolding signed_body
-signer_is_authentic m bytes body leaf within known spelled =
+signer_is_authentic m seed bytes body leaf within own known spelled =
     passes (is_signed_by m) (frame_of bytes)
-    (record { body = body; authenticator = signature (signature_of (signing_seed m.seed body.sender) leaf (body_spelling body)) })
+    (record { body = body; authenticator = signature (signature_of seed leaf (body_spelling body)) })
     ((reads_frames bytes _).1 spelled)
     (and_from _ _ (sym spelled.valid.proved) (and_from _ _ known
-    ((verifies-Decides _ (body_spelling body) _).1 (signature_of-verifies (signing_seed m.seed body.sender) (body_spelling body) leaf within))))
+    ((verifies-Decides _ (body_spelling body) _).1
+    (subst (λ (public : List ℕ). Verifies public (body_spelling body) (signature_of seed leaf (body_spelling body))) (sym own)
+    (signature_of-verifies seed (body_spelling body) leaf within)))))

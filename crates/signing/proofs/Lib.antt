@@ -7,3 +7,4 @@ pub mod Nodes
 pub mod Parts
 pub mod Signed
 pub mod Whether
+pub mod Publics

@@ -6,28 +6,27 @@ use Rattle.wire.specs.Headers.{HeaderData, header_of, HasHeader}
 use Rattle.wire.proofs.Whole.{one_frame}
 use Rattle.authenticator.specs.declared.sealed.OpenFault.{OpenFault}
 use Rattle.authenticator.specs.declared.sealed.OpenFault.TheVariants as open_faults
-use Rattle.authenticator.specs.Keys.{signing_seed}
 use Rattle.authenticator.specs.Membership.{Membership}
 use Rattle.authenticator.specs.Headers.{header_refusal}
 use Rattle.authenticator.specs.Opening.{Opens}
 use Rattle.authenticator.proofs.Refusing.{header_refused, header_opened, header_not_refused}
-use Rattle.signing.specs.Signatures.{public_key}
+use Rattle.signing.specs.Publics.{public_of}
 use Rattle.signing.specs.Faults.{authentication_fault}
 use Rattle.signing.specs.AuthenticBody.{signs, has_signature, authentic}
 use Rattle.signing.specs.Receiving.{HasNoSignature, IsOfOwnName, RefusesBytes, authenticator_holds, signature_holds}
 use Rattle.signing.proofs.AuthenticBody.{opened_is_authentic, authentic_was_opened}
 
 -- of a frame that is to be signed an authenticator that holds is its sender's signature
-holds : (seed text : List ℕ) (sender : ℕ) (authenticator : AuthenticatorData) → authenticator_holds seed sender text authenticator ≡ true → authenticator_is_signed authenticator ≡ true
-    → signs (public_key (signing_seed seed sender)) text authenticator ≡ true
-holds seed text sender (macs entries) h signed = absurd (let g : ⊥ = cc in g)
-holds seed text sender (signature s) h signed = h
+holds : (publics : List (List ℕ)) (text : List ℕ) (sender : ℕ) (authenticator : AuthenticatorData) → authenticator_holds publics sender text authenticator ≡ true → authenticator_is_signed authenticator ≡ true
+    → signs (public_of publics sender) text authenticator ≡ true
+holds publics text sender (macs entries) h signed = absurd (let g : ⊥ = cc in g)
+holds publics text sender (signature s) h signed = h
 
 -- only a signature fails
-fails : (seed text : List ℕ) (sender : ℕ) (authenticator : AuthenticatorData) → authenticator_holds seed sender text authenticator ≡ false
-    → (authenticator_is_signed authenticator ≡ true) × (signs (public_key (signing_seed seed sender)) text authenticator ≡ false)
-fails seed text sender (macs entries) h = absurd (let g : ⊥ = cc in g)
-fails seed text sender (signature s) h = (refl, h)
+fails : (publics : List (List ℕ)) (text : List ℕ) (sender : ℕ) (authenticator : AuthenticatorData) → authenticator_holds publics sender text authenticator ≡ false
+    → (authenticator_is_signed authenticator ≡ true) × (signs (public_of publics sender) text authenticator ≡ false)
+fails publics text sender (macs entries) h = absurd (let g : ⊥ = cc in g)
+fails publics text sender (signature s) h = (refl, h)
 
 module _ (m : Membership) (party : ℕ) (bytes : List ℕ) (header : HeaderData) (has : HasHeader bytes header) where
   header_is : (frame : FrameData) → SpellsFrame bytes frame → header ≡ header_of frame
@@ -57,22 +56,22 @@ module _ (m : Membership) (party : ℕ) (bytes : List ℕ) (header : HeaderData)
     opens : (frame : FrameData) → SpellsFrame bytes frame → Opens m party bytes frame
     opens frame s = header_opened m party bytes header has frame s none
 
-    pub authentic_by_header : (frame : FrameData) → SpellsFrame bytes frame → header.sender ≢ party → signature_holds m.seed header ≡ true → authentic m party bytes ≡ Some frame.body
+    pub authentic_by_header : (frame : FrameData) → SpellsFrame bytes frame → header.sender ≢ party → signature_holds m.publics header ≡ true → authentic m party bytes ≡ Some frame.body
     authentic_by_header frame s other h =
-        let k : signature_holds m.seed (header_of frame) ≡ true = ap (signature_holds m.seed) (sym (header_is frame s)) ∙ h in
+        let k : signature_holds m.publics (header_of frame) ≡ true = ap (signature_holds m.publics) (sym (header_is frame s)) ∙ h in
         opened_is_authentic m party bytes frame (opens frame s) (λ e. other (ap (λ (h : HeaderData). h.sender) (header_is frame s) ∙ e))
-        (λ signed. holds m.seed (body_spelling frame.body) frame.body.sender frame.authenticator k (s.valid.proved ∙ signed))
+        (λ signed. holds m.publics (body_spelling frame.body) frame.body.sender frame.authenticator k (s.valid.proved ∙ signed))
 
-    unsigned : (frame : FrameData) → SpellsFrame bytes frame → signature_holds m.seed header ≡ false → (is_signed frame.body.message ≡ true) × (has_signature m.seed frame ≡ false)
+    unsigned : (frame : FrameData) → SpellsFrame bytes frame → signature_holds m.publics header ≡ false → (is_signed frame.body.message ≡ true) × (has_signature m.publics frame ≡ false)
     unsigned frame s h =
-        let f = fails m.seed (body_spelling frame.body) frame.body.sender frame.authenticator (ap (signature_holds m.seed) (sym (header_is frame s)) ∙ h) in
+        let f = fails m.publics (body_spelling frame.body) frame.body.sender frame.authenticator (ap (signature_holds m.publics) (sym (header_is frame s)) ∙ h) in
         (sym s.valid.proved ∙ f.0, f.1)
 
-    pub unsigned_by_header : header.sender ≢ party → signature_holds m.seed header ≡ false → HasNoSignature m party bytes × ¬ IsOfOwnName party bytes
+    pub unsigned_by_header : header.sender ≢ party → signature_holds m.publics header ≡ false → HasNoSignature m party bytes × ¬ IsOfOwnName party bytes
     unsigned_by_header other h =
         let u = unsigned has.0 has.1 h in (record { frame = has.0; opens = opens has.0 has.1; signed = u.0; unsigned = u.1 }, not_own other)
 
-    pub unsigned_not_heard : signature_holds m.seed header ≡ false → (body : BodyData) → authentic m party bytes ≡ Some body → ⊥
+    pub unsigned_not_heard : signature_holds m.publics header ≡ false → (body : BodyData) → authentic m party bytes ≡ Some body → ⊥
     unsigned_not_heard h body e =
         let w = authentic_was_opened m party bytes body e in
         let u = unsigned w.frame w.opens.spelled h in

@@ -26,10 +26,10 @@ not_heard_of_no_frame m me bytes none =
     none_heard (authentic m me bytes) (λ body h. let w = authentic_was_opened m me bytes body h in none w.frame w.opens.spelled)
 
 -- MACs are no signature that could fail
-pub macs_hold : (seed text : List ℕ) (sender : ℕ) (authenticator : AuthenticatorData) → authenticator_is_signed authenticator ≡ false
-    → authenticator_holds seed sender text authenticator ≡ true
-macs_hold seed text sender (macs entries) plain = refl
-macs_hold seed text sender (signature s) plain = absurd (let g : ⊥ = cc in g)
+pub macs_hold : (publics : List (List ℕ)) (text : List ℕ) (sender : ℕ) (authenticator : AuthenticatorData) → authenticator_is_signed authenticator ≡ false
+    → authenticator_holds publics sender text authenticator ≡ true
+macs_hold publics text sender (macs entries) plain = refl
+macs_hold publics text sender (signature s) plain = absurd (let g : ⊥ = cc in g)
 
 pub none_given : (refusal : Option OpenFault) → is_some refusal ≡ false → None ≡ refusal
 none_given None e = refl
@@ -55,7 +55,7 @@ module _ (m : Membership) (me : ℕ) (bytes : List ℕ) (header : HeaderData) (h
       receives =
           let body = holds.body.0.body in
           let plain : authenticator_is_signed holds.body.0.authenticator ≡ false = holds.body.1.valid.proved ∙ ap (λ (b : BodyData). is_signed b.message) holds.body.2 in
-          let h : signature_holds m.seed header ≡ true = ap (signature_holds m.seed) header_is ∙ macs_hold m.seed (body_spelling body) body.sender holds.body.0.authenticator plain in
+          let h : signature_holds m.publics header ≡ true = ap (signature_holds m.publics) header_is ∙ macs_hold m.publics (body_spelling body) body.sender holds.body.0.authenticator plain in
           authentic_by_header m me bytes header has passes holds.body.0 holds.body.1 other h
           ∙ ap Some (holds.body.2 ∙ ap (λ (s : ℕ). record { sender = s; message = request it.timestamp.0 it.mode holds.op }) from)
 

@@ -8,19 +8,18 @@ use Rattle.wire_format.specs.Spelling.{body_spelling, is_signed}
 use Rattle.wire_format.specs.Words.{frame_of}
 use Rattle.authenticator.specs.Membership.{Membership, has_sender}
 use Rattle.authenticator.specs.Authentic.{is_authentic}
-use Rattle.authenticator.specs.Keys.{signing_seed}
-use Rattle.signing.specs.Signatures.{public_key, verifies}
+use Rattle.signing.specs.Publics.{public_of}
+use Rattle.signing.specs.Signatures.{verifies}
 
 -- the authenticator is a signature of the text under the public key
 abbrev pub signs : List ℕ → List ℕ → AuthenticatorData → Bool
 signs public text (macs entries) = false
 signs public text (signature s) = verifies public text s
 
--- the frame has a signature of its body by its sender
-abbrev pub has_signature : List ℕ → FrameData → Bool
-has_signature seed frame =
-    signs (public_key (signing_seed seed frame.body.sender)) (body_spelling frame.body)
-    frame.authenticator
+-- the frame has a signature of its body that verifies under its sender's public key
+abbrev pub has_signature : List (List ℕ) → FrameData → Bool
+has_signature publics frame =
+    signs (public_of publics frame.body.sender) (body_spelling frame.body) frame.authenticator
 
 -- the body comes from another party, that sends such messages
 abbrev pub is_from_another : Membership → ℕ → BodyData → Bool
@@ -31,7 +30,7 @@ abbrev pub is_authentic_to : Membership → ℕ → FrameData → Bool
 is_authentic_to m party frame =
     is_from_another m party frame.body
     && (if is_signed frame.body.message
-    then has_signature m.seed frame else is_authentic m.seed party frame)
+    then has_signature m.publics frame else is_authentic m.keys party frame)
 
 -- the body of the frame in the bytes, if it is authentic to the party
 unfoldable pub authentic : Membership → ℕ → List ℕ → Option BodyData
@@ -42,7 +41,7 @@ authentic m party bytes =
 -- the frame is a view change or new view from a party that sends such messages, with its signature
 abbrev pub is_signed_frame : Membership → FrameData → Bool
 is_signed_frame m frame =
-    is_signed frame.body.message && (has_sender m frame.body && has_signature m.seed frame)
+    is_signed frame.body.message && (has_sender m frame.body && has_signature m.publics frame)
 
 -- the body of a view change or new view, whoever gets the bytes, its sender too
 unfoldable pub signed_body : Membership → List ℕ → Option BodyData

@@ -2,10 +2,10 @@
 use Rattle.std.specs.Prelude.{◌≡◌, ◌≢◌, ◌↔◌, ◌<◌, ℕ, IsTrue, List, Some}
 use Rattle.wire_format.specs.Messages.{BodyData, FrameData, signature}
 use Rattle.wire_format.specs.Spelling.{SpellsFrame, body_spelling, is_signed}
-use Rattle.authenticator.specs.Keys.{signing_seed}
 use Rattle.authenticator.specs.Membership.{Membership, has_sender}
 use Rattle.authenticator.specs.Opening.{Opens}
-use Rattle.signing.specs.Signatures.{signature_of, verifies, Verifies}
+use Rattle.signing.specs.Publics.{public_of}
+use Rattle.signing.specs.Signatures.{public_key, signature_of, verifies, Verifies}
 use Rattle.signing.specs.AuthenticBody.{has_signature, authentic, signed_body}
 
 -- a frame of another party that opens is authentic, if it is not to be signed or has its sender's signature
@@ -13,7 +13,7 @@ abbrev pub OpenedIsAuthentic : Type 0
 OpenedIsAuthentic =
     (m : Membership) (party : ℕ) (bytes : List ℕ) (frame : FrameData)
     → Opens m party bytes frame → frame.body.sender ≢ party
-    → (IsTrue (is_signed frame.body.message) → IsTrue (has_signature m.seed frame))
+    → (IsTrue (is_signed frame.body.message) → IsTrue (has_signature m.publics frame))
     → authentic m party bytes ≡ Some frame.body
 
 -- The bytes are a frame of this body that opens, with its sender's signature if it is to be signed. The sender is
@@ -21,7 +21,7 @@ OpenedIsAuthentic =
 pub record OpensAs (m : Membership) (party : ℕ) (bytes : List ℕ) (body : BodyData) : Type 0 where
   pub frame : FrameData
   pub opens : Opens m party bytes frame
-  pub signed : IsTrue (is_signed frame.body.message) → IsTrue (has_signature m.seed frame)
+  pub signed : IsTrue (is_signed frame.body.message) → IsTrue (has_signature m.publics frame)
   pub body_is : frame.body ≡ body
   pub other : body.sender ≢ party
 
@@ -50,7 +50,7 @@ pub record IsSignedFrame (m : Membership) (bytes : List ℕ) (body : BodyData) :
   pub spelled : SpellsFrame bytes frame
   pub sender : IsTrue (has_sender m frame.body)
   pub to_sign : IsTrue (is_signed frame.body.message)
-  pub signed : IsTrue (has_signature m.seed frame)
+  pub signed : IsTrue (has_signature m.publics frame)
   pub body_is : frame.body ≡ body
 
 -- there are no other signed bodies
@@ -59,21 +59,21 @@ SignedWasSigned =
     (m : Membership) (bytes : List ℕ) (body : BodyData)
     → signed_body m bytes ≡ Some body → IsSignedFrame m bytes body
 
--- the body with its sender's signature by a leaf
+-- the body with a signature by a leaf of a seed
 abbrev pub frame_signed_by_leaf : List ℕ → BodyData → ℕ → FrameData
 frame_signed_by_leaf seed body leaf =
     record {
       body = body;
       authenticator =
-          signature (signature_of (signing_seed seed body.sender) leaf (body_spelling body));
+          signature (signature_of seed leaf (body_spelling body));
     }
 
--- a frame that a party signs with one of its 64 leaves has a signed body
+-- a frame that a party signs with one of the 64 leaves of its seed has a signed body
 abbrev pub SignerIsAuthentic : Type 0
 SignerIsAuthentic =
-    (m : Membership) (bytes : List ℕ) (body : BodyData) (leaf : ℕ) → leaf < 64
-    → IsTrue (has_sender m body) → SpellsFrame bytes (frame_signed_by_leaf m.seed body leaf)
-    → signed_body m bytes ≡ Some body
+    (m : Membership) (seed bytes : List ℕ) (body : BodyData) (leaf : ℕ) → leaf < 64
+    → public_of m.publics body.sender ≡ public_key seed → IsTrue (has_sender m body)
+    → SpellsFrame bytes (frame_signed_by_leaf seed body leaf) → signed_body m bytes ≡ Some body
 
 -- the test of a signature is true exactly if the signature verifies
 abbrev pub VerifyingIsDecided : Type 0

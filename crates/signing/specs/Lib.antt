@@ -3,6 +3,8 @@ pub mod Fours
 pub mod Results
 pub mod Hashing
 pub mod AuthenticBody
+pub mod Publics
+pub mod PublicsView
 pub mod Receiving
 pub mod Joined
 pub mod Lamport

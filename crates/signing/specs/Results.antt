@@ -6,13 +6,13 @@ use Rattle.wire_format.specs.Appends.{Appends}
 use Rattle.tuple_codec.specs.Results.{ReturnsEach}
 use Rattle.wire_format.specs.Messages.{BodyData}
 use Rattle.wire_format.specs.Views.{body_data}
-use Rattle.authenticator.specs.Keys.{signing_seed}
 use Rattle.authenticator.specs.Membership.{Membership}
 use Rattle.signing.specs.declared.authentication_fault.AuthenticationFault.{AuthenticationFault}
 use Rattle.signing.specs.declared.authentication_fault.AuthenticationFault.TheVariants as faults
 use Rattle.signing.specs.declared.authentic_frame.AuthenticFrame.{AuthenticFrame}
 use Rattle.signing.specs.AuthenticBody.{authentic}
-use Rattle.signing.specs.Signatures.{public_key, path_digests, IsSignature, Verifies}
+use Rattle.signing.specs.Publics.{public_of}
+use Rattle.signing.specs.Signatures.{path_digests, IsSignature, Verifies}
 use Rattle.signing.specs.Signing.{HasNodes}
 
 -- the body is authentic to the party
@@ -25,13 +25,9 @@ AuthenticatesEach m party bytes result =
     ReturnsEach faults.NoMemory (λ h. body_data h.body)
     (λ (body : BodyData). authentic m (party_number party) bytes ≡ Some body) result
 
--- the public key of a replica
-abbrev pub public_key_of : List ℕ → Party → List ℕ
-public_key_of seed signer = public_key (signing_seed seed (party_number signer))
-
 -- the bytes are a replica's signature of the text
-abbrev pub IsSignedBy : List ℕ → Party → List ℕ → List ℕ → Type 0
-IsSignedBy seed signer text bytes = Verifies (public_key_of seed signer) text bytes
+abbrev pub IsSignedBy : List (List ℕ) → Party → List ℕ → List ℕ → Type 0
+IsSignedBy publics signer text bytes = Verifies (public_of publics (party_number signer)) text bytes
 
 -- the bytes if they are a signature, or None
 abbrev pub FindsSignature : List ℕ → Option (List ℕ) → Type 0

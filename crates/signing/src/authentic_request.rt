@@ -1,8 +1,9 @@
 //! Requests, authenticated in the bytes of their frames.
 
-ghost use Rattle.std.specs.Prelude.{◌≡◌, true, IfSome, IsNone};
+ghost use Rattle.std.specs.Prelude.{◌≡◌, ℕ, List, true, IfSome, IsNone};
 ghost use Rattle.wire.specs.Marks.{has_type_of_requests};
 ghost use Rattle.signing.specs.AuthenticBody.{authentic};
+ghost use Rattle.signing.specs.Publics.{knows};
 ghost use Rattle.signing.specs.Requests.{AuthenticatesRequest};
 
 use authenticator::Ring;
@@ -27,8 +28,8 @@ pub fn authenticate_request<'b>(
     bytes: &'b [u8],
 ) -> Option<AuthenticRequest<'b>>
     requires { has_type_of_requests bytes.now ≡ true }
-    ensures some { IfSome result (AuthenticatesRequest ring.old me.0 bytes.now) }
-    ensures none { IsNone result → authentic ring.old me.0 bytes.now ≡ None }
+    ensures some { (publics : List (List ℕ)) → IfSome result (AuthenticatesRequest (knows ring.old publics) me.0 bytes.now) }
+    ensures none { (publics : List (List ℕ)) → IsNone result → authentic (knows ring.old publics) me.0 bytes.now ≡ None }
     ensures same { ring.new ≡ ring.old }
 {
     let Ok(header) = judge(bytes) else {

@@ -4,6 +4,7 @@ ghost use Rattle.std.specs.Prelude.{◌≡◌, IfOk, IfErr, is_ok, is_some};
 ghost use Rattle.terms.specs.Parties.{party_number};
 ghost use Rattle.wire.specs.Headers.{header_data};
 ghost use Rattle.signing.specs.AuthenticBody.{authentic};
+ghost use Rattle.signing.specs.Publics.{knows};
 ghost use Rattle.signing.specs.Receiving.{RefusesBytes, signature_holds};
 ghost use Rattle.signing.specs.Results.{IsAuthenticTo, AuthenticatesEach};
 
@@ -17,7 +18,7 @@ use wire::{AuthenticatorBytes, Header, decode_judged_body, judge};
 
 /// The frame in the bytes, if it is authentic to `me`: a frame of another party, which takes part and may send such a
 /// message, with the right MAC for `me`, or signed by its sender where it is a view change or a new view. Its body
-/// alone is decoded. The keys and the ring are of one seed.
+/// alone is decoded.
 ///
 /// # Errors
 ///
@@ -30,11 +31,10 @@ pub fn authenticate<'b>(
     bytes: &'b [u8],
     me: Party,
 ) -> Result<AuthenticFrame<'b>, AuthenticationFault>
-    requires { publics.now ≡ ring.old.seed }
-    ensures authentic { IfOk result (IsAuthenticTo ring.old me bytes.now) }
+    ensures authentic { IfOk result (IsAuthenticTo (knows ring.old publics.now) me bytes.now) }
     ensures carried { IfOk result (λ h. h.bytes.now ≡ bytes.now) }
-    ensures all { AuthenticatesEach ring.old me bytes.now result }
-    ensures refused { IfErr result (RefusesBytes ring.old (party_number me) bytes.now) }
+    ensures all { AuthenticatesEach (knows ring.old publics.now) me bytes.now result }
+    ensures refused { IfErr result (RefusesBytes (knows ring.old publics.now) (party_number me) bytes.now) }
     ensures ring { ring.new ≡ ring.old }
 {
     check_authentic(ring, publics, bytes, me)?;
@@ -46,8 +46,7 @@ pub fn authenticate<'b>(
 /// out. The bytes are judged where they lie: nothing is decoded, and no memory is taken but for the keys and requests
 /// that the ring keeps.
 pub fn is_authentic_for(ring: &mut Ring, publics: &PublicKeys, bytes: &[u8], me: Party) -> bool
-    requires { publics.now ≡ ring.old.seed }
-    ensures authentic { result ≡ is_some (authentic ring.old (party_number me) bytes.now) }
+    ensures authentic { result ≡ is_some (authentic (knows ring.old publics.now) (party_number me) bytes.now) }
     ensures ring { ring.new ≡ ring.old }
 {
     check_authentic(ring, publics, bytes, me).is_ok()
@@ -61,9 +60,8 @@ fn check_authentic(
     bytes: &[u8],
     me: Party,
 ) -> Result<(), AuthenticationFault>
-    requires { publics.now ≡ ring.old.seed }
-    ensures authentic { is_ok result ≡ is_some (authentic ring.old (party_number me) bytes.now) }
-    ensures refused { IfErr result (RefusesBytes ring.old (party_number me) bytes.now) }
+    ensures authentic { is_ok result ≡ is_some (authentic (knows ring.old publics.now) (party_number me) bytes.now) }
+    ensures refused { IfErr result (RefusesBytes (knows ring.old publics.now) (party_number me) bytes.now) }
     ensures ring { ring.new ≡ ring.old }
 {
     let header = judge(bytes)?;

@@ -18,6 +18,7 @@
 mod authentic_frame;
 mod authentic_request;
 mod authentication_fault;
+mod dealt;
 mod from_bytes;
 mod hashing;
 mod laws;

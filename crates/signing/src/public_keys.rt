@@ -1,102 +1,84 @@
 //! The public keys of a configuration's replicas.
 
-ghost use Rattle.std.specs.Prelude.{◌≡◌, ◌↔◌, IsTrue, IfOk, IfSome};
-ghost use Rattle.authenticator.specs.Keys.{signing_seed};
+ghost use Rattle.std.specs.Prelude.{◌≡◌, ◌↔◌, ◌≤◌, IsTrue, IfOk, Some, slice_get};
 ghost use Rattle.signing.specs.AuthenticBody.{has_signature};
-ghost use Rattle.signing.specs.Signatures.{public_key};
+ghost use Rattle.signing.specs.Publics.{derived_publics};
+ghost use Rattle.terms.specs.Parties.{party_number};
 ghost use Rattle.wire_format.specs.Spelling.{SpellsFrame};
 ghost use Rattle.wire_format.specs.Views.{frame_data};
-ghost use Rattle.signing.specs.Results.{IsSignedBy, public_key_of};
+ghost use Rattle.signing.specs.Results.{IsSignedBy};
 
+use crate::dealt::Dealt;
 use crate::signature::{is_signature, verify_bytes};
-use crate::tree::KeyTree;
-use authenticator::signing_seed;
 use std::alloc::Global;
-use std::array;
 use std::marker::Model;
-use std::sync::{Arc, OnceLock};
-use terms::{NoMemory, Party};
+use std::sync::Arc;
+use terms::{NoMemory, Party, ReplicaId};
 use wire::{Authenticator, Frame, body_bytes};
 
-/// The most replicas of a configuration.
-const MAX_REPLICAS: usize = 10;
-
-// A public key with its origin. Contracts know of a locked value only what its type promises.
-#[derive(Clone, Copy, Drop)]
-struct Derived {
-    seed: [u8; 32],
-    signer: u16,
-    key: [u8; 32],
-    ghost right: { key ≡ public_key (signing_seed seed signer) },
+// Where public keys come from.
+#[derive(Drop)]
+enum Origin {
+    Dealt(Dealt),
+    Known(Arc<Vec<[u8; 32]>>),
 }
 
-impl Derived {
-    fn new(seed: &[u8; 32], signer: Party, key: [u8; 32]) -> Derived
-        requires { key ≡ public_key_of seed.now signer }
-    {
-        Derived {
-            seed: *seed,
-            signer: signer.number(),
-            key,
-        }
-    }
-
-    // The key, if it is this replica's under this seed.
-    fn key_of(&self, seed: &[u8; 32], signer: Party) -> Option<[u8; 32]>
-        ensures { IfSome result (λ key. key ≡ public_key_of seed.now signer) }
-    {
-        if self.seed == *seed && self.signer == signer.number() {
-            Some(self.key)
-        } else {
-            None
-        }
-    }
-}
-
-/// The public keys of the replicas of one configuration. Each is derived from the configuration's seed when it first
-/// verifies a text, which takes as long as a tree of keys. It is not derived if its signer handed it in before. Then it
-/// is kept for all owners of these keys, in any threads. If two threads first need it at once, each derives it.
+/// The public keys of the replicas of one configuration, for all who share them, in any threads. They are known; or a
+/// seed gives them. Then each is derived when it first verifies a text, which takes as long as a tree of keys, unless its
+/// signer handed it in before. If two threads first need it at once, each derives it.
 #[derive(Drop)]
 pub struct PublicKeys {
-    seed: [u8; 32],
-    kept: Arc<[OnceLock<Derived>; MAX_REPLICAS]>,
+    origin: Origin,
 }
 
 impl Model for PublicKeys {
     ghost use Rattle.std.specs.Prelude.{ℕ, List};
+    ghost use Rattle.signing.specs.PublicsView.{publics_of};
 
-    ghost Value = { List ℕ };
+    ghost Value = { List (List ℕ) };
 
-    ghost view = { λ k. k.seed };
+    ghost view = { λ k. publics_of k.origin };
 }
 
 impl PublicKeys {
-    /// The public keys of a configuration's seed. It derives nothing yet, and later calls take no memory.
-    pub fn new(alloc: Global, seed: &[u8; 32]) -> Result<PublicKeys, NoMemory>
-        ensures { IfOk result (λ keys. keys ≡ seed.now) }
+    /// The public keys that a seed gives the `3 * faults + 1` replicas, of which `faults`, at most 3, may be faulty. It derives nothing yet, and later calls take no
+    /// memory.
+    pub fn new(alloc: Global, seed: &[u8; 32], faults: u8) -> Result<PublicKeys, NoMemory>
+        requires { faults ≤ 3 }
+        ensures { IfOk result (λ keys. keys ≡ derived_publics seed.now faults) }
     {
-        let kept = Arc::new(alloc, array::from_fn(|_| OnceLock::new()))?;
-        Ok(PublicKeys { seed: *seed, kept })
+        Ok(PublicKeys {
+            origin: Origin::Dealt(Dealt::new(alloc, seed, faults)?),
+        })
+    }
+
+    /// These public keys, that of replica 0 first.
+    pub fn of_replicas(alloc: Global, keys: Vec<[u8; 32]>) -> Result<PublicKeys, NoMemory>
+        ensures { IfOk result (λ publics. publics ≡ keys.items) }
+    {
+        Ok(PublicKeys {
+            origin: Origin::Known(Arc::new(alloc, keys)?),
+        })
     }
 
     /// The same keys for one more owner: a key that one owner derives is there for all.
     pub fn share(&self) -> Result<PublicKeys, NoMemory>
         ensures { IfOk result (λ keys. keys ≡ self.now) }
     {
-        let kept = Arc::try_clone(&self.kept)?;
-        Ok(PublicKeys {
-            seed: self.seed,
-            kept,
-        })
+        let origin = match &self.origin {
+            Origin::Dealt(dealt) => Origin::Dealt(dealt.share()?),
+            Origin::Known(keys) => Origin::Known(Arc::try_clone(keys)?),
+        };
+        Ok(PublicKeys { origin })
     }
 
-    /// The public key of a replica.
-    pub fn public(&self, signer: Party) -> [u8; 32]
-        ensures key { result ≡ public_key_of self.now signer }
+    /// The public key of a replica. Nobody else has one.
+    pub fn public(&self, signer: Party) -> Option<[u8; 32]>
+        ensures key { result ≡ slice_get self.now (party_number signer) }
     {
-        match self.kept_key(signer) {
-            Some(key) => key,
-            None => self.derive(signer),
+        match &self.origin {
+            Origin::Dealt(dealt) => dealt.public(signer),
+            Origin::Known(keys) => keys.get(usize::from(signer.number())).copied(),
         }
     }
 
@@ -104,7 +86,13 @@ impl PublicKeys {
     pub fn verify(&self, signer: Party, text: &[u8], signature: &[u8]) -> bool
         ensures verified { IsTrue result ↔ IsSignedBy self.now signer text.now signature.now }
     {
-        is_signature(signature) && verify_bytes(&self.public(signer), text, signature)
+        if !is_signature(signature) {
+            return false;
+        }
+        match self.public(signer) {
+            Some(public) => verify_bytes(&public, text, signature),
+            None => false,
+        }
     }
 
     /// Whether the frame has a signature of its body by its sender. The bytes spell the frame.
@@ -120,29 +108,12 @@ impl PublicKeys {
         }
     }
 
-    fn kept_key(&self, signer: Party) -> Option<[u8; 32]>
-        ensures { IfSome result (λ key. key ≡ public_key_of self.now signer) }
+    /// Keeps the public key of a replica, which its signer knows, for all owners. Nothing is kept if these are known.
+    pub fn keep(&self, signer: ReplicaId, key: [u8; 32])
+        requires { slice_get self.now signer.0 ≡ Some key }
     {
-        let place = self.kept.get(usize::from(signer.number()))?;
-        place.get()?.key_of(&self.seed, signer)
-    }
-
-    // Derives a key and keeps it.
-    fn derive(&self, signer: Party) -> [u8; 32]
-        ensures { result ≡ public_key_of self.now signer }
-    {
-        let key = KeyTree::new(&signing_seed(&self.seed, signer)).public();
-        self.keep(signer, key);
-        key
-    }
-
-    /// Keeps the public key of a replica, which its signer knows, for all owners. Nothing is kept if another owner did
-    /// so before or no replica has this number.
-    pub fn keep(&self, signer: Party, key: [u8; 32])
-        requires { key ≡ public_key_of self.now signer }
-    {
-        if let Some(place) = self.kept.get(usize::from(signer.number())) {
-            let _ = place.try_set(Derived::new(&self.seed, signer, key));
+        if let Origin::Dealt(dealt) = &self.origin {
+            dealt.keep(signer, key);
         }
     }
 }

@@ -38,7 +38,7 @@ use Rattle.wire_format.specs.Lists.{Each}
 
 -- a correct replica received the frame, authentic to itself, alone or carried
 unfoldable pub AsksFrame : Configuration → List ℕ → List Entry → Entry → Type 0
-AsksFrame c frame past (Got p bytes) = (is_correct_replica c p ≡ true) × (is_some (authentic (members c) p frame) ≡ true) × Has (λ x. x ≡ frame) (frames_in bytes)
+AsksFrame c frame past (Got p bytes) = (is_correct_replica c p ≡ true) × (is_some (authentic (members c p) p frame) ≡ true) × Has (λ x. x ≡ frame) (frames_in bytes)
 AsksFrame c frame past _ = ⊥
 
 asks_any : (c : Configuration) (frame : List ℕ) (past other : List Entry) (e : Entry) → AsksFrame c frame past e → AsksFrame c frame other e
@@ -63,13 +63,13 @@ call_client c frame call body h is =
     client sender _ h = absurd cc
 
 -- a correct replica received each client's frame that a correct replica has seen
-seen_asked : (c : Configuration) → IsConfiguration c → (r : ℕ) → is_correct_replica c r ≡ true → (frame : List ℕ) (call : Call) → call_of c frame ≡ Some call → is_some (authentic (members c) r frame) ≡ true
+seen_asked : (c : Configuration) → IsConfiguration c → (r : ℕ) → is_correct_replica c r ≡ true → (frame : List ℕ) (call : Call) → call_of c frame ≡ Some call → is_some (authentic (members c r) r frame) ≡ true
     → (xs : List Entry) → Always (RightAt c r) xs → Once (HasSeen frame) xs → Once (AsksFrame c frame) xs
 unfolding AsksFrame
 seen_asked c setting r correct frame call is genuine [] right h = absurd h
 seen_asked c setting r correct frame call is genuine (e ∷ past) right (inr h) = inr (seen_asked c setting r correct frame call is genuine past right.1 h)
 seen_asked c setting r correct frame call is genuine (Got p bytes ∷ past) right (inl h) =
-    inl (subst (λ (x : ℕ). is_correct_replica c x ≡ true) (sym right.0.own) correct, subst (λ (x : ℕ). is_some (authentic (members c) x frame) ≡ true) (sym right.0.own) genuine, h)
+    inl (subst (λ (x : ℕ). is_correct_replica c x ≡ true) (sym right.0.own) correct, subst (λ (x : ℕ). is_some (authentic (members c x) x frame) ≡ true) (sym right.0.own) genuine, h)
 seen_asked c setting r correct frame call is genuine (Sent p bytes ∷ past) right (inl (inl h)) =
     let m = right.0.may in
     let says : said frame ≡ Some m.body = subst (λ (x : List ℕ). said x ≡ Some m.body) h m.says in
@@ -96,13 +96,13 @@ carried_prepare : (bytes : List ℕ) (body : Body) (v i : ℕ) (batch : List ℕ
     → Has (λ x. x ≡ frame) (carried_by bytes)
 carried_prepare bytes body v i batch frame is message h = rw is (rw message h)
 
-heard_asked : (c : Configuration) (r v i : ℕ) (a : List ℕ) (bytes : List ℕ) (sender : ℕ) (message : Message) → authentic (members c) r bytes ≡ Some (record { sender = sender; message = message })
+heard_asked : (c : Configuration) (r v i : ℕ) (a : List ℕ) (bytes : List ℕ) (sender : ℕ) (message : Message) → authentic (members c r) r bytes ≡ Some (record { sender = sender; message = message })
     → batch_from c r v i (record { sender = sender; message = message }) ≡ Some a → (frame : List ℕ) → Has (λ x. x ≡ frame) (requests_of a)
-    → (is_some (authentic (members c) r frame) ≡ true) × Has (λ x. x ≡ frame) (frames_in bytes)
+    → (is_some (authentic (members c r) r frame) ≡ true) × Has (λ x. x ≡ frame) (frames_in bytes)
 heard_asked c r v i a bytes sender message is h frame has =
     let b = batch_is c r v i a sender message h in
     let body : Body = record { sender = sender; message = message } in (
-      every_has (λ request. is_some (authentic (members c) r request)) (requests_of a) frame b.2 has,
+      every_has (λ request. is_some (authentic (members c r) r request)) (requests_of a) frame b.2 has,
       inr (carried_prepare bytes body v i a frame (heard_said c r bytes body is) b.0 has),
     )
 
@@ -117,9 +117,9 @@ unfolding AsksFrame
 entry_asked c setting r v i a xs past (Got p bytes) emb correct right h frame call has is =
     let t = (entry_batch c r v i a past (Got p bytes) h).1 in
     let own : p ≡ r = right.0.own in
-    let receives : authentic (members c) r bytes ≡ Some t.0 = subst (λ (x : ℕ). authentic (members c) x bytes ≡ Some t.0) own t.1 in
+    let receives : authentic (members c r) r bytes ≡ Some t.0 = subst (λ (x : ℕ). authentic (members c x) x bytes ≡ Some t.0) own t.1 in
     let g = heard_asked c r v i a bytes t.0.sender t.0.message receives t.2 frame has in
-    emb (AsksFrame c frame) (inl (subst (λ (x : ℕ). is_correct_replica c x ≡ true) (sym own) correct, subst (λ (x : ℕ). is_some (authentic (members c) x frame) ≡ true) (sym own) g.0, g.1))
+    emb (AsksFrame c frame) (inl (subst (λ (x : ℕ). is_correct_replica c x ≡ true) (sym own) correct, subst (λ (x : ℕ). is_some (authentic (members c x) x frame) ≡ true) (sym own) g.0, g.1))
 entry_asked c setting r v i a xs past (Sent p bytes) emb correct right h frame call has is =
     let t = (entry_batch c r v i a past (Sent p bytes) h).1 in
     let m = right.0.may in
@@ -127,7 +127,7 @@ entry_asked c setting r v i a xs past (Sent p bytes) emb correct right h frame c
     let g = sent_genuine c r v i a t.0.sender t.0.message t.2 in
     let seen : Each (λ x. Once (HasSeen x) past) (carried t.0.message) = subst (λ (x : Body). Each (λ y. Once (HasSeen y) past) (carried x.message)) same m.seen in
     let one = each_has (λ x. Once (HasSeen x) past) (carried t.0.message) frame seen (g.1 frame has) in
-    emb (AsksFrame c frame) (inr (seen_asked c setting r correct frame call is (every_has (λ request. is_some (authentic (members c) r request)) (requests_of a) frame g.0 has) past right.1 one))
+    emb (AsksFrame c frame) (inr (seen_asked c setting r correct frame call is (every_has (λ request. is_some (authentic (members c r) r request)) (requests_of a) frame g.0 has) past right.1 one))
 entry_asked c setting r v i a xs past (Invoke x y z) emb correct right h frame call has is = absurd cc
 entry_asked c setting r v i a xs past _ emb correct right h frame call has is = absurd cc
 

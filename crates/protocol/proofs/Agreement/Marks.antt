@@ -176,6 +176,6 @@ proposes c v i new batch h = go ((new.view == v) && nat_lt new.start i) refl h
     go false e h = absurd cc
 
 pub selected_in : (c : Configuration) (e : Entry) (new : NewViewData) → new_view_in c e ≡ Some new → may_select c new ≡ true
-selected_in c (Got p bytes) new h = let r = and_then_some (new_view_from c) (authentic (members c) p bytes) new h in (begins c r.0 new r.2).selected
+selected_in c (Got p bytes) new h = let r = and_then_some (new_view_from c) (authentic (members c p) p bytes) new h in (begins c r.0 new r.2).selected
 selected_in c (Sent p bytes) new h = let r = and_then_some (new_view_from c) (said bytes) new h in (begins c r.0 new r.2).selected
 selected_in c _ new h = absurd cc

@@ -53,7 +53,7 @@ assigned_offer v i new batch sender message is h = rw is h
 
 taken_offer : (c : Configuration) (me v i : ℕ) (past : List Entry) (batch : List ℕ) (e : Entry) (new : NewViewData) → new_view_in c e ≡ Some new → assigned_batch v i new ≡ Some batch → Offers c me v i batch past e
 taken_offer c me v i past batch (Got p bytes) new h b =
-    let r = and_then_some (new_view_from c) (authentic (members c) p bytes) new h in
+    let r = and_then_some (new_view_from c) (authentic (members c p) p bytes) new h in
     let g = begins c r.0 new r.2 in
     record { body = r.0; brings = r.1; sender_is = g.sender_is ∙ ap (primary c) (proposes c v i new batch b).view_is; offers = assigned_offer v i new batch r.0.sender r.0.message g.message_is b }
 taken_offer c me v i past batch (Sent p bytes) new h b =

@@ -1,7 +1,7 @@
 -- A correct replica sent the frames in a new view that it signed.
 use Rattle.std.proofs.Common.{◌≡◌, ℕ, inl, inr, Bool, true, false, cond, List, [], ◌∷◌, map, Option, Some, None, refl, sym, ap, ap₂, ◌∙◌, subst, eqb-true}
 use Rattle.std.specs.Prelude.{◌==◌, ⊤}
-use Rattle.protocol.specs.System.Configuration.{Configuration, is_correct, is_correct_replica, members}
+use Rattle.protocol.specs.System.Configuration.{Configuration, is_correct, is_correct_replica, members, signers}
 use Rattle.wire_format.specs.Messages.{BodyData as Body, MessageData as Message, NewViewData, ViewChangeData, view_change as ViewChange, new_view as NewView}
 use Rattle.wire_format.specs.Words.{carried, requests_of_all, said}
 use Rattle.signing.specs.AuthenticBody.{authentic, signed_body}
@@ -22,7 +22,7 @@ use Rattle.wire_format.specs.Lists.{Each}
 -- ---- signed frames that were seen were sent
 
 abbrev pub SaidIfSigned : Configuration → List Entry → List ℕ → Type 0
-SaidIfSigned c trace bytes = (body : Body) → signed_body (members c) bytes ≡ Some body → is_correct_replica c body.sender ≡ true → Once (Speaks body) (history_of body.sender trace)
+SaidIfSigned c trace bytes = (body : Body) → signed_body (signers c) bytes ≡ Some body → is_correct_replica c body.sender ≡ true → Once (Speaks body) (history_of body.sender trace)
 
 abbrev pub GotsSaid : Configuration → List Entry → Entry → Type 0
 GotsSaid c trace (Got p whole) = (bytes : List ℕ) → Has (λ x. x ≡ bytes) (frames_in whole) → SaidIfSigned c trace bytes
@@ -102,7 +102,7 @@ taken_seen c new bytes h past e t = go e (takes c 0 past e new t).brought
   where
     go : (e : Entry) → new_view_in c e ≡ Some new → HasSeen bytes past e
     go (Got p whole) b =
-        let r = and_then_some (new_view_from c) (authentic (members c) p whole) new b in
+        let r = and_then_some (new_view_from c) (authentic (members c p) p whole) new b in
         let is : said whole ≡ Some r.0 = heard_said c p whole r.0 r.1 in
         inr (begin_seen new bytes whole r.0 is (begins c r.0 new r.2).message_is h)
     go (Sent p whole) b =
@@ -118,8 +118,8 @@ pub change_was_said : (c : Configuration) (trace : List Entry) (q s : ℕ) (new 
 change_was_said c trace q s new vc right unforged correct from taken is =
     let r = right q correct in
     let f = change_frame c new.changes s vc is in
-    let t = and_then_some change_in (signed_body (members c) f.0) (s, vc) f.2 in
-    let body : signed_body (members c) f.0 ≡ Some (changing s vc) = t.1 ∙ ap Some (change_is t.0.sender t.0.message s vc t.2) in
+    let t = and_then_some change_in (signed_body (signers c) f.0) (s, vc) f.2 in
+    let body : signed_body (signers c) f.0 ≡ Some (changing s vc) = t.1 ∙ ap Some (change_is t.0.sender t.0.message s vc t.2) in
     let seen : Once (HasSeen f.0) (history_of q trace) = once_weaker (TakesOrSendsNewView c new) (HasSeen f.0) (taken_seen c new f.0 f.1) (history_of q trace) taken in
     seen_was_said c trace q (history_of q trace) (λ R h. h) (right_always c q (history_of q trace) r.0 r.1)
     (gots_said c trace q unforged (correct_replica c q correct)) f.0 seen (changing s vc) body from

@@ -113,7 +113,7 @@ pub correct_replica : (c : Configuration) (p : ℕ) → is_correct_replica c p �
 correct_replica c p h = rw h refl
 
 brings_either : (c : Configuration) (p : ℕ) (body : Body) (past : List Entry) (e : Entry) → party_of e ≡ p → Brings c body past e → Receives c p body past e ⊎ Speaks body past e
-brings_either c p body past (Got q bytes) own h = inl (subst (λ (x : ℕ). authentic (members c) x bytes ≡ Some body) own h)
+brings_either c p body past (Got q bytes) own h = inl (subst (λ (x : ℕ). authentic (members c x) x bytes ≡ Some body) own h)
 brings_either c p body past (Sent q bytes) own h = inr h
 brings_either c p body past _ own h = absurd cc
 

@@ -310,7 +310,7 @@ vote_answer me t s vote sender _ h f = absurd cc
 
 pub newest_answer : (c : Configuration) (me t : ℕ) (vote : Vote) (xs : List Entry) → newest_vote c me xs t ≡ Some vote → IsOutcome vote.answer
 newest_answer c me t vote (Got p bytes ∷ past) h =
-    let r = and_then_some (λ (body : Body). reply_vote me t body.sender body) (authentic (members c) me bytes) vote h in
+    let r = and_then_some (λ (body : Body). reply_vote me t body.sender body) (authentic (members c me) me bytes) vote h in
     vote_answer me t r.0.sender vote r.0.sender r.0.message r.2 (heard_fits c me bytes r.0 r.1)
 newest_answer c me t vote _ h = absurd cc
 

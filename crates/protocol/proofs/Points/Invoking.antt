@@ -113,7 +113,7 @@ asks_said c xs frame body runs is from h =
     step xs
     (once_always (IsUnforgedAt c) (AsksFrame c frame) xs runs.unforged h)))
   where
-    known : (p : ℕ) (o : Option Body) → authentic (members c) p frame ≡ o → is_some o ≡ true → authentic (members c) p frame ≡ Some body
+    known : (p : ℕ) (o : Option Body) → authentic (members c p) p frame ≡ o → is_some o ≡ true → authentic (members c p) p frame ≡ Some body
     known p None e s = absurd cc
     known p (Some b) e s =
         let said' : said frame ≡ Some b = heard_said c p frame b e in
@@ -122,7 +122,7 @@ asks_said c xs frame body runs is from h =
     step : (past : List Entry) (e : Entry) → IsUnforgedAt c past e × AsksFrame c frame past e × Always (IsUnforgedAt c) past
         → Once (λ past e. (party_of e ≡ body.sender) × Speaks body (history_of body.sender past) e) past
     step past (Got q bytes) t =
-        let receives = known q (authentic (members c) q frame) refl t.1.1 in
+        let receives = known q (authentic (members c q) q frame) refl t.1.1 in
         let each : IsFromSender c q past frame = each_has (IsFromSender c q past) (frames_in bytes) frame (t.0 (correct_replica c q t.1.0)) t.1.2 in
         once_weaker (SendsBody body) (λ past e. (party_of e ≡ body.sender) × Speaks body (history_of body.sender past) e)
         (sent_spoken body) past (each.receives body receives from)
@@ -156,15 +156,15 @@ pub asks_request : (c : Configuration) (frame : List ℕ) (sender t : ℕ) (op :
 unfolding AsksFrame
 asks_request c frame sender t op is past (Got p bytes) h = (h.0, there (frames_in bytes) h.2)
   where
-    known : (o : Option Body) → authentic (members c) p frame ≡ o → is_some o ≡ true → authentic (members c) p frame ≡ Some (asking sender t modes.Ordered op)
+    known : (o : Option Body) → authentic (members c p) p frame ≡ o → is_some o ≡ true → authentic (members c p) p frame ≡ Some (asking sender t modes.Ordered op)
     known None e s = absurd cc
     known (Some b) e s =
         let said' : said frame ≡ Some b = heard_said c p frame b e in
         e ∙ sym said' ∙ is
 
-    there : (xs : List (List ℕ)) → Has (λ x. x ≡ frame) xs → Has (λ x. authentic (members c) p x ≡ Some (record { sender = sender; message = Request t modes.Ordered op })) xs
+    there : (xs : List (List ℕ)) → Has (λ x. x ≡ frame) xs → Has (λ x. authentic (members c p) p x ≡ Some (record { sender = sender; message = Request t modes.Ordered op })) xs
     there [] k = k
-    there (x ∷ xs) (inl k) = inl (subst (λ (y : List ℕ). authentic (members c) p y ≡ Some (asking sender t modes.Ordered op)) (sym k) (known (authentic (members c) p frame) refl h.1))
+    there (x ∷ xs) (inl k) = inl (subst (λ (y : List ℕ). authentic (members c p) p y ≡ Some (asking sender t modes.Ordered op)) (sym k) (known (authentic (members c p) p frame) refl h.1))
     there (x ∷ xs) (inr k) = inr (there xs k)
 asks_request c frame sender t op is past _ h = absurd h
 

@@ -157,9 +157,9 @@ pub latest_received : (c : Configuration) (me t : ℕ) (mode : Mode) (s : ℕ) (
 unfolding latest
 latest_received c me t mode s vote [] own h = absurd cc
 latest_received c me t mode s vote (Invoke x y z ∷ past) own h = absurd cc
-latest_received c me t mode s vote (Got p bytes ∷ past) own h = go (option_and_then (reply_vote me t s) (authentic (members c) me bytes)) refl h (latest_received c me t mode s vote past own.1)
+latest_received c me t mode s vote (Got p bytes ∷ past) own h = go (option_and_then (reply_vote me t s) (authentic (members c me) me bytes)) refl h (latest_received c me t mode s vote past own.1)
   where
-    go : (o : Option Vote) → option_and_then (reply_vote me t s) (authentic (members c) me bytes) ≡ o → later_vote mode o (latest c me past t mode s) ≡ Some vote
+    go : (o : Option Vote) → option_and_then (reply_vote me t s) (authentic (members c me) me bytes) ≡ o → later_vote mode o (latest c me past t mode s) ≡ Some vote
         → (latest c me past t mode s ≡ Some vote → Once (Receives c me (replying s me t mode vote.number vote.answer)) past) → Once (Receives c me (replying s me t mode vote.number vote.answer)) (Got p bytes ∷ past)
     go None is k below = inr (below k)
     go (Some v) is k below = test (same_mode v.mode mode) refl k
@@ -168,7 +168,7 @@ latest_received c me t mode s vote (Got p bytes ∷ past) own h = go (option_and
         test false e k = inr (below k)
         test true e k =
             let same : v ≡ vote = some_injective v vote k in
-            let r = and_then_some (reply_vote me t s) (authentic (members c) me bytes) v is in
+            let r = and_then_some (reply_vote me t s) (authentic (members c me) me bytes) v is in
             let body = vote_body me t s v r.0.sender r.0.message r.2 in
             inl (r.1 ∙ ap Some body ∙ ap (λ (m : Mode). Some (replying s me t m v.number v.answer)) (same_mode-true v.mode mode e) ∙ ap (λ (x : Vote). Some (replying s me t mode x.number x.answer)) same)
 latest_received c me t mode s vote (_ ∷ past) own h = inr (latest_received c me t mode s vote past own.1 h)

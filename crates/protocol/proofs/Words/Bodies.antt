@@ -36,7 +36,7 @@ said_fits bytes body h =
     let w = (says_what_is_spelled bytes body).0 h in
     subst (λ (b : Body). FitsMessage b.message) w.2 (message_fits w.0.body.message w.1.valid.message)
 
-pub heard_fits : (c : Configuration) (me : ℕ) (bytes : List ℕ) (body : Body) → authentic (members c) me bytes ≡ Some body → FitsMessage body.message
+pub heard_fits : (c : Configuration) (me : ℕ) (bytes : List ℕ) (body : Body) → authentic (members c me) me bytes ≡ Some body → FitsMessage body.message
 heard_fits c me bytes body h = said_fits bytes body (heard_said c me bytes body h)
 
 -- ---- batches

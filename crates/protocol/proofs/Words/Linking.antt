@@ -5,7 +5,7 @@ use Rattle.wire_format.specs.Words.{said}
 use Rattle.wire_format.proofs.Saying.{reads_said}
 use Rattle.signing.specs.AuthenticBody.{authentic, signed_body}
 use Rattle.signing.proofs.AuthenticBody.{authentic_was_opened, signed_was_signed}
-use Rattle.protocol.specs.System.Configuration.{Configuration, is_correct, members}
+use Rattle.protocol.specs.System.Configuration.{Configuration, is_correct, members, signers}
 use Rattle.protocol.specs.System.Trace.{Entry, party_of, history_of, Once, Always, SendsBody, IsUnforgedAt, Unforged, Receives}
 use Rattle.protocol.specs.System.Trace.Entry.{Got, Sent}
 use Rattle.protocol.specs.Replica.Owed.{IsSending}
@@ -22,12 +22,12 @@ saying_speaks me message past (Sent p bytes) h = h
 saying_speaks me message past _ h = absurd h
 
 -- a body that is received is the body that the bytes say
-pub heard_said : (c : Configuration) (me : ℕ) (bytes : List ℕ) (body : Body) → authentic (members c) me bytes ≡ Some body → said bytes ≡ Some body
-heard_said c me bytes body h = let o = authentic_was_opened (members c) me bytes body h in reads_said bytes o.frame o.opens.spelled ∙ ap Some o.body_is
+pub heard_said : (c : Configuration) (me : ℕ) (bytes : List ℕ) (body : Body) → authentic (members c me) me bytes ≡ Some body → said bytes ≡ Some body
+heard_said c me bytes body h = let o = authentic_was_opened (members c me) me bytes body h in reads_said bytes o.frame o.opens.spelled ∙ ap Some o.body_is
 
 -- and so is a signed body
-pub signed_said : (c : Configuration) (bytes : List ℕ) (body : Body) → signed_body (members c) bytes ≡ Some body → said bytes ≡ Some body
-signed_said c bytes body h = let s = signed_was_signed (members c) bytes body h in reads_said bytes s.frame s.spelled ∙ ap Some s.body_is
+pub signed_said : (c : Configuration) (bytes : List ℕ) (body : Body) → signed_body (signers c) bytes ≡ Some body → said bytes ≡ Some body
+signed_said c bytes body h = let s = signed_was_signed (signers c) bytes body h in reads_said bytes s.frame s.spelled ∙ ap Some s.body_is
 
 pub sent_spoken : (body : Body) (past : List Entry) (e : Entry) → SendsBody body past e → (party_of e ≡ body.sender) × Speaks body (history_of body.sender past) e
 sent_spoken body past (Sent p bytes) h = h
@@ -48,7 +48,7 @@ heard_was_said c trace p body unforged correct from h =
         → Once (λ past e. (party_of e ≡ body.sender) × Speaks body (history_of body.sender past) e) past
     step past (Got q bytes) t =
         let mine : is_correct c q ≡ true = rw t.1.0 correct in
-        let receives : authentic (members c) q bytes ≡ Some body = rw t.1.0 t.1.1 in
+        let receives : authentic (members c q) q bytes ≡ Some body = rw t.1.0 t.1.1 in
         once_weaker (SendsBody body) (λ past e. (party_of e ≡ body.sender) × Speaks body (history_of body.sender past) e)
         (sent_spoken body) past ((t.0 mine).0.receives body receives from)
     step past (Sent a b) t = absurd t.1.1

@@ -17,7 +17,7 @@ no_time c me p before bytes waiting v t =
 
 -- Bytes that are received as no view change give no reason.
 pub no_reason : (c : Configuration) (me : ℕ) (before : List Entry) (bytes : List ℕ) (waiting : List Call) (v : ℕ)
-    → ((s : ℕ) (vc : ViewChangeData) → authentic (members c) me bytes ≡ Some (record { sender = s; message = ViewChange vc }) → ⊥)
+    → ((s : ℕ) (vc : ViewChangeData) → authentic (members c me) me bytes ≡ Some (record { sender = s; message = ViewChange vc }) → ⊥)
     → HasToMove c me before (Got me bytes) waiting v → ⊥
 no_reason c me before bytes waiting v none (inl t) = no_time c me me before bytes waiting v t
 no_reason c me before bytes waiting v none (inr (taken, joins)) = none taken.0 taken.1 taken.2

@@ -7,7 +7,7 @@ use Rattle.wire_format.specs.Spelling.{body_spelling, SpellsFrame, is_signed, au
 use Rattle.authenticator.specs.Authentic.{mac_of}
 use Rattle.authenticator.specs.Sealing.{entry_for, sealed_for}
 use Rattle.signing.specs.AuthenticBody.{has_signature}
-use Rattle.protocol.specs.System.Configuration.{Configuration}
+use Rattle.protocol.specs.System.Configuration.{Configuration, members}
 use Rattle.wire_format.specs.Words.{receivers_of, frame_of, said}
 use Rattle.protocol.specs.System.Frames.{IsSealed, IsOutgoing, leaf_in, leaf_of}
 use Rattle.protocol.specs.System.Trace.{Entry}
@@ -29,23 +29,23 @@ frame_is_outgoing c bytes frame spells well = record {
       subst (λ (f : Frame). IsSealed c f × (receivers_of f.authenticator ≡ receivers_of frame.authenticator)) same (well, refl);
 }
 
-sealed_well : (c : Configuration) (body : Body) (parties : List ℕ) → IsSealed c (sealed_for c.seed body parties)
-sealed_well c body parties = All-map (λ (x : MacData). x.mac ≡ mac_of c.seed x.receiver body) (entry_for c.seed body.sender (body_spelling body)) parties (λ k d within. refl)
+sealed_well : (c : Configuration) (body : Body) (parties : List ℕ) → IsSealed c (sealed_for (members c body.sender).keys body parties)
+sealed_well c body parties = All-map (λ (x : MacData). x.mac ≡ mac_of (members c body.sender).keys x.receiver body) (entry_for (members c body.sender).keys body.sender (body_spelling body)) parties (λ k d within. refl)
 
-sealed_receivers : (c : Configuration) (body : Body) (parties : List ℕ) → receivers_of (sealed_for c.seed body parties).authenticator ≡ parties
+sealed_receivers : (c : Configuration) (body : Body) (parties : List ℕ) → receivers_of (sealed_for (members c body.sender).keys body parties).authenticator ≡ parties
 sealed_receivers c body [] = refl
 sealed_receivers c body (p ∷ ps) = ap (λ (xs : List ℕ). p ∷ xs) (sealed_receivers c body ps)
 
 -- a frame that is sealed for these parties
-pub sealed_is_outgoing : (c : Configuration) (body : Body) (parties bytes : List ℕ) → SpellsFrame bytes (sealed_for c.seed body parties)
+pub sealed_is_outgoing : (c : Configuration) (body : Body) (parties bytes : List ℕ) → SpellsFrame bytes (sealed_for (members c body.sender).keys body parties)
     → IsOutgoing c body.sender body.message parties bytes
 sealed_is_outgoing c body parties bytes spells =
     subst (λ (xs : List ℕ). IsOutgoing c body.sender body.message xs bytes) (sealed_receivers c body parties)
-    (frame_is_outgoing c bytes (sealed_for c.seed body parties) spells (sealed_well c body parties))
+    (frame_is_outgoing c bytes (sealed_for (members c body.sender).keys body parties) spells (sealed_well c body parties))
 
 -- a frame that is signed
 pub signed_is_outgoing : (c : Configuration) (body : Body) (text bytes : List ℕ) → SpellsFrame bytes (record { body = body; authenticator = signature text })
-    → has_signature c.seed (record { body = body; authenticator = signature text }) ≡ true → IsOutgoing c body.sender body.message [] bytes
+    → has_signature c.publics (record { body = body; authenticator = signature text }) ≡ true → IsOutgoing c body.sender body.message [] bytes
 signed_is_outgoing c body text bytes spells signed = frame_is_outgoing c bytes (record { body = body; authenticator = signature text }) spells signed
 
 -- ---- frames without a leaf

@@ -37,7 +37,7 @@ none_changes : (sender : ℕ) (message : Message) → IsPlain message → change
 none_changes sender (ViewChange change) h = absurd h
 none_changes sender _ h = refl
 
-pub heard_plain : (c : Configuration) (past : List Entry) (p : ℕ) (bytes : List ℕ) (body : Body) → authentic (members c) p bytes ≡ Some body → IsPlain body.message → Plain c past (Got p bytes)
+pub heard_plain : (c : Configuration) (past : List Entry) (p : ℕ) (bytes : List ℕ) (body : Body) → authentic (members c p) p bytes ≡ Some body → IsPlain body.message → Plain c past (Got p bytes)
 heard_plain c past p bytes body h o = record {
   view = ap (option_and_then (new_view_from c)) h ∙ none_begins c body.sender body.message o;
   change = refl;

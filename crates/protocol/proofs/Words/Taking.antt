@@ -30,10 +30,10 @@ given_page past k i sender (Page number index t) text h =
 given_page past k i sender _ text h = absurd cc
 
 answered : (c : Configuration) (me i : ℕ) (next : Option ℕ) (past : List Entry) (text bytes : List ℕ) → answer c me next past i bytes ≡ Some text
-    → (sender number : ℕ) × (authentic (members c) me bytes ≡ Some (record { sender = sender; message = Page number i text }))
+    → (sender number : ℕ) × (authentic (members c me) me bytes ≡ Some (record { sender = sender; message = Page number i text }))
 answered c me i None past text bytes h = absurd cc
 answered c me i (Some k) past text bytes h =
-    let a = and_then_some (text_given past k i) (authentic (members c) me bytes) text h in
+    let a = and_then_some (text_given past k i) (authentic (members c me) me bytes) text h in
     let g = given_page past k i a.0.sender a.0.message text a.2 in
     (a.0.sender, g.0, a.1 ∙ ap (λ (m : Message). let body : Body = record { sender = a.0.sender; message = m } in Some body) g.1)
 

@@ -60,12 +60,12 @@ gives past k i sender _ text h = absurd cc
 -- bytes that answer say so
 record Answers (c : Configuration) (me k i : ℕ) (past : List Entry) (bytes text : List ℕ) : Type 0 where
   pub sender : ℕ
-  pub says : authentic (members c) me bytes ≡ Some (record { sender = sender; message = Page k i text })
+  pub says : authentic (members c me) me bytes ≡ Some (record { sender = sender; message = Page k i text })
   pub asked : asked_last past ≡ Some (k, (levels.Page, i))
 
 answers : (c : Configuration) (me k i : ℕ) (past : List Entry) (bytes text : List ℕ) → answer c me (Some k) past i bytes ≡ Some text → Answers c me k i past bytes text
 answers c me k i past bytes text h =
-    let a = and_then_some (text_given past k i) (authentic (members c) me bytes) text h in
+    let a = and_then_some (text_given past k i) (authentic (members c me) me bytes) text h in
     let g = gives past k i a.0.sender a.0.message text a.2 in
     record {
       sender = a.0.sender;

@@ -66,7 +66,7 @@ unfoldable pub latest : Configuration → ℕ → List Entry → ℕ → Mode �
 latest c me [] timestamp mode s = None
 latest c me (Invoke client t op ∷ past) timestamp mode s = None
 latest c me (Got p bytes ∷ past) timestamp mode s =
-    later_vote mode (option_and_then (reply_vote me timestamp s) (authentic (members c) me bytes))
+    later_vote mode (option_and_then (reply_vote me timestamp s) (authentic (members c me) me bytes))
     (latest c me past timestamp mode s)
 latest c me (_ ∷ past) timestamp mode s = latest c me past timestamp mode s
 
@@ -90,7 +90,7 @@ abbrev pub newest_vote : Configuration → ℕ → List Entry → ℕ → Option
 newest_vote c me past timestamp = elim past [
   | [] ↦ None
   | e ∷ earlier ↦ (elim e [
-    | Got p bytes ↦ option_and_then (λ body. reply_vote me timestamp body.sender body) (authentic (members c) me bytes)
+    | Got p bytes ↦ option_and_then (λ body. reply_vote me timestamp body.sender body) (authentic (members c me) me bytes)
     | _ ↦ None
   ])
 ]

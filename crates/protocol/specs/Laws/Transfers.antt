@@ -14,7 +14,7 @@ use Rattle.protocol.specs.Replica.Transfers.{place_from, fetching, asked_last, t
 abbrev pub AnswersAreTaken : Type 0
 AnswersAreTaken =
     (c : Configuration) (me sender k i : ℕ) (past : List Entry) (bytes text : List ℕ)
-    → authentic (members c) me bytes ≡ Some (record { sender = sender; message = Page k i text })
+    → authentic (members c me) me bytes ≡ Some (record { sender = sender; message = Page k i text })
     → asked_last past ≡ Some (k, (levels.Page, i))
     → took c me (Some k) (Got me bytes ∷ past) i ≡ Some text
 
@@ -23,7 +23,7 @@ abbrev pub OthersAreLeft : Type 0
 OthersAreLeft =
     (c : Configuration) (me k i : ℕ) (past : List Entry) (bytes : List ℕ)
     → ((sender : ℕ) (text : List ℕ)
-    → authentic (members c) me bytes ≡ Some (record { sender = sender; message = Page k i text })
+    → authentic (members c me) me bytes ≡ Some (record { sender = sender; message = Page k i text })
     → asked_last past ≡ Some (k, (levels.Page, i)) → ⊥)
     → took c me (Some k) (Got me bytes ∷ past) i ≡ took c me None past i
 
@@ -31,7 +31,7 @@ OthersAreLeft =
 abbrev pub FetchIsAnswered : Configuration → ℕ → ℕ → List ℕ → List Entry → Entry → Type 0
 FetchIsAnswered c me i text past (Got p bytes) =
     (sender k : ℕ)
-    × (authentic (members c) me bytes ≡ Some (record { sender = sender; message = Page k i text }))
+    × (authentic (members c me) me bytes ≡ Some (record { sender = sender; message = Page k i text }))
     × (asked_last past ≡ Some (k, (levels.Page, i)))
 FetchIsAnswered c me i text past _ = ⊥
 

@@ -18,7 +18,7 @@ use Rattle.protocol.specs.Replica.Selection.{is_quorum, may_select, signed_chang
 
 -- the body that an entry brings: of a frame that a party receives and that is authentic to it, or of one that it sends
 abbrev pub brought : Configuration → Entry → Option Body
-brought c (Got p bytes) = authentic (members c) p bytes
+brought c (Got p bytes) = authentic (members c p) p bytes
 brought c (Sent p bytes) = said bytes
 brought c _ = None
 
@@ -176,7 +176,7 @@ counts_at c me past _ v i = false
 
 -- whether each request of the batch is authentic to the replica
 abbrev pub are_genuine : Configuration → ℕ → List ℕ → Bool
-are_genuine c me batch = list_all (λ request. is_some (authentic (members c) me request)) (requests_of batch)
+are_genuine c me batch = list_all (λ request. is_some (authentic (members c me) me request)) (requests_of batch)
 
 -- the batch in a pre-prepare by the primary of view v for number i, if its requests are authentic to the replica
 abbrev pub batch_from : Configuration → ℕ → ℕ → ℕ → Body → Option (List ℕ)

@@ -192,7 +192,7 @@ Counts c me past point bytes s (Page k index text) = IsAwaited c me past point k
 -- The bytes are dropped: no rule takes what they say to the replica, if anything.
 abbrev pub IsDropped : Configuration → ℕ → List Entry → Point → List ℕ → Type 0
 IsDropped c me past point bytes =
-    (body : Body) → authentic (members c) me bytes ≡ Some body → Counts c me past point bytes body.sender body.message
+    (body : Body) → authentic (members c me) me bytes ≡ Some body → Counts c me past point bytes body.sender body.message
     → ⊥
 
 -- ---- view changes that are due (Castro and Liskov, TOCS 2002, 4.5.2)

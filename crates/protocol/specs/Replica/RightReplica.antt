@@ -66,7 +66,7 @@ HasOwnLeaf bytes past =
 abbrev pub GetsPage : Configuration → ℕ → ℕ → List ℕ → List Entry → Entry → Type 0
 GetsPage c me i text past (Got p bytes) =
     (sender number : ℕ)
-    × (authentic (members c) me bytes ≡ Some (record { sender = sender; message = Page number i text }))
+    × (authentic (members c me) me bytes ≡ Some (record { sender = sender; message = Page number i text }))
 GetsPage c me i text past _ = ⊥
 
 -- P holds at the input of the running event, the newest entry that is no output, with its past
@@ -115,7 +115,7 @@ with_waiting st waiting call =
 abbrev pub waiting_after : Configuration → ℕ → Point → List ℕ → List Call
 waiting_after c me point bytes =
     option_map_or (with_waiting point.state point.waiting)
-    (option_and_then (call_in c) (authentic (members c) me bytes)) point.waiting
+    (option_and_then (call_in c) (authentic (members c me) me bytes)) point.waiting
 
 -- A request waits until its client's last timestamp is at least its own.
 abbrev pub still_waiting : State → List Call → List Call

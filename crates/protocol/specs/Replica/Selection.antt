@@ -4,7 +4,7 @@ use Rattle.std.specs.List.{list_all, list_any}
 use Rattle.std.specs.Option.{option_map_or}
 use Rattle.sha2.specs.Sha256.{sha256}
 use Rattle.quorum.specs.Quorum.{count_below}
-use Rattle.protocol.specs.System.Configuration.{Configuration, replicas, span, is_number, members}
+use Rattle.protocol.specs.System.Configuration.{Configuration, replicas, span, is_number, members, signers}
 use Rattle.wire_format.specs.Messages.{BodyData as Body, NewViewData, ViewChangeData, CheckpointEntryData as CheckpointEntry, BatchEntryData as BatchEntry, view_change as ViewChange}
 use Rattle.signing.specs.AuthenticBody.{signed_body}
 
@@ -24,7 +24,7 @@ change_in body = elim body.message [ ViewChange vc ↦ Some (body.sender, vc) | 
 
 -- the view change that the bytes spell, with its sender, if its signature verifies
 abbrev pub signed_change : Configuration → List ℕ → Option (ℕ × ViewChangeData)
-signed_change c bytes = option_and_then change_in (signed_body (members c) bytes)
+signed_change c bytes = option_and_then change_in (signed_body (signers c) bytes)
 
 -- the values of the options that have one
 abbrev pub list_of : {A : Type 0} → List (Option A) → List A

@@ -57,7 +57,7 @@ text_given past k i body = elim body.message [
 -- the text of page i in the bytes that answer the last fetch, if their event goes on for some number
 abbrev pub answer : Configuration → ℕ → Option ℕ → List Entry → ℕ → List ℕ → Option (List ℕ)
 answer c me None past i bytes = None
-answer c me (Some k) past i bytes = option_and_then (text_given past k i) (authentic (members c) me bytes)
+answer c me (Some k) past i bytes = option_and_then (text_given past k i) (authentic (members c me) me bytes)
 
 -- the number of a fetch that the bytes spell
 abbrev pub number_asked : List ℕ → Option ℕ

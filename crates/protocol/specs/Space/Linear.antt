@@ -61,7 +61,7 @@ Accepts p timestamp answer past _ = ⊥
 -- In this entry a correct replica receives the client's ordered request, alone or carried, authentic to the replica.
 abbrev pub EntryAsks : Configuration → ℕ → ℕ → Operation → List Entry → Entry → Type 0
 EntryAsks c client timestamp op past (Got p bytes) =
-    (is_correct_replica c p ≡ true) × Has (λ frame. authentic (members c) p frame
+    (is_correct_replica c p ≡ true) × Has (λ frame. authentic (members c p) p frame
     ≡ Some (record { sender = client; message = Request timestamp modes.Ordered op })) (frames_in bytes)
 EntryAsks c client timestamp op past _ = ⊥
 

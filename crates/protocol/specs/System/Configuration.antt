@@ -1,27 +1,35 @@
 -- The configuration: how many replicas and clients there are, which are faulty, and what all parties are given (Castro
 -- and Liskov, TOCS 2002, on the system model: 3f + 1 replicas, of which at most f are faulty).
-use Rattle.std.specs.Prelude.{◌≡◌, ◌≢◌, ℕ, ◌*◌, ◌%◌, ◌^◌, ◌≤◌, ◌<◌, Bool, ◌&&◌, ◌||◌, not, List, length, nat_lt, All, AllPairs}
+use Rattle.std.specs.Prelude.{◌≡◌, ◌≢◌, ℕ, ◌*◌, ◌%◌, ◌^◌, ◌≤◌, ◌<◌, Bool, ◌&&◌, ◌||◌, not, List, [], length, nat_lt, All, AllPairs}
 use Rattle.terms.specs.Parties.{client_number}
 use Rattle.terms.specs.declared.parties.TheConstants.{MAX_CLIENTS}
+use Rattle.authenticator.specs.Dealing.{dealt_keys}
+use Rattle.signing.specs.Publics.{derived_publics}
 use Rattle.authenticator.specs.Membership.{Membership, replicas as member_replicas, is_replica as is_member_replica, is_client as is_member_client}
 use Rattle.quorum.specs.Quorum.{member}
 
--- Replicas have the numbers 0 to 3f, clients 0 to clients - 1. period: the number of batches between checkpoints.
+-- Replicas have the numbers 0 to 3f, clients 0 to clients - 1. seed: of all keys. publics: the public keys of the
+-- replicas. period: the number of batches between checkpoints.
 pub record Configuration : Type 0 where
   pub faults : ℕ
   pub clients : ℕ
   pub seed : List ℕ
+  pub publics : List (List ℕ)
   pub period : ℕ
   pub faulty_replicas : List ℕ
   pub faulty_clients : List ℕ
 
--- the membership, from which keys are derived and by which senders are judged
-abbrev pub members : Configuration → Membership
-members c = record { seed = c.seed; faults = c.faults; clients = c.clients }
+-- what everybody knows: who takes part, and the public keys of the replicas
+abbrev pub signers : Configuration → Membership
+signers c = record { faults = c.faults; clients = c.clients; keys = []; publics = c.publics }
+
+-- What a party knows: the same, and the keys that the seed gives it. No other party's keys are among them.
+abbrev pub members : Configuration → ℕ → Membership
+members c me = record (signers c) { keys = dealt_keys c.seed c.faults c.clients me }
 
 -- how many replicas there are
 abbrev pub replicas : Configuration → ℕ
-replicas c = member_replicas (members c)
+replicas c = member_replicas (signers c)
 
 -- The configuration is valid.
 pub record IsConfiguration (c : Configuration) : Type 0 where
@@ -30,6 +38,7 @@ pub record IsConfiguration (c : Configuration) : Type 0 where
   pub some_clients : 1 ≤ c.clients
   pub clients : c.clients ≤ MAX_CLIENTS
   pub seed : length c.seed ≡ 32
+  pub publics : c.publics ≡ derived_publics c.seed c.faults
   pub period : 1 ≤ c.period
   pub period_most : c.period ≤ 16
   pub few : length c.faulty_replicas ≤ c.faults
@@ -42,10 +51,10 @@ pub record IsConfiguration (c : Configuration) : Type 0 where
 
 -- whether a party is a replica, or a client; a faulty replica, or a correct one; a correct client; or correct at all
 abbrev pub is_replica : Configuration → ℕ → Bool
-is_replica c p = is_member_replica (members c) p
+is_replica c p = is_member_replica (signers c) p
 
 abbrev pub is_client : Configuration → ℕ → Bool
-is_client c p = is_member_client (members c) p
+is_client c p = is_member_client (signers c) p
 
 abbrev pub is_faulty_replica : Configuration → ℕ → Bool
 is_faulty_replica c = member c.faulty_replicas

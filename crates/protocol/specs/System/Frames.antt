@@ -7,13 +7,13 @@ use Rattle.wire_format.specs.Messages.{MessageData as Message, AuthenticatorData
 use Rattle.wire_format.specs.Words.{frame_of, said, receivers_of}
 use Rattle.authenticator.specs.Authentic.{mac_of}
 use Rattle.signing.specs.AuthenticBody.{has_signature}
-use Rattle.protocol.specs.System.Configuration.{Configuration}
+use Rattle.protocol.specs.System.Configuration.{Configuration, members}
 
--- each MAC is over the body, under the key from its sender to the MAC's receiver; a signature is the sender's
+-- each MAC is over the body, under the key that its sender shares with the MAC's receiver; a signature is the sender's
 abbrev pub IsSealed : Configuration → Frame → Type 0
 IsSealed c frame = elim frame.authenticator [
-  | macs entries ↦ All (λ x. x.mac ≡ mac_of c.seed x.receiver frame.body) entries
-  | signature s ↦ has_signature c.seed frame ≡ true
+  | macs entries ↦ All (λ x. x.mac ≡ mac_of (members c frame.body.sender).keys x.receiver frame.body) entries
+  | signature s ↦ has_signature c.publics frame ≡ true
 ]
 
 -- The bytes are party me's own frame of this message, signed or with MACs for these receivers. A signed one names none.

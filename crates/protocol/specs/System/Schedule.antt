@@ -10,7 +10,7 @@ use Rattle.authenticator.specs.Sealing.{entry_for}
 use Rattle.wire_format.specs.Spelling.{piece, authenticator_spelling}
 use Rattle.signing.specs.Signatures.{signature_of}
 use Rattle.quorum.specs.Votes.{or_else}
-use Rattle.protocol.specs.System.Configuration.{Configuration, replicas, is_replica, is_client, is_correct, is_correct_client}
+use Rattle.protocol.specs.System.Configuration.{Configuration, members, replicas, is_replica, is_client, is_correct, is_correct_client}
 use Rattle.wire_format.specs.Messages.{AuthenticatorData as Authenticator, macs, signature}
 use Rattle.wire_format.specs.Words.{frame_of, receivers_of}
 use Rattle.protocol.specs.System.Trace.{Entry, is_output, history_of}
@@ -53,7 +53,7 @@ made_by c _ = []
 -- the bytes of a frame with MACs under the sender's keys, and of one signed with a leaf of the replica's keys
 abbrev pub sealed_bytes : Configuration → ℕ → List ℕ → List ℕ → List ℕ
 sealed_bytes c sender receivers body =
-    piece body ++ authenticator_spelling (macs (map (entry_for c.seed sender body) receivers))
+    piece body ++ authenticator_spelling (macs (map (entry_for (members c sender).keys sender body) receivers))
 
 abbrev pub signed_bytes : Configuration → ℕ → ℕ → List ℕ → List ℕ
 signed_bytes c replica leaf body =

@@ -4,7 +4,7 @@ use Rattle.std.specs.Prelude.{◌≡◌, ℕ, ◌⊎◌, Bool, true, false, List
 use Rattle.std.specs.Option.{option_map_or}
 use Rattle.terms.specs.Parties.{client_party}
 use Rattle.tuple_codec.specs.Operations.{Operation, Outcome}
-use Rattle.protocol.specs.System.Configuration.{Configuration, is_correct, members}
+use Rattle.protocol.specs.System.Configuration.{Configuration, is_correct, members, signers}
 use Rattle.wire_format.specs.Messages.{BodyData as Body}
 use Rattle.wire_format.specs.Words.{carried, said}
 use Rattle.signing.specs.AuthenticBody.{authentic, signed_body}
@@ -78,7 +78,7 @@ SendsBody body past _ = ⊥
 
 -- in this entry the party receives a frame of this body that is authentic to it
 abbrev pub Receives : Configuration → ℕ → Body → List Entry → Entry → Type 0
-Receives c me body past (Got p bytes) = authentic (members c) me bytes ≡ Some body
+Receives c me body past (Got p bytes) = authentic (members c me) me bytes ≡ Some body
 Receives c me body past _ = ⊥
 
 -- ---- no message of a correct party is forged
@@ -86,9 +86,9 @@ Receives c me body past _ = ⊥
 -- If the frame is authentic to party me as a correct sender's, or has a correct sender's signature, that sender sent a
 -- frame of its body before. A body has one spelling, over which MACs and signatures are made.
 pub record IsFromSender (c : Configuration) (me : ℕ) (past : List Entry) (bytes : List ℕ) : Type 0 where
-  pub receives : (body : Body) → authentic (members c) me bytes ≡ Some body → is_correct c body.sender ≡ true
+  pub receives : (body : Body) → authentic (members c me) me bytes ≡ Some body → is_correct c body.sender ≡ true
       → Once (SendsBody body) past
-  pub signed : (body : Body) → signed_body (members c) bytes ≡ Some body → is_correct c body.sender ≡ true
+  pub signed : (body : Body) → signed_body (signers c) bytes ≡ Some body → is_correct c body.sender ≡ true
       → Once (SendsBody body) past
 
 -- each frame that a correct party receives in this entry, alone or carried, is from its sender

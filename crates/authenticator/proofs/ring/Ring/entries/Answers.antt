@@ -10,7 +10,7 @@ pub loop-group-preserved : goal.loop-group-preserved
 loop-group-preserved c =
     let split = c.in-Some.ensures.steps in
     let longer = c.in-Ok.ensures.ok in
-    let new = entries-group c.loop-group.self.seed c.args.sender c.args.text.now c.loop-group.entries.items _ _ c.in-Some.group.now
+    let new = entries-group c.loop-group.self.keys c.args.sender c.args.text.now c.loop-group.entries.items _ _ c.in-Some.group.now
     (chunks_rest c.next.new.self) (chunks_rest c.loop-group.group-iterator) c.group_entries-made.ensures.made longer split.1.0 in
     record {
       made = rw c.group_entries-made.ensures.same (new ∙ c.loop-group.invariant.made);

@@ -10,8 +10,8 @@ use Rattle.authenticator.proofs.ring.Ring.entries.Given as goal
 -- the entries made, and those of the receivers that are left, are all
 abbrev pub invariant-loop-group : goal.invariant-loop-group
 invariant-loop-group l = record {
-  made : map mac_data l.entries.items ++ map (entry_for l.self.seed l.sender l.text) (map party_number (chunks_rest l.group-iterator))
-      ≡ map (entry_for l.self.seed l.sender l.text) (map party_number l.receivers);
+  made : map mac_data l.entries.items ++ map (entry_for l.self.keys l.sender l.text) (map party_number (chunks_rest l.group-iterator))
+      ≡ map (entry_for l.self.keys l.sender l.text) (map party_number l.receivers);
   formed : Each IsMac (map mac_data l.entries.items);
   size : chunks_size l.group-iterator ≡ 4;
   same : l.self ≡ l.fn.self;

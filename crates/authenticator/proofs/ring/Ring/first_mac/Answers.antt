@@ -1,23 +1,21 @@
-use Rattle.std.proofs.Common.{◌≡◌, ◌∙◌, ap}
-use Rattle.authenticator.specs.Mac.{hmac_of}
-use Rattle.authenticator.specs.Made.{IsMadeOf}
-use Rattle.authenticator.specs.Keys.{key_between}
-use Rattle.authenticator.proofs.Keeping.{fit-inserted}
+use Rattle.std.proofs.Common.{◌≡◌, Some, sym}
+use Rattle.authenticator.specs.Kept.{IsKeyBetween}
+use Rattle.authenticator.specs.Keys.{find_key}
+use Rattle.authenticator.specs.RingView.{keys_of}
+use Rattle.authenticator.proofs.Keeping.{fit-inserted, shared-code}
 use Rattle.authenticator.proofs.ring.Ring.first_mac.Goals as goal
-
-source : (c : goal.After-insert) → c.mac.result ≡ key_between c.self.inside.seed c.args.from c.args.to
-unfolding key_between
-source c = c.mac.ensures c.self.inside.seed c.self.invariant.0 ∙ ap (hmac_of c.self.inside.seed) c.key_text.ensures
-
-made : (c : goal.After-insert) → IsMadeOf c.new-key.result (key_between c.self.inside.seed c.args.from c.args.to)
-made c = rw (source c) at c.new-key.ensures
 
 pub invariant_of-self : goal.invariant_of-self
 invariant_of-self c =
-    let fits = fit-inserted (λ from to key. IsMadeOf key (key_between c.self.inside.seed from to)) c.self.inside.kept c.insert.new.self
-    c.args.from c.args.to c.new-key.result c.insert.result c.self.invariant.1 (made c) c.insert.ensures.updates c.insert.ensures.err in
-    (c.self.invariant.0, fits, c.self.invariant.2)
+    let keys = keys_of c.self.inside.source c.self.inside.faults c.self.inside.clients in
+    let shared : find_key c.args.self.now.keys c.args.from c.args.to ≡ Some c.in_ok-bytes.bytes = sym c.in_ok-bytes.ensures in
+    let found : find_key keys c.args.from c.args.to ≡ Some c.in_ok-bytes.bytes = rw (← c.self.view_is) at shared in
+    let fits = fit-inserted (IsKeyBetween keys) c.self.inside.kept c.insert.new.self
+    c.args.from c.args.to c.new-key.result c.insert.result c.self.invariant.0 (c.in_ok-bytes.bytes, found, c.new-key.ensures)
+    c.insert.ensures.updates c.insert.ensures.err in
+    (fits, c.self.invariant.1)
 
 pub returns-clause-code : goal.returns-clause-code
 returns-clause-code c =
-    rw (← c.self.view_is) (c.mac-code.ensures (key_between c.self.inside.seed c.args.from c.args.to) (made c))
+    shared-code c.args.self.now.keys c.args.from c.args.to c.args.text.now c.mac-code.result c.in_ok-bytes.bytes
+    (sym c.in_ok-bytes.ensures) (c.mac-code.ensures c.in_ok-bytes.bytes c.new-key.ensures)

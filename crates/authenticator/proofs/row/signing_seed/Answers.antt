@@ -1,5 +1,5 @@
 use Rattle.authenticator.specs.Keys.{signing_seed}
-use Rattle.authenticator.proofs.ring.signing_seed.Goals as goal
+use Rattle.authenticator.proofs.row.signing_seed.Goals as goal
 
 pub returns : goal.returns
 unfolding signing_seed

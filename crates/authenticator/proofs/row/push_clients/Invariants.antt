@@ -1,0 +1,12 @@
+use Rattle.std.proofs.Common.{◌≡◌, ◌+◌, ◌++◌}
+use Rattle.std.specs.Prelude.{◌-◌}
+use Rattle.std.specs.List.{range_with_len}
+use Rattle.terms.specs.declared.parties.TheConstants.{FIRST_CLIENT}
+use Rattle.authenticator.specs.Dealing.{all_clients, keys_with}
+use Rattle.authenticator.proofs.row.push_clients.Given as goal
+
+-- the keys so far, and those with the clients that are left, are all
+abbrev pub invariant-loop-client : goal.invariant-loop-client
+invariant-loop-client l =
+    l.keys.items ++ keys_with l.seed l.me (range_with_len (FIRST_CLIENT + l.client) (l.clients - l.client))
+    ≡ l.fn.keys.items ++ keys_with l.seed l.me (all_clients l.clients)

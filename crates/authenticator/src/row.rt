@@ -1,0 +1,209 @@
+//! Shared keys, and how a seed gives them.
+
+ghost use Rattle.std.specs.Prelude.{◌≡◌, [], ◌∷◌, ◌++◌, ◌≤◌, ◌+◌, ◌<◌, IfOk, OnOk};
+ghost use Rattle.std.specs.Int.{w16, to_be_bytes};
+ghost use Rattle.authenticator.specs.Dealing.{all_clients, all_keys, both_keys, clients_of, dealt_keys, do_exchange, is_among_clients, keys_with, other_replicas, others_among};
+ghost use Rattle.authenticator.specs.Keys.{derived_key, find_key, signing_seed};
+ghost use Rattle.terms.specs.Parties.{party_number};
+
+use crate::mac::{Key, hmac};
+use std::alloc::{AllocError, Global};
+use std::marker::Model;
+use terms::{FIRST_CLIENT, NoMemory, Party};
+
+/// The key under which one party seals what it sends to another.
+#[derive(Clone, Copy, Drop)]
+pub struct SharedKey {
+    pub from: u16,
+    pub to: u16,
+    pub key: [u8; 32],
+}
+
+/// A seed that is made ready to derive keys.
+#[derive(Drop)]
+pub(crate) struct Seed {
+    seed: [u8; 32],
+    source: Key,
+}
+
+impl Model for Seed {
+    ghost use Rattle.std.specs.Prelude.{ℕ, List};
+    ghost use Rattle.authenticator.specs.Made.{IsMadeOf};
+
+    ghost Value = { List ℕ };
+
+    ghost view = { λ s. s.seed };
+
+    ghost invariant = { λ s. IsMadeOf s.source s.seed };
+}
+
+impl Seed {
+    pub(crate) fn new(seed: &[u8; 32]) -> Seed
+        ensures { result ≡ seed.now }
+    {
+        Seed {
+            seed: *seed,
+            source: Key::new(seed),
+        }
+    }
+
+    /// The key from one party to another.
+    pub(crate) fn derive(&self, from: u16, to: u16) -> [u8; 32]
+        ensures { result ≡ derived_key self.now from to }
+    {
+        self.source.mac(&key_text(from, to))
+    }
+
+    /// The key from one party to another, if they exchange frames.
+    pub(crate) fn shared_key(&self, faults: u8, clients: u16, from: u16, to: u16) -> Option<[u8; 32]>
+        ensures { result ≡ find_key (all_keys self.now faults clients) from to }
+    {
+        if do_exchange(faults, clients, from, to) {
+            Some(self.derive(from, to))
+        } else {
+            None
+        }
+    }
+
+    // Appends the keys between two parties, in both directions.
+    fn push_both(&self, me: u16, party: u16, keys: &mut Vec<SharedKey>) -> Result<(), AllocError>
+        ensures { OnOk result (keys.new.items ≡ keys.old.items ++ both_keys self.now me party) }
+    {
+        keys.push(SharedKey {
+            from: party,
+            to: me,
+            key: self.derive(party, me),
+        })?;
+        keys.push(SharedKey {
+            from: me,
+            to: party,
+            key: self.derive(me, party),
+        })?;
+        Ok(())
+    }
+}
+
+/// The keys that a party shares with each party that it exchanges frames with, in both directions, as a seed gives
+/// them: a replica with the other replicas and all clients, a client with all replicas. Of `3 * faults + 1` replicas
+/// `faults`, 1 to 3, may be faulty; `clients`, 1 to 256, is the number of clients.
+///
+/// # Errors
+///
+/// NoMemory if memory runs out.
+pub fn deal(
+    alloc: Global,
+    seed: &[u8; 32],
+    faults: u8,
+    clients: u16,
+    me: Party,
+) -> Result<Vec<SharedKey>, NoMemory>
+    requires few { faults ≤ 3 }
+    requires clients { clients ≤ 256 }
+    ensures { IfOk result (λ keys. keys.items ≡ dealt_keys seed.now faults clients (party_number me)) }
+{
+    let seed = Seed::new(seed);
+    let me = me.number();
+    let mut keys = Vec::new(alloc);
+    push_replicas(&seed, faults, me, &mut keys)?;
+    let clients = clients_of(me, clients);
+    push_clients(&seed, clients, me, &mut keys)?;
+    Ok(keys)
+}
+
+// How many clients a party exchanges frames with: a replica with all, a client with none.
+fn clients_of(me: u16, clients: u16) -> u16
+    ensures { result ≡ clients_of me clients }
+{
+    if me < FIRST_CLIENT { clients } else { 0 }
+}
+
+// Appends the keys that a party shares with all other replicas.
+fn push_replicas(
+    seed: &Seed,
+    faults: u8,
+    me: u16,
+    keys: &mut Vec<SharedKey>,
+) -> Result<(), AllocError>
+    ensures { OnOk result (keys.new.items ≡ keys.old.items ++ keys_with seed.now me (other_replicas faults me)) }
+{
+    for party in 0..3 * u16::from(faults) + 1 {
+        push_other(seed, me, party, keys)?;
+    }
+    Ok(())
+}
+
+// Appends the keys that a party shares with this one, if that is another.
+fn push_other(
+    seed: &Seed,
+    me: u16,
+    party: u16,
+    keys: &mut Vec<SharedKey>,
+) -> Result<(), AllocError>
+    ensures { OnOk result (keys.new.items ≡ keys.old.items ++ keys_with seed.now me (others_among (party ∷ []) me)) }
+{
+    if party == me {
+        return Ok(());
+    }
+    seed.push_both(me, party, keys)
+}
+
+// Appends the keys that a replica shares with all clients.
+fn push_clients(
+    seed: &Seed,
+    clients: u16,
+    me: u16,
+    keys: &mut Vec<SharedKey>,
+) -> Result<(), AllocError>
+    requires { clients ≤ 256 }
+    ensures { OnOk result (keys.new.items ≡ keys.old.items ++ keys_with seed.now me (all_clients clients)) }
+{
+    for client in 0..clients {
+        seed.push_both(me, FIRST_CLIENT + client, keys)?;
+    }
+    Ok(())
+}
+
+/// The key from one party to another, if it is among these.
+pub(crate) fn key_among(keys: &[SharedKey], from: u16, to: u16) -> Option<[u8; 32]>
+    ensures { result ≡ find_key keys.now from to }
+{
+    let shared = keys
+        .iter()
+        .find(|shared| shared.from == from && shared.to == to)?;
+    Some(shared.key)
+}
+
+/// Whether two parties exchange frames: replicas with each other and with clients.
+pub(crate) fn do_exchange(faults: u8, clients: u16, from: u16, to: u16) -> bool
+    ensures { result ≡ do_exchange faults clients from to }
+{
+    let replicas = 3 * u16::from(faults) + 1;
+    if from < replicas {
+        to != from && (to < replicas || is_client(clients, to))
+    } else {
+        is_client(clients, from) && to < replicas
+    }
+}
+
+fn is_client(clients: u16, party: u16) -> bool
+    ensures { result ≡ is_among_clients clients party }
+{
+    party >= FIRST_CLIENT && party - FIRST_CLIENT < clients
+}
+
+/// The seed of a party's signatures, derived from that of the configuration. Only replicas sign.
+pub fn signing_seed(seed: &[u8; 32], signer: Party) -> [u8; 32]
+    ensures { result ≡ signing_seed seed.now (party_number signer) }
+{
+    let [high, low] = signer.number().to_be_bytes();
+    hmac(seed, &[b'S', high, low])
+}
+
+// The text that the key from one party to another is derived from.
+fn key_text(from: u16, to: u16) -> [u8; 5]
+    ensures { result ≡ 0x4d ∷ to_be_bytes w16 from ++ to_be_bytes w16 to }
+{
+    let [from_high, from_low] = from.to_be_bytes();
+    let [to_high, to_low] = to.to_be_bytes();
+    [b'M', from_high, from_low, to_high, to_low]
+}
