@@ -2,6 +2,7 @@
 
 ghost use Rattle.std.specs.Prelude.{◌≡◌, ◌↔◌, ◌+◌, ◌*◌, ◌<◌, true, false, [], Err, IfOk, OnErr};
 ghost use Rattle.events.specs.declared.output.Stop.TheVariants as Stop;
+ghost use Rattle.protocol.specs.System.Configuration.{Configuration, members};
 ghost use Rattle.replica.specs.State.{IsReplicaData, has_stopped};
 ghost use Rattle.replica.specs.Fits.{EventLeads, Fits, SendsAsMeant, me_of};
 
@@ -48,7 +49,8 @@ impl Model for Replica {
 }
 
 impl Replica {
-    /// A replica of this configuration before its first event. The public keys are the configuration's.
+    /// A replica of this configuration before its first event. The public keys are the configuration's. It fits the
+    /// empty history of each configuration with the same members and period: no replica knows who is faulty.
     ///
     /// # Errors
     ///
@@ -62,7 +64,8 @@ impl Replica {
     ) -> Result<Replica, NoMemory>
         requires known { me.0 < 3 * config.now.faults + 1 }
         requires keys { publics ≡ config.now.seed }
-        ensures fits { IfOk result (λ r. Fits config.now r []) }
+        ensures fits { IfOk result (λ r. (c : Configuration) → members c ≡ members config.now
+            → c.period ≡ config.now.period → Fits c r []) }
         ensures number { IfOk result (λ r. me_of r ≡ me.0) }
         ensures runs { IfOk result (λ r. has_stopped r ≡ false) }
     {
