@@ -1,10 +1,11 @@
 //! A replica.
 
-ghost use Rattle.std.specs.Prelude.{◌≡◌, ◌↔◌, ◌+◌, ◌*◌, ◌<◌, true, false, [], Err, IfOk, OnErr};
+ghost use Rattle.std.specs.Prelude.{◌≡◌, ◌↔◌, ◌+◌, ◌*◌, ◌<◌, true, false, [], Err, IfOk, IfSome, OnErr, is_none};
 ghost use Rattle.events.specs.declared.output.Stop.TheVariants as Stop;
 ghost use Rattle.protocol.specs.System.Configuration.{Configuration, members};
 ghost use Rattle.replica.specs.State.{IsReplicaData, has_stopped};
 ghost use Rattle.replica.specs.Fits.{EventLeads, Fits, SendsAsMeant, me_of};
+ghost use Rattle.replica.specs.Standing.{TellsStanding};
 
 use crate::both_parts::BothParts;
 use crate::member::Member;
@@ -12,6 +13,7 @@ use crate::parted::{Desk, Orderer};
 use desk::Desk as DeskState;
 use events::{Config, Outputs, Stop};
 use orderer::Orderer as OrdererState;
+use patience::Standing;
 use signing::PublicKeys;
 use std::alloc::Global;
 use std::marker::Model;
@@ -84,6 +86,18 @@ impl Replica {
         ensures value { result ≡ has_stopped self.now }
     {
         self.holds.is_none()
+    }
+
+    /// What the replica waits for between two events, or `None` if it has stopped.
+    pub fn standing(&self) -> Option<Standing>
+        ensures runs { is_none result ≡ has_stopped self.now }
+        ensures stands { IfSome result (TellsStanding self.now) }
+    {
+        let Some(both_parts) = &self.holds else {
+            return None;
+        };
+        both_parts.are_one();
+        Some(both_parts.standing())
     }
 
     /// What the replica gives for its next input.
