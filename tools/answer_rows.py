@@ -1,5 +1,5 @@
-"""The rows of tools/test about answers to words that ask for help or are wrong: those of the program, those that ./btspace
-gives before anything is built, and what tools/manual makes of them."""
+"""The rows of tools/test about answers to words that ask for help or are wrong: those of the program, those that
+./btspace gives before anything is built, and what tools/manual makes of them."""
 
 import os
 import shutil
@@ -17,9 +17,9 @@ manual = tool("manual")
 
 # Words that ./btspace answers before anything is built.
 QUICK = (
-    "", "--help", "-h", "--version", "-V", "help", "help local", "help run", "help schedule", "help show", "local --help",
-    "run --help", "schedule --help", "show --help", "nope", "help nope", "--nope", "-q", "local", "run one",
-    "local --space 3 one", "schedule --trace --trace one", "show one two",
+    "", "--help", "-h", "--version", "-V", "help", "help local", "help run", "help schedule", "help show",
+    "local --help", "run --help", "schedule --help", "show --help", "nope", "help nope", "--nope", "-q", "local",
+    "run one", "local --space 3 one", "schedule --trace --trace one", "show one two",
 )
 # An answer at once takes less, in seconds, on a slow machine too.
 AT_ONCE = 5

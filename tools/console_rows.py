@@ -20,32 +20,36 @@ class Otherwise(Exception):
     """Says what came in place of what was wanted."""
 
 
-def read_until(reader, wanted, name):
-    """Reads until this text has come. Anything else in front of it, or an end, is wrong."""
-    found, late = b"", time.monotonic() + LONGEST
-    while found != wanted:
+def pieces(reader):
+    """Reads what comes, until the end."""
+    late = time.monotonic() + LONGEST
+    while True:
         ready, _, _ = select.select([reader], [], [], max(late - time.monotonic(), 0))
-        piece = read_some(reader) if ready else b""
-        found += piece
-        if not piece or not wanted.startswith(found):
-            raise Otherwise(f"{name} {shown(found)} and not {shown(wanted)}")
-
-
-def read_some(reader):
-    try:
-        return os.read(reader, 1 << 16)
-    except OSError:
-        # So the end of a terminal is told, once nobody has it open.
-        return b""
+        if not ready:
+            raise Otherwise("it waits for too long")
+        try:
+            piece = os.read(reader, 1 << 16)
+        except OSError:
+            # So the end of a terminal is told, once nobody has it open.
+            piece = b""
+        if not piece:
+            return
+        yield piece
 
 
 def read_all(reader):
+    return b"".join(pieces(reader))
+
+
+def read_until(reader, wanted, name):
+    """Reads until this text has come. Anything else in front of it, or an end, is wrong."""
     found = b""
-    while True:
-        piece = read_some(reader)
-        if not piece:
-            return found
+    for piece in pieces(reader) if wanted else ():
         found += piece
+        if found == wanted or not wanted.startswith(found):
+            break
+    if found != wanted:
+        raise Otherwise(f"{name} {shown(found)} and not {shown(wanted)}")
 
 
 class Talk:
@@ -95,6 +99,9 @@ class Talk:
             raise Otherwise("it doesn't end") from None
         if ended != status:
             raise Otherwise(f"status {ended} and not {status}")
+        results = read_all(self.begun.stdout.fileno())
+        if results:
+            raise Otherwise(f"results {shown(results)} at the end")
 
 
 def fault_of_talk(talk, words, **streams):
@@ -137,11 +144,10 @@ def helped(talk):
     talk.says(PROMPT)
     talk.type(b"help\n")
     told = b""
-    while not told.endswith(b"\n" + PROMPT):
-        piece = read_some(talk.near)
+    for piece in pieces(talk.near):
         told += piece
-        if not piece:
-            raise Otherwise(f"the terminal {shown(told)}")
+        if told.endswith(b"\n" + PROMPT):
+            break
     lines = told.decode().splitlines()
     for name in OPERATIONS:
         # Its form, what it does, and an example.
@@ -153,8 +159,8 @@ def helped(talk):
 
 def file_of_lines(talk):
     """A script that is a file has no prompt."""
-    talk.ends(0)
     talk.answers((TOP / "examples" / "first.out").read_bytes())
+    talk.ends(0)
     if talk.said():
         raise Otherwise("the terminal has a text")
 

@@ -45,6 +45,8 @@ class Ended(NamedTuple):
 
 def tool(name):
     """The script of this name in this folder, as a module."""
+    if name in sys.modules:
+        return sys.modules[name]
     loader = SourceFileLoader(name, str(TOOLS / name))
     module = module_from_spec(spec_from_loader(name, loader))
     sys.modules[name] = module
@@ -63,11 +65,9 @@ def bounded(words, kilobytes):
 
 
 def end_group(begun):
-    """Ends a process that was started as the head of a session, with all that it started."""
-    try:
+    """Ends a process that was started as the head of a session, with all that it started, unless it has ended."""
+    if begun.poll() is None:
         os.killpg(begun.pid, signal.SIGKILL)
-    except ProcessLookupError:
-        pass
 
 
 def run(words, folder, given=b"", **streams):

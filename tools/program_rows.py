@@ -1,13 +1,12 @@
 """The rows of tools/test that run the program by words: each word, each option, each status, each output.
 
-What has to come of a row follows from docs/formats.md and from what the operations of a space answer. None of it was
-copied from what the program printed.
+What has to come of a row stands in docs/formats.md, or follows from it. None of it was copied from what the program
+printed.
 """
 
 import os
 import re
 import shlex
-import subprocess
 import tempfile
 from pathlib import Path
 from typing import NamedTuple
@@ -36,7 +35,7 @@ READ_REPORT = (
 )
 # Each of its ticks makes replica 1 send a view change, until it has no signature left.
 TICKS = "invoke 0 out (1)\ndeliver 0 r1\n" + "tick r1\n" * 65
-STOPPED = re.compile(r"stopped\n[^\n]+\n")
+STOPPED, NO_CONFIGURATION = re.compile(r"stopped\n[^\n]+\n"), re.compile(r"refused 25\n[^\n]+\n")
 MISTAKE = re.compile(r"error: [^\n]+\n(.|\n)*")
 
 
@@ -56,7 +55,8 @@ def summary(views="0(, \\d+)*", limit=65536):
 def calls(*results):
     """The form of a report of these calls, each of a client, a timestamp and an answer."""
     told = [f"client {client} time {time} {re.escape(answer)}\n" for client, time, answer in results]
-    return re.compile("".join([*(rf"accepted \d+ {it}" for it in told), *(rf"point \d+ {it}" for it in told), r"trace \d+\n"]))
+    lines = [rf"{kind} \d+ {it}" for kind in ("accepted", "point") for it in told]
+    return re.compile("".join(lines) + r"trace \d+\n")
 
 
 class Case(NamedTuple):
@@ -81,7 +81,7 @@ LOCAL = (
     Case("a script from standard input", "local -", SCRIPT, RESULTS),
     Case("a script from standard input by its path", "local /dev/stdin", SCRIPT, RESULTS),
     Case("an empty script", "local -"),
-    Case("blank lines, comments and both ends of lines", "local -", "# a\n\n  \nout (1)\r\nrdp (1)", "done\nfound (1)\n"),
+    Case("blanks, comments and ends of lines", "local -", "# a\n\n  \nout (1)\r\nrdp (1)", "done\nfound (1)\n"),
     Case("two calls of cas", "local -", CAS, "swapped true\nswapped false\n"),
     Case(
         "a full space", "local -", "out (1)\n" * 8192 + "out (2)\ncas (2) (2)\ncas (1) (2)\ninp (1)\nout (2)\n",
@@ -98,8 +98,14 @@ LOCAL = (
         "a text too long", "local -", f'out ()\nout ("{"a" * 1021}")\n',
         "line 2: refused 3\nan encoding of more than 1,024 bytes\n", "done\n",
     ),
-    refused("a number with a zero before it", "local -", "out (01)\n", "line 1: refused 6 at byte 6\nno line begins so: out (01\n"),
-    refused("too many matches", "local -", "rdAll 65 (*)\n", "line 1: refused 6 at byte 7\nno line begins so: rdAll 65\n"),
+    refused(
+        "a number with a zero before it", "local -", "out (01)\n",
+        "line 1: refused 6 at byte 6\nno line begins so: out (01\n",
+    ),
+    refused(
+        "too many matches", "local -", "rdAll 65 (*)\n",
+        "line 1: refused 6 at byte 7\nno line begins so: rdAll 65\n",
+    ),
     refused(
         "a line too long", "local -", "out (1" + " " * 65536 + ")\n",
         "line 1: refused 6 at byte 65536\na line has at most 65536 bytes\n",
@@ -107,10 +113,12 @@ LOCAL = (
     refused("a refused line ends the run", "local -", TYPO, TYPO_SAID, "done\n"),
     refused("a refused line doesn't end the run", "local --keep-going -", TYPO, TYPO_SAID, "done\nfound (1)\n"),
     refused(
-        "each refused line is told", "local --keep-going script", "", "line 1: refused 6 at byte 0\nno line begins so: f\n"
-        "line 3: refused 6 at byte 5\nno line begins so: out (*\n", "done\n", {"script": "foo\nout (1)\nout (*)\n"},
+        "each refused line is told", "local --keep-going script", "",
+        "line 1: refused 6 at byte 0\nno line begins so: f\n"
+        "line 3: refused 6 at byte 5\nno line begins so: out (*\n",
+        "done\n", {"script": "foo\nout (1)\nout (*)\n"},
     ),
-    refused("both options", "local --keep-going --space 2 -", "foo\n" + OF_TWO, TYPO_SAID.replace("line 2", "line 1"), TAKEN),
+    refused("both options", "local --keep-going --space 2 -", "# a\nfoo\n" + OF_TWO, TYPO_SAID, TAKEN),
     Case("no refused line to go on after", "local --keep-going -", SCRIPT, RESULTS),
     refused(
         "an escaped name", "local 'a\x1b[2J'", "", "cannot read a\\u{1b}[2J\nNo such file or directory (os error 2)\n"
@@ -160,7 +168,7 @@ RUN = (
     ),
     refused("a refused line", "run examples/cluster.toml -", TYPO, TYPO_SAID),
     refused(
-        "a script is no configuration", "run script examples/cluster.toml", "", re.compile(r"refused 25\n[^\n]+\n"),
+        "a script is no configuration", "run script examples/cluster.toml", "", NO_CONFIGURATION,
         files={"script": SCRIPT},
     ),
     Case("a summary", "run --summary examples/cluster.toml -", SCRIPT, RESULTS, said=summary()),
@@ -209,7 +217,7 @@ SCHEDULE = (
         "the standard input twice", "schedule - -", "", "cannot read -\nthe standard input is read for the first file\n"
     ),
     refused(
-        "a schedule is no configuration", "schedule file examples/cluster.toml", "", re.compile(r"refused 25\n[^\n]+\n"),
+        "a schedule is no configuration", "schedule file examples/cluster.toml", "", NO_CONFIGURATION,
         files={"file": READ},
     ),
     Case("no entry to draw", "schedule --picture --from 66 examples/cluster.toml -", READ, "", 2, MISTAKE),
@@ -253,15 +261,15 @@ def cases(programs):
         for words in ("run examples/cluster.toml -", "schedule examples/cluster.toml -"):
             said = "error: this program has the commands local and show alone\n"
             case = Case("", words, "", "", 2, said)
-            yield Row(f"btspace {words}, by the program of local and show", lambda it=case: fault_of_case(programs.local, it))
+            name = f"btspace {words}, by the program of local and show"
+            yield Row(name, lambda it=case: fault_of_case(programs.local, it))
 
 
 # What writes results, or a text that was asked for.
+PLAYED = "examples/cluster.toml examples/schedules/first_read.schedule"
 WRITERS = (
-    "local -", "local --keep-going -", "run examples/cluster.toml -", "schedule examples/cluster.toml examples/schedules/first_read.schedule",
-    "schedule --trace examples/cluster.toml examples/schedules/first_read.schedule",
-    "schedule --picture examples/cluster.toml examples/schedules/first_read.schedule", "show 00", "--help", "--version",
-    "help run",
+    "local -", "local --keep-going -", "run examples/cluster.toml -", f"schedule {PLAYED}", f"schedule --trace {PLAYED}",
+    f"schedule --picture {PLAYED}", "show 00", "--help", "--version", "help run",
 )
 NO_SPACE = re.compile(rb"stopped\n(not written: )?No space left on device \(os error 28\)\n")
 
@@ -311,9 +319,9 @@ def fault_of_memory(program):
 
 def fault_of_threads(program):
     """The threads of a cluster of ten replicas take more than 12 MB of addresses."""
-    ended = run(bounded([program, "run", "-", CLUSTER], 12_000), TOP, config("f = 3").encode())
     ended = run(bounded([program, "run", "-", "examples/first.bts"], 12_000), TOP, config("f = 3").encode())
-    return None if ended.status == 3 and not ended.results and STOPPED.fullmatch(ended.said.decode()) else ended.as_text()
+    is_right = ended.status == 3 and not ended.results and STOPPED.fullmatch(ended.said.decode())
+    return None if is_right else ended.as_text()
 
 
 def fault_of_bytes(program):
@@ -352,7 +360,7 @@ def fault_of_trace(program):
 
 
 def titles(program, *options):
-    """The positions of a picture's rows, by the texts that show where the pointer rests, or None if it is no picture."""
+    """The positions that the texts tell which a picture shows where the pointer rests, or None if it is no picture."""
     ended = run([program, "schedule", "--picture", *options, CLUSTER, FIRST_READ], TOP)
     if ended.status or ended.said or not ended.results.lstrip().startswith(b"<"):
         return None
@@ -375,9 +383,9 @@ def others(programs):
     yield Row("a word that isn't UTF-8: btspace local", lambda: fault_of_bytes(program))
     yield Row("a silent and a stale replica: btspace run --drill", lambda: fault_of_drills(program))
     yield Row("a trace: btspace schedule --trace", lambda: fault_of_trace(program))
-    for options, first, last in (((), 0, 65), (("--from", "51"), 51, 65), (("--to", "9"), 0, 9), (("--from", "3", "--to", "9"), 3, 9)):
-        name = " ".join(["a picture: btspace schedule --picture", *options])
-        yield Row(name, lambda it=options, one=first, other=last: fault_of_picture(program, it, one, other))
+    for options, first, last in (("", 0, 65), ("--from 51", 51, 65), ("--to 9", 0, 9), ("--from 3 --to 9", 3, 9)):
+        name = f"a picture: btspace schedule --picture {options}".rstrip()
+        yield Row(name, lambda it=options.split(), one=first, other=last: fault_of_picture(program, it, one, other))
 
 
 def all_rows(programs):
