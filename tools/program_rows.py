@@ -128,7 +128,7 @@ LOCAL = (
 SHOW = (
     Case("nested values", "show 020501020001780401", "", '(("x") true)\n'),
     Case("an escaped character", "show 0102000109", "", '("\\x09")\n'),
-    Case("digits in either case", "show 010302aBCd".replace("0302", "030002"), "", "(xabcd)\n"),
+    Case("digits in either case", "show 01030002aBCd", "", "(xabcd)\n"),
     Case("a value of each kind", f"show {ALL_KINDS}", "", '(1 "a" x00ff true () w1)\n'),
     refused("a truth value of none", "show 020501020001780402", "", "refused 5\nthese bytes spell no tuple\n"),
     refused("a byte left over", "show 0000", "", "refused 5\nthe tuple ends after 1 of 2 bytes\n"),
@@ -265,19 +265,21 @@ def cases(programs):
             yield Row(name, lambda it=case: fault_of_case(programs.local, it))
 
 
-# What writes results, or a text that was asked for.
+# What writes results, and what writes a text that was asked for.
 PLAYED = "examples/cluster.toml examples/schedules/first_read.schedule"
 WRITERS = (
     "local -", "local --keep-going -", "run examples/cluster.toml -", f"schedule {PLAYED}", f"schedule --trace {PLAYED}",
-    f"schedule --picture {PLAYED}", "show 00", "--help", "--version", "help run",
+    f"schedule --picture {PLAYED}", "show 00",
 )
-NO_SPACE = re.compile(rb"stopped\n(not written: )?No space left on device \(os error 28\)\n")
+TELLERS = ("--help", "--version", "help run")
+NO_SPACE = "No space left on device (os error 28)\n"
 
 
 def fault_of_full(program, words):
     with open("/dev/full", "wb") as full:
         ended = run([program, *shlex.split(words)], TOP, b"out (1)\n", stdout=full)
-    return None if ended.status == 3 and NO_SPACE.fullmatch(ended.said) else ended.as_text()
+    why = NO_SPACE if words in TELLERS else f"not written: {NO_SPACE}"
+    return None if (ended.status, ended.said.decode()) == (3, f"stopped\n{why}") else ended.as_text()
 
 
 def fault_of_unread(program, words):
@@ -299,7 +301,7 @@ def fault_of_unsaid(program, words, status):
 
 def outputs(programs):
     """The rows of outputs that can't be written."""
-    for words in WRITERS:
+    for words in (*WRITERS, *TELLERS):
         yield Row(f"no space for the output: btspace {words}", lambda it=words: fault_of_full(programs.whole, it))
         yield Row(f"nobody reads the output: btspace {words}", lambda it=words: fault_of_unread(programs.whole, it))
     for words, status in (("nope", 2), ("local nothing", 1), ("show 0", 1), ("run nothing nothing", 1)):
