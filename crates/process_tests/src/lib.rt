@@ -6,6 +6,8 @@ mod readers;
 #[cfg(test)]
 mod reading;
 #[cfg(test)]
+mod serving;
+#[cfg(test)]
 mod timers;
 #[cfg(test)]
 mod writing;

@@ -1,4 +1,3 @@
-pub mod Stands
 pub mod Serving
 pub mod Endings
 pub mod Texts

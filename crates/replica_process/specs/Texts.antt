@@ -13,7 +13,7 @@ use Rattle.patience.specs.Moments.{Moment, Begins}
 use Rattle.patience.specs.PatienceView.{Fits}
 use Rattle.patience.specs.declared.patience.Timer.{Timer}
 use Rattle.patience.specs.declared.standing.Standing.{Standing}
-use Rattle.replica_process.specs.Stands.{Stands}
+use Rattle.patience.specs.Stands.{Stands}
 use Rattle.replica_process.specs.Serving.{Serves, timer_text}
 use Rattle.replica_process.specs.Endings.{WritesFront, ServesBytes}
 use Rattle.replica_process.specs.declared.fault.ServeFault.{ServeFault}

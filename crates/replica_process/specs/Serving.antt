@@ -8,7 +8,7 @@ use Rattle.records.specs.Records.{NoticeData, came, timer_over, linked as links_
 use Rattle.patience.specs.Moments.{Moment, linked, Begins, Ends}
 use Rattle.patience.specs.declared.patience.Timer.{Timer}
 use Rattle.patience.specs.declared.standing.Standing.{Standing}
-use Rattle.replica_process.specs.Stands.{Stands}
+use Rattle.patience.specs.Stands.{Stands}
 
 -- ---- what is written for an event
 

@@ -12,7 +12,7 @@ pub trait Machine {
     ghost use Rattle.protocol.specs.System.Trace.Entry.{Got, Tick};
     ghost use Rattle.protocol.specs.Replica.Owed.{IsPromptReplica};
     ghost use Rattle.events.specs.Outputs.{after_event, AreSentAsMeant};
-    ghost use Rattle.replica_process.specs.Stands.{Stands};
+    ghost use Rattle.patience.specs.Stands.{Stands};
 
     /// Its number among the parties.
     ghost me: { Self → ℕ };
