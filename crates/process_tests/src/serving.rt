@@ -154,8 +154,8 @@ enum End {
     Other,
 }
 
-fn end_of(result: Result<(), ServeFault>) -> End {
-    match result {
+fn end_of(ended: Result<(), ServeFault>) -> End {
+    match ended {
         Ok(()) => End::AtEnd,
         Err(ServeFault::NoMemory) => End::Memory,
         Err(ServeFault::Write(_)) => End::Writing,
