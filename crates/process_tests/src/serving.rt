@@ -67,16 +67,19 @@ fn sent(alloc: Global, receivers: &[Party], frame: &[u8]) -> Result<Outputs, Sto
     Ok(outputs)
 }
 
-// What it reads and what it then writes, by another implementation of the loop, in Python: a frame; timer 1; a frame;
-// timer 2; timer 2 again; one link; timer 3; a record of kind 9; two links; timer 4; an empty frame.
-static READ: [u8; 102] = [
-    0x00, 0x00, 0x00, 0x02, 0x01, 0xa1, 0x00, 0x00, 0x00, 0x09, 0x02, 0x00, 0x00, 0x00, 0x00, 0x00,
-    0x00, 0x00, 0x01, 0x00, 0x00, 0x00, 0x03, 0x01, 0xb2, 0xb3, 0x00, 0x00, 0x00, 0x09, 0x02, 0x00,
-    0x00, 0x00, 0x00, 0x00, 0x00, 0x00, 0x02, 0x00, 0x00, 0x00, 0x09, 0x02, 0x00, 0x00, 0x00, 0x00,
-    0x00, 0x00, 0x00, 0x02, 0x00, 0x00, 0x00, 0x02, 0x03, 0x01, 0x00, 0x00, 0x00, 0x09, 0x02, 0x00,
-    0x00, 0x00, 0x00, 0x00, 0x00, 0x00, 0x03, 0x00, 0x00, 0x00, 0x03, 0x09, 0x7a, 0x7a, 0x00, 0x00,
-    0x00, 0x02, 0x03, 0x02, 0x00, 0x00, 0x00, 0x09, 0x02, 0x00, 0x00, 0x00, 0x00, 0x00, 0x00, 0x00,
-    0x04, 0x00, 0x00, 0x00, 0x01, 0x01,
+// What it reads and what it then writes, by another implementation of the loop, in Python: timer 1, before any frame; a
+// frame; timer 1; a record of no bytes; a frame; timer 2; timer 2 again; a timer of three bytes; one link; timer 3; a
+// record of kind 9; two links; timer 4; links without a count; an empty frame.
+static READ: [u8; 132] = [
+    0x00, 0x00, 0x00, 0x09, 0x02, 0x00, 0x00, 0x00, 0x00, 0x00, 0x00, 0x00, 0x01, 0x00, 0x00, 0x00,
+    0x02, 0x01, 0xa1, 0x00, 0x00, 0x00, 0x09, 0x02, 0x00, 0x00, 0x00, 0x00, 0x00, 0x00, 0x00, 0x01,
+    0x00, 0x00, 0x00, 0x00, 0x00, 0x00, 0x00, 0x03, 0x01, 0xb2, 0xb3, 0x00, 0x00, 0x00, 0x09, 0x02,
+    0x00, 0x00, 0x00, 0x00, 0x00, 0x00, 0x00, 0x02, 0x00, 0x00, 0x00, 0x09, 0x02, 0x00, 0x00, 0x00,
+    0x00, 0x00, 0x00, 0x00, 0x02, 0x00, 0x00, 0x00, 0x04, 0x02, 0x00, 0x00, 0x00, 0x00, 0x00, 0x00,
+    0x02, 0x03, 0x01, 0x00, 0x00, 0x00, 0x09, 0x02, 0x00, 0x00, 0x00, 0x00, 0x00, 0x00, 0x00, 0x03,
+    0x00, 0x00, 0x00, 0x03, 0x09, 0x7a, 0x7a, 0x00, 0x00, 0x00, 0x02, 0x03, 0x02, 0x00, 0x00, 0x00,
+    0x09, 0x02, 0x00, 0x00, 0x00, 0x00, 0x00, 0x00, 0x00, 0x04, 0x00, 0x00, 0x00, 0x01, 0x03, 0x00,
+    0x00, 0x00, 0x01, 0x01,
 ];
 
 static WRITTEN: [u8; 136] = [
@@ -92,18 +95,27 @@ static WRITTEN: [u8; 136] = [
 ];
 
 // Where each of these records ends, and what is due for all up to it.
-static ENDS: [(usize, usize); 11] = [
-    (6, 28),
-    (19, 54),
-    (26, 66),
-    (39, 83),
-    (52, 83),
-    (58, 83),
-    (71, 100),
-    (78, 100),
-    (84, 100),
-    (97, 126),
-    (102, 136),
+static ENDS: [(usize, usize); 15] = [
+    (13, 0),
+    (19, 28),
+    (32, 54),
+    (36, 54),
+    (43, 66),
+    (56, 83),
+    (69, 83),
+    (77, 83),
+    (83, 83),
+    (96, 100),
+    (103, 100),
+    (109, 100),
+    (122, 126),
+    (127, 126),
+    (132, 136),
+];
+
+// A frame, and then a record that says to have 4,294,967,295 bytes.
+static LONGEST: [u8; 12] = [
+    0x00, 0x00, 0x00, 0x02, 0x01, 0xa1, 0xff, 0xff, 0xff, 0xff, 0x01, 0xa1,
 ];
 
 // How many bytes are due for so many that were read.
@@ -124,19 +136,28 @@ fn due(len: usize) -> &'static [u8] {
 // Takes so many bytes at a time, and fails beyond so many.
 #[derive(Drop)]
 struct Sink {
-    taken: Vec<u8>,
+    taken: [u8; 136],
+    len: usize,
     step: usize,
     most: usize,
 }
 
+impl Sink {
+    fn taken(&self) -> &[u8] {
+        &self.taken[..self.len.min(136)]
+    }
+}
+
 impl Write for Sink {
     fn write(&mut self, buf: &[u8]) -> io::Result<usize> {
-        let room = self.most.saturating_sub(self.taken.len());
+        let from = self.len.min(136);
+        let room = self.most.min(136).saturating_sub(from);
         let count = buf.len().min(self.step).min(room);
         if count == 0 && !buf.is_empty() {
             return Err(io::Error::from(ErrorKind::BrokenPipe));
         }
-        self.taken.extend_from_slice(&buf[..count])?;
+        self.taken[from..from + count].copy_from_slice(&buf[..count]);
+        self.len = from + count;
         Ok(count)
     }
 
@@ -145,7 +166,7 @@ impl Write for Sink {
     }
 }
 
-// How a run ends over the first bytes of the input.
+// How a run ends.
 #[derive(Clone, Copy, PartialEq, Eq)]
 enum End {
     AtEnd,
@@ -163,70 +184,106 @@ fn end_of(ended: Result<(), ServeFault>) -> End {
     }
 }
 
-// A run: over so many bytes of the input, so many at a time; to a writer that takes so many at a time, and so many at
-// most; and memory runs out at the frame of this number.
+// A run: over this input, of which so many bytes come at a time; to a writer that takes so many at a time, and so many
+// at most; and memory runs out at the frame of this number.
 #[derive(Clone, Copy)]
 struct Case {
-    len: usize,
+    input: &'static [u8],
     read: usize,
     written: usize,
     most: usize,
     last: u64,
 }
 
-const WHOLE: Case = Case {
-    len: 102,
-    read: 102,
-    written: 136,
-    most: 136,
-    last: 99,
-};
+fn whole() -> Case {
+    Case {
+        input: &READ,
+        read: 132,
+        written: 136,
+        most: 136,
+        last: 99,
+    }
+}
 
-// Whether the run ends so, and what is written is this.
-fn goes(alloc: Global, case: Case, end: End, written: &[u8]) -> bool {
-    let left = &READ[..case.len.min(READ.len())];
+fn sink(case: Case) -> Sink {
+    Sink {
+        taken: [0; 136],
+        len: 0,
+        step: case.written,
+        most: case.most,
+    }
+}
+
+fn run(alloc: Global, case: Case, sink: &mut Sink) -> End {
     let pieces = Pieces {
-        left,
+        left: case.input,
         step: case.read,
     };
     let echo = Echo {
         frames: 0,
         last: case.last,
     };
-    let mut sink = Sink {
-        taken: Vec::new(alloc),
-        step: case.written,
-        most: case.most,
-    };
-    let ended = end_of(serve(alloc, echo, 2, pieces, &mut sink));
-    ended == end && sink.taken.as_slice() == written
+    end_of(serve(alloc, echo, 2, pieces, sink))
+}
+
+// Whether the run ends so, and what is written is this.
+fn goes(alloc: Global, case: Case, end: End, written: &[u8]) -> bool {
+    let mut sink = sink(case);
+    run(alloc, case, &mut sink) == end && sink.taken() == written
 }
 
 #[test]
 fn pieces_of_any_length_give_the_same(rt: HostRuntime) {
     let alloc = rt.alloc();
-    for step in 1..103 {
-        let read = Case { read: step, ..WHOLE };
-        assert!(rt; goes(alloc, read, End::AtEnd, &WRITTEN), "{step} bytes are read at a time");
-        let written = Case { written: step, ..WHOLE };
-        assert!(rt; goes(alloc, written, End::AtEnd, &WRITTEN), "{step} are written at a time");
+    for step in 1..133 {
+        let read = Case {
+            read: step,
+            ..whole()
+        };
+        assert!(rt;
+            goes(alloc, read, End::AtEnd, &WRITTEN),
+            "{step} bytes are read at a time"
+        );
+        let written = Case {
+            written: step,
+            ..whole()
+        };
+        assert!(rt;
+            goes(alloc, written, End::AtEnd, &WRITTEN),
+            "{step} are written at a time"
+        );
     }
 }
 
 #[test]
 fn an_input_ends_anywhere(rt: HostRuntime) {
     let alloc = rt.alloc();
-    for len in 0..103 {
-        let cut = Case { len, ..WHOLE };
+    for len in 0..133 {
+        let cut = Case {
+            input: &READ[..len.min(132)],
+            ..whole()
+        };
         assert!(rt; goes(alloc, cut, End::AtEnd, due(len)), "{len} bytes");
     }
+    let longest = Case {
+        input: &LONGEST,
+        ..whole()
+    };
+    assert!(rt;
+        goes(alloc, longest, End::AtEnd, due(19)),
+        "the longest length"
+    );
 }
 
 #[test]
 fn a_writer_fails_behind_a_front(rt: HostRuntime) {
     let alloc = rt.alloc();
     for most in 0..136 {
-        let failing = Case { most, read: 7, ..WHOLE };
+        let failing = Case {
+            most,
+            read: 7,
+            ..whole()
+        };
         let front = &WRITTEN[..most.min(136)];
         assert!(rt; goes(alloc, failing, End::Writing, front), "{most} bytes");
     }
@@ -235,12 +292,39 @@ fn a_writer_fails_behind_a_front(rt: HostRuntime) {
 #[test]
 fn want_of_memory_stops_it_between_events(rt: HostRuntime) {
     let alloc = rt.alloc();
-    let first = Case { last: 0, ..WHOLE };
+    let first = Case { last: 0, ..whole() };
     assert!(rt; goes(alloc, first, End::Memory, &[]));
-    let second = Case { last: 1, ..WHOLE };
-    assert!(rt; goes(alloc, second, End::Memory, due(19)));
-    let third = Case { last: 2, ..WHOLE };
-    assert!(rt; goes(alloc, third, End::Memory, due(97)));
+    let second = Case { last: 1, ..whole() };
+    assert!(rt; goes(alloc, second, End::Memory, due(36)));
+    let third = Case { last: 2, ..whole() };
+    assert!(rt; goes(alloc, third, End::Memory, due(127)));
+}
+
+// Whether all is written, or memory ran out, and all is written that was due up to some record.
+fn stops_between_events(alloc: Global, case: Case) -> bool {
+    let mut sink = sink(case);
+    match run(alloc, case, &mut sink) {
+        End::AtEnd => sink.taken() == WRITTEN.as_slice(),
+        End::Memory => ends_with_a_record(sink.taken()),
+        _ => false,
+    }
+}
+
+fn ends_with_a_record(taken: &[u8]) -> bool {
+    let is_at_end = ENDS.iter().any(|end| end.1 == taken.len());
+    is_at_end && taken == &WRITTEN[..taken.len().min(136)]
+}
+
+// For `rt try --fail-alloc`: it passes whatever is refused.
+#[test]
+fn any_refusal_stops_it_between_events(rt: HostRuntime) {
+    let pieces = Case {
+        read: 1,
+        written: 1,
+        ..whole()
+    };
+    assert!(rt; stops_between_events(rt.alloc(), whole()));
+    assert!(rt; stops_between_events(rt.alloc(), pieces));
 }
 
 // What was flushed, and whether it was all that was due at each read.
@@ -328,7 +412,7 @@ fn answers_first(alloc: Global, step: usize) -> bool {
 
 #[test]
 fn all_is_written_before_it_waits(rt: HostRuntime) {
-    for step in 1..103 {
+    for step in 1..133 {
         assert!(rt; answers_first(rt.alloc(), step), "{step} bytes at a time");
     }
 }

@@ -25,8 +25,25 @@ trace_append : (past : List Entry) (xs ys : List (List Entry)) → trace_after p
 trace_append past [] ys = refl
 trace_append past (event ∷ xs) ys = trace_append (after_entries event past) xs ys
 
-none_partial : IsPartial []
+pub none_partial : IsPartial []
 none_partial = is_short [] (omega arith)
+
+-- Nothing is read yet.
+pub begins : (c : Configuration) (p needed : ℕ) (bytes : List ℕ) (known written : Option (List ℕ)) (pending : List ℕ)
+    → known ≡ Some bytes → pending ≡ [] → Along c p needed bytes known written written [] [] pending
+begins c p needed bytes known written pending known_is none = record {
+  front = [];
+  rest = bytes;
+  split = refl;
+  known_is = known_is;
+  events = [];
+  done = [];
+  wrote = Appends-nil written;
+  history_is = refl;
+  each = tt;
+  leads = λ more notices later text told serves.
+      (notices, told, subst (λ l. Serves c p needed [] [] notices later (l ++ text)) (sym none) serves);
+}
 
 module _ (c : Configuration) (p needed : ℕ) (bytes : List ℕ) (known old new : Option (List ℕ)) (history : List Entry) (past : List Moment) (pending : List ℕ) (along : Along c p needed bytes known old new history past pending) where
   -- ---- the next record

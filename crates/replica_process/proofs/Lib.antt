@@ -1,2 +1,4 @@
+mod Writing
 mod Outputs
+mod Noticing
 mod Courses

@@ -1,3 +1,4 @@
+pub mod Faults
 pub mod Serving
 pub mod Endings
 pub mod Texts

@@ -9,12 +9,10 @@ use Rattle.protocol.specs.System.Configuration.{Configuration}
 use Rattle.protocol.specs.System.Trace.{Entry}
 use Rattle.party_runs.specs.Interleavings.{IsEventOf, trace_after, trace_of}
 use Rattle.records.specs.Records.{NoticeData, TellNotices, IsPartial, frame_record}
-use Rattle.patience.specs.Moments.{Moment, Begins}
+use Rattle.patience.specs.Moments.{Moment}
 use Rattle.patience.specs.PatienceView.{Fits}
 use Rattle.patience.specs.declared.patience.Timer.{Timer}
-use Rattle.patience.specs.declared.standing.Standing.{Standing}
-use Rattle.patience.specs.Stands.{Stands}
-use Rattle.replica_process.specs.Serving.{Serves, timer_text}
+use Rattle.replica_process.specs.Serving.{Serves, AsksFor, timer_text}
 use Rattle.replica_process.specs.Endings.{WritesFront, ServesBytes}
 use Rattle.replica_process.specs.declared.fault.ServeFault.{ServeFault}
 use Rattle.replica_process.specs.declared.fault.ServeFault.TheVariants.{NoMemory, TooLarge, Read, Write}
@@ -72,11 +70,9 @@ pub record Holds {M : Type 0} (me : M → ℕ) (fits : M → Configuration → L
 -- The timer began for which the patience asks, if for one, and its record is appended.
 pub record MayBeginTimer {M : Type 0} (me : M → ℕ) (fits : M → Configuration → List Entry → Type 0) (c : Configuration)
     (p needed : ℕ) (history : List Entry) (past : List Moment) (old new : Process M) : Type 0 where
-  pub standing : Standing
   pub timer : Option Timer
   pub now : List Moment
-  pub stands : Stands c p history standing
-  pub begins : Begins past standing timer now
+  pub asks : AsksFor c p history past timer now
   pub holds : Holds me fits c p needed history now new
   pub text : new.text.items ≡ old.text.items ++ timer_text timer
 

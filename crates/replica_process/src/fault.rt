@@ -1,5 +1,9 @@
 //! Why a process ends before its input does.
 
+ghost use Rattle.std.specs.Prelude.{◌≡◌};
+ghost use Rattle.replica_process.specs.declared.fault.ServeFault.TheVariants as faults;
+ghost use Rattle.replica_process.specs.Faults.{serve_fault_of};
+
 use events::Stop;
 use records::PutFault;
 use std::io;
@@ -22,18 +26,24 @@ pub enum ServeFault {
 }
 
 impl From<NoMemory> for ServeFault {
+    ghost from_gives = { λ _ fault. fault ≡ faults.NoMemory };
+
     fn from(_failed: NoMemory) -> ServeFault {
         ServeFault::NoMemory
     }
 }
 
 impl From<Stop> for ServeFault {
+    ghost from_gives = { λ _ fault. fault ≡ faults.NoMemory };
+
     fn from(_stop: Stop) -> ServeFault {
         ServeFault::NoMemory
     }
 }
 
 impl From<PutFault> for ServeFault {
+    ghost from_gives = { λ put fault. fault ≡ serve_fault_of put };
+
     fn from(fault: PutFault) -> ServeFault {
         match fault {
             PutFault::TooLarge => ServeFault::TooLarge,

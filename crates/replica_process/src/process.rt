@@ -139,9 +139,10 @@ impl<M: Machine> Process<M> {
             Ok(false) => return Ok(false),
             Err(error) => return Err(ServeFault::Read(error)),
         }
-        if let Some(notice) = records.notice() {
-            self.take(alloc, notice)?;
-        }
+        let Some(notice) = records.notice() else {
+            return Ok(true);
+        };
+        self.take(alloc, notice)?;
         Ok(true)
     }
 
@@ -153,18 +154,29 @@ impl<M: Machine> Process<M> {
         ensures err { OnErr result (self.new.text.items ≡ self.old.text.items) }
     {
         let held = self.text.len();
-        let taken = match notice {
+        match self.take_notice(alloc, notice) {
+            Ok(()) => Ok(()),
+            Err(fault) => {
+                self.text.truncate(held);
+                Err(fault)
+            }
+        }
+    }
+
+    fn take_notice(&mut self, alloc: Global, notice: Notice<'_>) -> Result<(), ServeFault>
+        ensures takes { OnOk result ((c : Configuration) (p needed : ℕ) (history : List Entry) (past : List Moment)
+            → Holds M.me M.fits c p needed history past self.old
+            → TakesNotice M.me M.fits c p needed history past (notice_data notice.entry) self.old self.new) }
+        ensures kept { StartsWith self.new.text.items self.old.text.items }
+    {
+        match notice {
             Notice::Came(frame) => self.take_frame(alloc, frame),
             Notice::TimerOver(number) => self.end_timer(alloc, number),
             Notice::Linked(count) => {
                 self.patience.links(count);
                 Ok(())
             }
-        };
-        if taken.is_err() {
-            self.text.truncate(held);
         }
-        taken
     }
 
     fn take_frame(&mut self, alloc: Global, frame: &[u8]) -> Result<(), ServeFault>
@@ -184,10 +196,11 @@ impl<M: Machine> Process<M> {
             → TakesNotice M.me M.fits c p needed history past (timer_over number) self.old self.new) }
         ensures kept { StartsWith self.new.text.items self.old.text.items }
     {
-        if self.patience.ends(number, &self.machine.standing()) {
-            let outputs = self.machine.time_out(alloc)?;
-            put_frames(outputs.as_slice(), &mut self.text)?;
+        if !self.patience.ends(number, &self.machine.standing()) {
+            return self.begin_timer();
         }
+        let outputs = self.machine.time_out(alloc)?;
+        put_frames(outputs.as_slice(), &mut self.text)?;
         self.begin_timer()
     }
 
@@ -198,9 +211,10 @@ impl<M: Machine> Process<M> {
             → MayBeginTimer M.me M.fits c p needed history past self.old self.new) }
         ensures kept { StartsWith self.new.text.items self.old.text.items }
     {
-        if let Some(timer) = self.patience.begins(&self.machine.standing()) {
-            put_timer(timer.number, timer.milliseconds, &mut self.text)?;
-        }
+        let Some(timer) = self.patience.begins(&self.machine.standing()) else {
+            return Ok(());
+        };
+        put_timer(timer.number, timer.milliseconds, &mut self.text)?;
         Ok(())
     }
 }
