@@ -205,7 +205,7 @@ fn whole() -> Case {
     }
 }
 
-fn sink(case: Case) -> Sink {
+fn sink_of(case: Case) -> Sink {
     Sink {
         taken: [0; 136],
         len: 0,
@@ -228,7 +228,7 @@ fn run(alloc: Global, case: Case, sink: &mut Sink) -> End {
 
 // Whether the run ends so, and what is written is this.
 fn goes(alloc: Global, case: Case, end: End, written: &[u8]) -> bool {
-    let mut sink = sink(case);
+    let mut sink = sink_of(case);
     run(alloc, case, &mut sink) == end && sink.taken() == written
 }
 
@@ -302,7 +302,7 @@ fn want_of_memory_stops_it_between_events(rt: HostRuntime) {
 
 // Whether all is written, or memory ran out, and all is written that was due up to some record.
 fn stops_between_events(alloc: Global, case: Case) -> bool {
-    let mut sink = sink(case);
+    let mut sink = sink_of(case);
     match run(alloc, case, &mut sink) {
         End::AtEnd => sink.taken() == WRITTEN.as_slice(),
         End::Memory => ends_with_a_record(sink.taken()),
