@@ -1,4 +1,5 @@
-//! Tests of what a process of a party stands on: records (`records`) and timers (`patience`).
+//! Tests of what a process of a party stands on: records (`records`), timers (`patience`) and the loop of a replica
+//! (`replica_process`).
 #![tactic(auto)]
 
 #[cfg(test)]
