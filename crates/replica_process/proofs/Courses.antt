@@ -49,7 +49,7 @@ module _ (c : Configuration) (p needed : ℕ) (bytes : List ℕ) (known old new 
   -- ---- the next record
 
   module _ (left : Option (List ℕ)) (kept : List ℕ) (takes : TakesRecord along.rest left kept) where
-    longer : List ℕ
+    abbrev longer : List ℕ
     longer = along.front ++ piece takes.body
 
     split_longer : bytes ≡ longer ++ takes.rest

@@ -2,3 +2,4 @@ mod Writing
 mod Outputs
 mod Noticing
 mod Courses
+mod Running

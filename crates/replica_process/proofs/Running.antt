@@ -19,6 +19,21 @@ use Rattle.replica_process.proofs.Writing.{all_left}
 use Rattle.replica_process.proofs.Noticing.{is_right}
 use Rattle.replica_process.proofs.Courses.{none_partial, begins, past_nothing, past_notice, moved, all_served, stopped_here, failed_here}
 
+-- ---- what a test of a result tells
+
+pub if_true : (A B : Type 0) (more : Bool) → more ≡ true → MatchBool more A B → A
+if_true A B more is h = subst (λ b. MatchBool b A B) is h
+
+pub if_false : (A B : Type 0) (more : Bool) → more ≡ false → MatchBool more A B → B
+if_false A B more is h = subst (λ b. MatchBool b A B) is h
+
+-- What holds of bytes that are known holds if they are.
+pub if_known : (P : List ℕ → Type 0) (known : Option (List ℕ)) → ((bytes : List ℕ) → known ≡ Some bytes → P bytes) → IfSome known P
+if_known P None h = tt
+if_known P (Some bytes) h = h bytes refl
+
+-- ---- at a record
+
 -- right: the law of the machine
 module _ {M : Type 0} (me : M → ℕ) (fits : M → Configuration → List Entry → Type 0) (right : (machine : M) (c : Configuration) (history : List Entry) → fits machine c history → IsPromptReplica c (me machine) history) (c : Configuration) (p needed : ℕ) (bytes : List ℕ) where
   -- Nothing is read yet.
@@ -79,11 +94,22 @@ module _ {M : Type 0} (me : M → ℕ) (fits : M → Configuration → List Entr
             process.text.items (all_left written process.text.items)
 
     -- what an attempt to take a record says of the bytes that are left
-    pub told : {E : Type 0} (A B : List ℕ → Type 0) (result : Result Bool E) (more : Bool) → result ≡ Ok more
-        → IfSome known (λ xs. IfOk result (λ b. MatchBool b (A xs) (B xs))) → MatchBool more (A here.along.rest) (B here.along.rest)
-    told A B result more is said =
-        subst (λ r. IfOk r (λ b. MatchBool b (A here.along.rest) (B here.along.rest))) is
-        (subst (λ o. IfSome o (λ xs. IfOk result (λ b. MatchBool b (A xs) (B xs)))) here.along.known_is said)
+    advanced : {E : Type 0} (left : Option (List ℕ)) (kept : List ℕ) (result : Result Bool E) (more : Bool) → result ≡ Ok more
+        → IfSome known (λ xs. IfOk result (λ b. MatchBool b (TakesRecord xs left kept) (IsPartial xs × (kept ≡ []))))
+        → MatchBool more (TakesRecord here.along.rest left kept) (IsPartial here.along.rest × (kept ≡ []))
+    advanced left kept result more is said =
+        subst (λ r. IfOk r (λ b. MatchBool b (TakesRecord here.along.rest left kept) (IsPartial here.along.rest × (kept ≡ [])))) is
+        (subst (λ o. IfSome o (λ xs. IfOk result (λ b. MatchBool b (TakesRecord xs left kept) (IsPartial xs × (kept ≡ []))))) here.along.known_is said)
+
+    pub took : {E : Type 0} (left : Option (List ℕ)) (kept : List ℕ) (result : Result Bool E) (more : Bool) → result ≡ Ok more → more ≡ true
+        → IfSome known (λ xs. IfOk result (λ b. MatchBool b (TakesRecord xs left kept) (IsPartial xs × (kept ≡ []))))
+        → TakesRecord here.along.rest left kept
+    took left kept result more is e said = if_true _ _ more e (advanced left kept result more is said)
+
+    pub took_none : {E : Type 0} (left : Option (List ℕ)) (kept : List ℕ) (result : Result Bool E) (more : Bool) → result ≡ Ok more → more ≡ false
+        → IfSome known (λ xs. IfOk result (λ b. MatchBool b (TakesRecord xs left kept) (IsPartial xs × (kept ≡ []))))
+        → IsPartial here.along.rest
+    took_none left kept result more is e said = (if_false _ _ more e (advanced left kept result more is said)).0
 
     -- There is none.
     pub ends_here : IsPartial here.along.rest → HasServed c p needed bytes start written process.text.items
@@ -110,14 +136,6 @@ module _ {M : Type 0} (me : M → ℕ) (fits : M → Configuration → List Entr
         along = past_notice c p needed bytes known start written here.history here.past process.text.items here.along left kept taken
             notice tells_so takes.events takes.now takes.added new.text.items takes.each takes.text takes.leads;
       }
-
--- ---- what a test of a result tells
-
-pub if_true : {A B : Type 0} (more : Bool) → more ≡ true → MatchBool more A B → A
-if_true {A} {B} more is h = subst (λ b. MatchBool b A B) is h
-
-pub if_false : {A B : Type 0} (more : Bool) → more ≡ false → MatchBool more A B → B
-if_false {A} {B} more is h = subst (λ b. MatchBool b A B) is h
 
 -- ---- the end
 
@@ -149,6 +167,14 @@ module _ (c : Configuration) (p needed : ℕ) (bytes : List ℕ) (start written 
       → WritesAll result written later pending → EndsServing c p needed result bytes start later
   ends_all (Ok done) served wrote = wrote_rest bytes served wrote
   ends_all (Err error) served wrote = by_failing bytes [] (sym (append-nil bytes)) served error wrote
+
+  -- It stopped, since writing failed.
+  pub stopped_writing : (fault : ServeFault) → IsWriteFault fault → HasStopped c p needed fault bytes start written pending
+      → StopsBy c p needed fault bytes start written
+  stopped_writing NoMemory is stopped = absurd is
+  stopped_writing TooLarge is stopped = absurd is
+  stopped_writing (Read error) is stopped = absurd is
+  stopped_writing (Write error) is stopped = stopped
 
   -- It stopped at a fault that is none of writing, and the rest of the text was written.
   pub stopped_all : (fault : ServeFault) → (IsWriteFault fault → ⊥) → HasStopped c p needed fault bytes start written pending

@@ -25,6 +25,23 @@ pub enum ServeFault {
     Write(io::Error),
 }
 
+impl ServeFault {
+    ghost use Rattle.std.specs.Prelude.{◌↔◌, IsTrue};
+    ghost use Rattle.replica_process.specs.Texts.{IsWriteFault};
+
+    /// Whether writing failed.
+    pub(crate) fn is_of_writing(&self) -> bool
+        ensures { IsTrue result ↔ IsWriteFault self.now }
+    {
+        match self {
+            ServeFault::NoMemory => false,
+            ServeFault::TooLarge => false,
+            ServeFault::Read(_) => false,
+            ServeFault::Write(_) => true,
+        }
+    }
+}
+
 impl From<NoMemory> for ServeFault {
     ghost from_gives = { λ _ fault. fault ≡ faults.NoMemory };
 

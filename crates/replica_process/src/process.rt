@@ -74,14 +74,15 @@ impl<M: Machine> Process<M> {
             (left_of R.remaining records.old) (W.contents writer.old) self.old
             → EndsServing c p needed result bytes start (W.contents writer.new) }
     {
-        match self.serve_records(alloc, records, writer) {
-            Ok(()) => write_out(&mut self.text, writer),
-            Err(ServeFault::Write(error)) => Err(ServeFault::Write(error)),
-            Err(fault) => match write_out(&mut self.text, writer) {
-                Ok(()) => Err(fault),
-                Err(error) => Err(error),
-            },
+        let fault = match self.serve_records(alloc, records, writer) {
+            Ok(()) => return write_out(&mut self.text, writer),
+            Err(fault) => fault,
+        };
+        if fault.is_of_writing() {
+            return Err(fault);
         }
+        write_out(&mut self.text, writer)?;
+        Err(fault)
     }
 
     fn serve_records<R: Read + Drop, W: Write>(
