@@ -10,7 +10,7 @@ returns-in-Ok g c k p needed bytes start here =
 
 pub returns-then-is_of_writing : goal.returns-then-is_of_writing
 returns-then-is_of_writing g c k p needed bytes start here =
-    stopped_writing k p needed bytes start _ _ _ c.in-Err.fault (c.is_of_writing.ensures.0 c.if-is_of_writing.true)
+    stopped_writing k p needed bytes start _ (g.W.Write.contents c.serve_records.new.writer) _ c.in-Err.fault (c.is_of_writing.ensures.0 c.if-is_of_writing.true)
     (c.in-Err.ensures {u = tt} k p needed bytes start here)
 
 pub returns-in_err-write_out : goal.returns-in_err-write_out

@@ -6,7 +6,7 @@ use Rattle.replica_process.proofs.process.Process.serve_record.Goals as goal
 pub returns-in_err-write_due : goal.returns-in_err-write_due
 returns-in_err-write_due g c k p needed bytes start here =
     let e = err_from_is_err_and c.from_residual.result c.from_residual.ensures.1 in
-    rw (e.1, e.2) (write_failed g.M.Machine.me g.M.Machine.fits g.met.M.Machine.is_right k p needed bytes start _ _ _ here _ _ _ (c.in_err-write_due.ensures {u = tt}).some)
+    rw (e.1, e.2) (write_failed g.M.Machine.me g.M.Machine.fits g.met.M.Machine.is_right k p needed bytes start _ _ _ here (g.W.Write.contents c.write_due.new.writer) c.write_due.new.text.items _ (c.in_err-write_due.ensures {u = tt}).some)
 
 pub returns : goal.returns
 returns g c k p needed bytes start here =

@@ -1,12 +1,17 @@
 use Rattle.std.proofs.Common.{refl}
 use Rattle.std.proofs.lemmas.Result.{err_from_is_err_and}
 use Rattle.replica_process.specs.declared.fault.ServeFault.TheVariants.{Read}
-use Rattle.replica_process.proofs.Running.{if_true, stops}
+use Rattle.replica_process.proofs.Running.{if_true, if_false, stops}
 use Rattle.replica_process.proofs.process.Process.serve_records.Goals as goal
 
 pub loop-preserved : goal.loop-preserved
 loop-preserved g c k p needed bytes start here =
     if_true _ _ c.in_ok-serve_record.field-0 c.if-not-branch.false
+    (c.in_ok-serve_record.ensures {u = tt} k p needed bytes start (c.loop.invariant k p needed bytes start here))
+
+pub returns-then-not-branch : goal.returns-then-not-branch
+returns-then-not-branch g c k p needed bytes start here =
+    if_false _ _ c.in_ok-serve_record.field-0 c.if-not-branch.true
     (c.in_ok-serve_record.ensures {u = tt} k p needed bytes start (c.loop.invariant k p needed bytes start here))
 
 pub returns-in_err-serve_record : goal.returns-in_err-serve_record
