@@ -1,6 +1,5 @@
 -- Courses over records, one after another.
-use Rattle.std.proofs.Common.{◌≡◌, ℕ, true, false, List, [], ◌∷◌, ◌++◌, length, map, Option, Some, None, refl, sym, ap, subst, ◌∙◌, arith, append_assoc, append-nil}
-use Rattle.std.specs.Io.KnownBytes.{Appends}
+use Rattle.std.proofs.Common.{◌≡◌, ℕ, List, [], ◌∷◌, ◌++◌, Option, Some, refl, sym, ap, subst, ◌∙◌, arith, append_assoc, append-nil}
 use Rattle.std.proofs.KnownBytes.{Appends-nil, Appends-trans}
 use Rattle.wire_format.specs.Lists.{Each}
 use Rattle.wire_format.specs.Spelling.{piece}
@@ -8,8 +7,8 @@ use Rattle.protocol.specs.System.Configuration.{Configuration}
 use Rattle.protocol.specs.System.Trace.{Entry}
 use Rattle.protocol.specs.Replica.Owed.{IsPromptReplica}
 use Rattle.events.specs.Outputs.{after_entries}
-use Rattle.party_runs.specs.Interleavings.{IsEventOf, trace_after, trace_of}
-use Rattle.records.specs.Records.{IsBody, NoticeData, TellsNotice, TellsNothing, TellNotices, tells, passes, ends as bytes_end, IsPartial, TakesRecord, kept_of}
+use Rattle.party_runs.specs.Interleavings.{IsEventOf, trace_after}
+use Rattle.records.specs.Records.{NoticeData, TellsNotice, TellsNothing, TellNotices, tells, passes, ends as bytes_end, IsPartial, TakesRecord}
 use Rattle.records.proofs.Framing.{is_short}
 use Rattle.records.proofs.Telling.{kept_tell_the_same}
 use Rattle.patience.specs.Moments.{Moment}
@@ -99,10 +98,12 @@ module _ (c : Configuration) (p needed : ℕ) (bytes : List ℕ) (known old new 
           (step notices later written serves) in
           let text : (along.done ++ pending) ++ (added ++ written) ≡ (along.done ++ still) ++ written =
           sym (append_assoc (along.done ++ pending) added written)
-          ∙ ap (λ l. l ++ written) (append_assoc along.done pending added ∙ ap (λ l. along.done ++ l) (sym is_still)) in
-          (whole.0, subst (λ l. TellNotices l whole.0) (regroup more) whole.1,
-          subst (λ e. Serves c p needed [] [] whole.0 e ((along.done ++ still) ++ written)) (sym (append_assoc along.events events later))
-          (subst (λ t. Serves c p needed [] [] whole.0 (along.events ++ (events ++ later)) t) text whole.2));
+          ∙ ap (λ l. l ++ written) (append_assoc along.done pending added ∙ ap (λ l. along.done ++ l) (sym is_still)) in (
+            whole.0,
+            subst (λ l. TellNotices l whole.0) (regroup more) whole.1,
+            subst (λ e. Serves c p needed [] [] whole.0 e ((along.done ++ still) ++ written)) (sym (append_assoc along.events events later))
+                (subst (λ t. Serves c p needed [] [] whole.0 (along.events ++ (events ++ later)) t) text whole.2),
+          );
     }
 
   -- ---- some of the text is written
@@ -156,8 +157,14 @@ module _ (c : Configuration) (p needed : ℕ) (bytes : List ℕ) (known old new 
   -- writing failed behind a front of the text
   pub failed_here : IsPromptReplica c p history → (written : Option (List ℕ)) (left : List ℕ) → FrontIsWritten new written pending left
       → WritesFront c p needed bytes old written
-  failed_here right written left moves =
-      (along.front, along.rest, along.events, along.done ++ moves.front, left, along.split,
-      subst (λ t. ServesBytes c p needed along.front along.events t)
-      (ap (λ l. along.done ++ l) (sym moves.split) ∙ sym (append_assoc along.done moves.front left)) (front_served right),
-      Appends-trans old new written along.done moves.front along.wrote moves.wrote)
+  failed_here right written left moves = (
+    along.front,
+    along.rest,
+    along.events,
+    along.done ++ moves.front,
+    left,
+    along.split,
+    subst (λ t. ServesBytes c p needed along.front along.events t)
+        (ap (λ l. along.done ++ l) (sym moves.split) ∙ sym (append_assoc along.done moves.front left)) (front_served right),
+    Appends-trans old new written along.done moves.front along.wrote moves.wrote,
+  )

@@ -1,5 +1,5 @@
 -- What a notice makes of a process.
-use Rattle.std.proofs.Common.{◌≡◌, ℕ, Bool, true, false, Result, OnOk, List, [], ◌∷◌, ◌++◌, Option, Some, None, map, refl, sym, ap, subst, ◌∙◌, append_assoc, append-nil}
+use Rattle.std.proofs.Common.{◌≡◌, ℕ, Bool, true, false, Result, OnOk, List, [], ◌∷◌, ◌++◌, Option, map, refl, sym, ap, subst, ◌∙◌, append_assoc, append-nil}
 use Rattle.std.proofs.lemmas.Result.{on_ok_weaker}
 use Rattle.protocol.specs.System.Configuration.{Configuration}
 use Rattle.protocol.specs.System.Trace.{Entry, party_of, is_output}
@@ -14,7 +14,7 @@ use Rattle.patience.specs.PatienceView.{Fits, PatienceData, MayBegin, MayEnd}
 use Rattle.patience.specs.Stands.{Stands}
 use Rattle.patience.specs.declared.patience.Timer.{Timer}
 use Rattle.patience.specs.declared.standing.Standing.{Standing}
-use Rattle.replica_process.specs.Serving.{Serves, takes, times_out, goes_on, notes, timer_text, frames_text, AsksFor, TimerEnds}
+use Rattle.replica_process.specs.Serving.{Serves, takes, times_out, goes_on, notes, timer_text, frames_text, TimerEnds}
 use Rattle.replica_process.specs.Texts.{Holds, MayBeginTimer, TakesNotice, outputs_text}
 use Rattle.replica_process.specs.declared.process.Process.{Process}
 use Rattle.replica_process.specs.declared.fault.ServeFault.{ServeFault}

@@ -1,10 +1,9 @@
 -- The outputs of a step as entries, and their records.
-use Rattle.std.proofs.Common.{◌≡◌, ℕ, true, false, List, [], ◌∷◌, ◌++◌, map, refl, sym, ap, ◌∙◌, inl}
-use Rattle.terms.specs.Parties.{party_number}
+use Rattle.std.proofs.Common.{◌≡◌, ℕ, true, false, List, [], ◌∷◌, ◌++◌, map, refl, ap, ◌∙◌, inl}
 use Rattle.wire_format.specs.Lists.{Each}
 use Rattle.protocol.specs.System.Configuration.{Configuration}
 use Rattle.protocol.specs.System.Trace.{Entry, party_of, is_output, Always, AreOutputs}
-use Rattle.protocol.specs.Replica.Owed.{IsReplica, IsPromptReplica}
+use Rattle.protocol.specs.Replica.Owed.{IsPromptReplica}
 use Rattle.protocol.proofs.Words.Reacting.{replicas_have_own}
 use Rattle.events.specs.Outputs.{entry_of, after_entries, receivers_in, AreSentAsMeant}
 use Rattle.events.specs.declared.output.Output.{Output}

@@ -1,17 +1,16 @@
 -- A process at one of the records that it reads.
-use Rattle.std.proofs.Common.{◌≡◌, ℕ, Bool, true, false, List, [], ◌∷◌, ◌++◌, Option, Some, None, IfSome, Result, Ok, Err, IfOk, MatchResult, MatchBool, OnOk, refl, sym, ap, subst, ◌∙◌, append_assoc, append-nil}
+use Rattle.std.proofs.Common.{◌≡◌, ℕ, Bool, true, false, List, [], ◌++◌, Option, Some, None, IfSome, Result, Ok, Err, IfOk, MatchBool, refl, sym, ap, subst, ◌∙◌, append_assoc, append-nil}
 use Rattle.std.specs.Io.KnownBytes.{Appends}
 use Rattle.std.proofs.KnownBytes.{Appends-nil, Appends-trans}
 use Rattle.protocol.specs.System.Configuration.{Configuration}
 use Rattle.protocol.specs.System.Trace.{Entry}
 use Rattle.protocol.specs.Replica.Owed.{IsPromptReplica}
 use Rattle.records.specs.Records.{NoticeData, TellsNotice, TellsNothing, ends as bytes_end, IsPartial, TakesRecord}
-use Rattle.patience.specs.Moments.{Moment}
 use Rattle.patience.specs.PatienceView.{Fits}
 use Rattle.party_runs.specs.Interleavings.{trace_after}
 use Rattle.replica_process.specs.Serving.{ends}
 use Rattle.replica_process.specs.Endings.{ServesBytes, Writes, WritesForFront, WritesFront, StopsBy, EndsServing}
-use Rattle.replica_process.specs.Texts.{Holds, TakesNotice, IsAt, HasServed, HasStopped, ServesNext, FrontIsWritten, FailsToWrite, WritesAll, IsWriteFault}
+use Rattle.replica_process.specs.Texts.{Holds, TakesNotice, IsAt, HasServed, HasStopped, FrontIsWritten, FailsToWrite, WritesAll, IsWriteFault}
 use Rattle.replica_process.specs.declared.fault.ServeFault.{ServeFault}
 use Rattle.replica_process.specs.declared.fault.ServeFault.TheVariants.{NoMemory, TooLarge, Read, Write}
 use Rattle.replica_process.specs.declared.process.Process.{Process}
@@ -144,11 +143,17 @@ module _ (c : Configuration) (p needed : ℕ) (bytes : List ℕ) (start written 
   fails : (front left : List ℕ) → bytes ≡ front ++ left → HasServed c p needed front start written pending
       → (error : ServeFault) → FailsToWrite written later pending error → WritesFront c p needed bytes start later
   fails front left split served error wrote =
-      let some = wrote.1.1 in
-      (front, left, served.0, served.1 ++ some.front, wrote.1.0, split,
-      subst (λ t. ServesBytes c p needed front served.0 t)
-      (ap (λ l. served.1 ++ l) (sym some.split) ∙ sym (append_assoc served.1 some.front wrote.1.0)) served.2,
-      Appends-trans start written later served.1 some.front served.3 some.wrote)
+      let some = wrote.1.1 in (
+        front,
+        left,
+        served.0,
+        served.1 ++ some.front,
+        wrote.1.0,
+        split,
+        subst (λ t. ServesBytes c p needed front served.0 t)
+            (ap (λ l. served.1 ++ l) (sym some.split) ∙ sym (append_assoc served.1 some.front wrote.1.0)) served.2,
+        Appends-trans start written later served.1 some.front served.3 some.wrote,
+      )
 
   wrote_rest : (front : List ℕ) → HasServed c p needed front start written pending → Appends written later pending
       → Writes c p needed front start later
