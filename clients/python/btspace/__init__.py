@@ -9,8 +9,8 @@
         with btspace.Lock(space, "printer") as held:
             print("term", held.term)
 
-`local` starts a space of its own, in a process that ends with it. A `Space` is over any program that answers each line with a
-line. `btspace.aio` has the same for asyncio.
+`local` starts a space of its own, in a process that ends with it. A `Space` is over any program that answers each line
+with a line. `btspace.aio` has the same for asyncio.
 """
 
 from .barriers import Barrier

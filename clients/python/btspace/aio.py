@@ -4,11 +4,11 @@
         async with aio.Lock(space, "printer") as held:
             await space.out(("printed", held.term))
 
-Each class is as the one of its name in `btspace`, whose page says what a dead holder costs. Tasks may share a space. The
-calls of many tasks are under way at once, and are answered in their order.
+Each class is as the one of its name in `btspace`, whose page says what a dead holder costs. Tasks may share a space.
+The calls of many tasks are under way at once, and are answered in their order.
 
-A task that is cancelled while its call is under way doesn't hear the answer, but the call acts: an `inp` or a `take` may have
-taken a tuple that nobody gets. A lock isn't lost so.
+A task that is cancelled while its call is under way doesn't hear the answer, but the call acts: an `inp` or a `take`
+may have taken a tuple that nobody gets. A lock isn't lost so.
 """
 
 import asyncio
@@ -82,7 +82,7 @@ class Space:
             raise NoAnswer(f"no answer within {self.timeout} seconds to: {operation.line[:100]}") from None
 
     def submit(self, operation: "Operation[Any]") -> "asyncio.Future[str]":
-        """Makes one call, and doesn't wait: its answer line comes as the result. The process takes calls in their order."""
+        """Makes one call without waiting: its answer line comes as the result. Calls act in their order."""
         if self._child is None or self._child.stdin is None or self._hearing is None or self._is_closed:
             raise Error("this client is closed")
         asked = one_line(operation.line)

@@ -14,15 +14,15 @@ class Barrier:
         barrier = Barrier(space, "start", ["ann", "ben", "cal"], me="ann")
         barrier.wait(timeout=10)
 
-    *A worker that died* before it arrived keeps the others waiting: TimedOut tells who is missing, and `missing` too. One
-    that died later costs nothing in that round. Whoever takes its work over makes a barrier in its name, calls `join`, and
-    goes on. Or somebody who waits calls `arrive` for it, round after round.
+    *A worker that died* before it arrived keeps the others waiting: TimedOut tells who is missing, and `missing` too.
+    One that died later costs nothing in that round. Whoever takes its work over makes a barrier in its name, calls
+    `join`, and goes on. Or somebody who waits calls `arrive` for it, round after round.
 
     *A worker that was only slow* arrives once more, which does no harm, and passes each round that is over.
     """
 
     def __init__(self, space: Space, name: str, workers: Sequence[str], me: str, *, round: int = 1) -> None:
-        """`workers` are the names of all, 32 at most. The first `wait` is for this round, the next for the one after it."""
+        """`workers` are the names of all, 32 at most. The first `wait` is for this round."""
         self.workers = recipes.crew(workers, me)
         self.space = space
         self.name = name

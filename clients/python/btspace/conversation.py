@@ -1,12 +1,12 @@
-"""A conversation with a program that answers each line with a line, in their order: what it was asked, and what it says.
+"""A conversation with a program that answers each line with a line, in their order.
 
 In place of an answer a refusal may come. `btspace local --keep-going` tells it on standard error, by two lines:
 
     line 2: refused 6 at byte 5
     no line begins so: out (*
 
-So the program has one pipe for both outputs, where all stands in the order in which it was written. A program that tells a
-refusal on one line begins it with `! `.
+So the program has one pipe for both outputs, where all stands in the order in which it was written. A program that
+tells a refusal on one line begins it with `! `.
 
 The bytes are moved by `process` with threads, and by `aio` in an event loop.
 """
@@ -24,8 +24,8 @@ __all__ = ["CHILD", "Answer", "Conversation", "one_line"]
 
 Answer = Union["Future[str]", "asyncio.Future[str]"]
 
-# How a program is started. It is in a session of its own, so that ^C at the terminal doesn't end it: whoever is interrupted
-# may still want to let go of a lock.
+# How a program is started. It is in a session of its own, so that ^C at the terminal doesn't end it: whoever is
+# interrupted may still want to let go of a lock.
 CHILD: Dict[str, Any] = {
     "stdin": subprocess.PIPE,
     "stdout": subprocess.PIPE,

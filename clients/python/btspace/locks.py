@@ -25,7 +25,7 @@ class _Permits:
         self._place = 0
 
     def acquire(self, timeout: Optional[float] = None) -> Held:
-        """Waits, and gives the term in which it is held. After so many seconds TimedOut is raised, and nothing is held."""
+        """Waits, and gives the term in which it is held. After so many seconds TimedOut is raised."""
         if self.held is not None:
             raise Error(f"this worker holds {self._names[self._place]!r} already")
         seconds = self.timeout if timeout is None else timeout
@@ -69,18 +69,18 @@ class Lock(_Permits):
         with Lock(space, "printer") as held:
             ...
 
-    *A holder that died* keeps the lock, and nothing else is lost. The space can't tell a dead holder from a slow one, and no
-    lock runs out. Somebody has to decide that the holder is dead: `give_up(holder())` sets the lock free, and the next
-    holder's term is higher. If whoever gives it up dies meanwhile, anybody does the same once more.
+    *A holder that died* keeps the lock, and nothing else is lost. The space can't tell a dead holder from a slow one,
+    and no lock runs out. Somebody has to decide that the holder is dead: `give_up(holder())` sets the lock free,
+    and the next holder's term is higher. If whoever gives it up dies meanwhile, anybody does the same once more.
 
-    *A holder that was only slow* learns of it from `holds`, and at the end from GivenUp. Until then two may do what the lock
-    guards. So name the term, `held.term`, in all that is done under the lock: what has seen a later one refuses it.
+    *A holder that was only slow* learns of it from `holds`, and at the end from GivenUp. Until then two may do what the
+    lock guards. So name the term, `held.term`, in all that is done under it: what has seen a later one refuses it.
 
     Each worker, and each thread, has an object of its own, and a name that no other has.
     """
 
     def __init__(self, space: Space, name: str, me: Optional[str] = None, *, timeout: float = 60.0) -> None:
-        """`me` is the worker's name; without it one is made. `timeout` is how many seconds a `with` waits for the lock."""
+        """`me` is the worker's name; without it one is made. A `with` waits for so many seconds."""
         super().__init__(space, [name], me, timeout)
         self.name = name
 
@@ -99,7 +99,7 @@ class Semaphore(_Permits):
         with Semaphore(space, "printers", 3) as held:
             ...
 
-    *A holder that died* keeps its permit, and no other. `give_up` sets it free, as that of a lock does, with the same cost.
+    *A holder that died* keeps its permit, and no other. `give_up` sets it free, as that of a lock does.
     """
 
     def __init__(

@@ -31,8 +31,8 @@ class _Asked(NamedTuple):
 class Process:
     """A running program: `command` is the program and its words.
 
-    It may write lines that are no answers, as a build does before it runs what it built. They are passed over, and the last
-    ones are told if it ends.
+    It may write lines that are no answers, as a build does before it runs what it built. They are passed over, and the
+    last ones are told if it ends.
     """
 
     def __init__(self, command: Sequence[str]) -> None:

@@ -1,7 +1,7 @@
 """The recipes of docs/recipes.md as steps, for the classes of `locks`, `barriers`, `registers` and of `aio`.
 
-Each keeps to the order of calls that the recipe gives: on it stands that nothing is lost wherever a worker dies. The tests
-try these very steps in every order, as `tools/recipes` tries the recipes.
+Each keeps to the order of calls that the recipe gives: on it stands that nothing is lost wherever a worker dies. The
+tests try these very steps in every order, as `tools/recipes` tries the recipes.
 """
 
 import os
@@ -44,8 +44,8 @@ def own_name() -> str:
     return f"{socket.gethostname()}/{os.getpid()}/{os.urandom(4).hex()}"
 
 
-# ---- A register: tuples with rising numbers, of which the highest counts. Only a number below one that is there is taken
-# away. Whoever has put one looks again, since the higher ones that forbade it may have been taken away meanwhile.
+# ---- A register: tuples with rising numbers, of which the highest counts. Only a number below one that is there is
+# taken away. Whoever has put one looks again, since the higher ones that forbade it may have been taken away meanwhile.
 
 
 def _all(template: Template, place: int) -> "Steps[List[Any]]":

@@ -17,11 +17,11 @@ class Election:
         if election.stand().name == election.me:
             ...
 
-    *A leader that died* leads until somebody finds it dead and stands in its place: `stand(instead_of=leader)`. Nothing is
-    lost, and the next term begins. A candidate that dies meanwhile costs nothing.
+    *A leader that died* leads until somebody finds it dead and stands in its place: `stand(instead_of=leader)`. Nothing
+    is lost, and the next term begins. A candidate that dies meanwhile costs nothing.
 
-    *A leader that was only slow* learns of the next one when it looks (`leads`). So name the term in all that the leader
-    orders: whoever has seen a higher one passes it over.
+    *A leader that was only slow* learns of the next one when it looks (`leads`). So name the term in all that the
+    leader orders: whoever has seen a higher one passes it over.
     """
 
     def __init__(self, space: Space, name: str, me: Optional[str] = None) -> None:
@@ -35,7 +35,7 @@ class Election:
         return self.space.run(recipes.leader(self.name))
 
     def stand(self, instead_of: Optional[Leader] = None) -> Leader:
-        """Stands for the next term if nobody leads, or this leader, who is taken for dead. Gives who leads after that."""
+        """Stands for the next term if nobody leads, or this leader, who is taken for dead. Gives who leads then."""
         return self.space.run(recipes.stand(self.name, self.me, instead_of))
 
     def leads(self, term: int) -> bool:
@@ -49,12 +49,12 @@ class Config:
         config = Config(space)
         config.change("limit", lambda before: max(before.value, 300) if before else 300)
 
-    *A writer that died* leaves one version too many, which the next change takes away. A setting that was given has a value
-    wherever a writer dies.
+    *A writer that died* leaves one version too many, which the next change takes away. A setting that was given has a
+    value wherever a writer dies.
 
-    A change that came too late may count for a moment, before it is taken back and decided again. Another change may have
-    read it then. So what is decided twice has to do no harm: a value that is set, or an element of a set. A counter is none
-    of that: what has to be added exactly once wants a tuple of its own.
+    A change that came too late may count for a moment, before it is taken back and decided again. Another change may
+    have read it then. So what is decided twice has to do no harm: a value that is set, or an element of a set. A
+    counter is none of that: what has to be added exactly once wants a tuple of its own.
     """
 
     def __init__(self, space: Space) -> None:
@@ -77,6 +77,6 @@ class Config:
     ) -> Setting:
         """Gives the setting the value that `decide` makes of the present one, and gives the version that it put.
 
-        It decides again if another change came first, until no more than `timeout` seconds are over: then TimedOut is raised.
+        If another change came first, it decides again. After so many seconds TimedOut is raised.
         """
         return self.space.run(recipes.change(name, decide, timeout))

@@ -22,8 +22,8 @@ Program = Union[str, Sequence[str], None]
 class Space:
     """A space that a co-process serves: `command` is the program and its words.
 
-    Threads may share one: their calls stand in one queue. Each call takes `timeout` seconds at most, or NoAnswer is raised.
-    Use it in a `with`, or call `close`. All calls raise the exceptions of `btspace.errors`.
+    Threads may share one: their calls stand in one queue. Each call takes `timeout` seconds at most, or NoAnswer is
+    raised. Use it in a `with`, or call `close`. All calls raise the exceptions of `btspace.errors`.
     """
 
     def __init__(self, command: Sequence[str], *, timeout: float = 60.0) -> None:
@@ -63,16 +63,18 @@ class Space:
         self.perform(operations.upgrade())
 
     def take(self, template: Template, timeout: float) -> TupleValue:
-        """Takes the oldest tuple that matches away, as soon as there is one. After `timeout` seconds TimedOut is raised.
+        """Takes the oldest tuple that matches away, as soon as there is one. After so many seconds TimedOut is raised.
 
-        The space has no calls that wait, so this asks again and again. The pauses grow and are drawn by lot. Of several who
-        wait for one tuple one gets it, and nobody is promised a turn.
+        The space has no calls that wait, so this asks again and again. The pauses grow and are drawn by lot. Of several
+        who wait for one tuple one gets it, and nobody is promised a turn.
         """
         return self.run(waiting.until_found(operations.inp(template), timeout))
 
     def read(self, template: Template, timeout: float) -> TupleValue:
-        """Reads the oldest tuple that matches, as soon as there is one, as `take` does. A tuple that is gone between two
-        questions is missed."""
+        """Reads the oldest tuple that matches, as soon as there is one, as `take` does.
+
+        A tuple that comes and goes between two questions is missed.
+        """
         return self.run(waiting.until_found(operations.rdp(template), timeout))
 
     def perform(self, operation: "Operation[Result]") -> Result:
@@ -80,7 +82,7 @@ class Space:
         return operation.answer(self.process.ask(operation.line, self.timeout))
 
     def submit(self, operation: "Operation[Any]") -> "Future[str]":
-        """Makes one call, and doesn't wait: its answer line comes as the result. The process takes calls in their order."""
+        """Makes one call without waiting: its answer line comes as the result. Calls act in their order."""
         return self.process.submit(operation.line)
 
     def run(self, steps: "Steps[Result]") -> Result:
@@ -107,10 +109,10 @@ class Space:
 
 
 def local(program: Program = None, *, version: int = 1, timeout: float = 60.0) -> Space:
-    """A space of its own, in a process that ends with it: for one program's threads, and to try programs without a cluster.
+    """A space of its own, whose process ends with it: for one program's threads, and to try programs.
 
-    `program` is the path of btspace, or that and words before `local`. Without it the environment variable BTSPACE says it,
-    and without that it is found on the PATH. `version` is the version with which the space begins, 1 or 2.
+    `program` is the path of btspace, or that and words before `local`. Without it the environment variable BTSPACE says
+    it, and without that it is found on the PATH. `version` is the version with which the space begins, 1 or 2.
     """
     return Space(local_command(program, version), timeout=timeout)
 

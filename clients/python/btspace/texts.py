@@ -11,7 +11,7 @@ from typing import List, Match
 from .errors import BadByte, Refused, TooDeep, TooLong, TooManyFields
 from .values import Field, Formal, Template, TupleValue, Value, Wide
 
-__all__ = ["MOST_BYTES", "MOST_FIELDS", "MOST_LEVELS", "NotATuple", "read_tuple", "read_tuples", "template_text", "tuple_text"]
+__all__ = ["NotATuple", "read_tuple", "read_tuples", "template_text", "tuple_text"]
 
 MOST_FIELDS = 32
 MOST_LEVELS = 8

@@ -1,7 +1,7 @@
 """Tuples and templates, as Python values.
 
-A tuple is a Python tuple of int, str, bytes, bool, `Wide` and tuples. An int is a number of 64 bits; the wide numbers of
-version 2 have 128. A template is a tuple whose fields are such values, formals (`INT` and the like) and templates.
+A tuple is a Python tuple of int, str, bytes, bool, `Wide` and tuples. An int is a number of 64 bits; the wide numbers
+of version 2 have 128. A template is a tuple whose fields are such values, formals (`INT` and the like) and templates.
 
 To Python `True == 1`, so `(True,) == (1,)`. To a space they are two values of different kinds.
 """
@@ -10,7 +10,8 @@ from enum import Enum
 from functools import total_ordering
 from typing import Tuple, Union
 
-__all__ = ["ANY", "BOOL", "BYTES", "Field", "Formal", "INT", "TEXT", "TUPLE", "Template", "TupleValue", "Value", "WIDE", "Wide"]
+__all__ = ["ANY", "BOOL", "BYTES", "INT", "TEXT", "TUPLE", "WIDE", "Wide"]
+__all__ += ["Field", "Formal", "Template", "TupleValue", "Value"]
 
 
 @total_ordering

@@ -150,7 +150,8 @@ class Lot:
 
     def value(self, level: int) -> Any:
         lot = self.random.random()
-        if lot < (0.28 if level < 7 else 0.6 if level < 9 else 0) and self.random.random() < (0.9 if level > 3 else 0.6):
+        is_nested = lot < (0.17 if level < 4 else 0.25 if level < 7 else 0.54 if level < 9 else 0)
+        if is_nested:
             return self.tuple(level + 1) if level < 4 else (self.value(level + 1),)
         return self.random.choice([self.number, self.wide, self.word, self.bytes, lambda: self.random.random() < 0.5])()
 
@@ -159,7 +160,8 @@ class Lot:
         edges = [0, 1, -1, 2**63 - 1, -(2**63)]
         beyond = [2**63, -(2**63) - 1, 10**30]
         lot = self.random.random()
-        return self.random.choice(beyond if lot < 0.01 else edges if lot < 0.2 else [self.random.randint(-(2**bits), 2**bits - 1)])
+        common = [self.random.randint(-(2**bits), 2**bits - 1)]
+        return self.random.choice(beyond if lot < 0.01 else edges if lot < 0.2 else common)
 
     def wide(self) -> Wide:
         return Wide(self.random.choice([0, 5, -7, 2**127 - 1, -(2**127), self.random.getrandbits(120)]))

@@ -109,7 +109,12 @@ class Asyncio(unittest.IsolatedAsyncioTestCase):
 
 class Ends(unittest.IsolatedAsyncioTestCase):
     async def test_answers_that_were_given_are_not_lost(self):
-        program = "import sys; [sys.stdin.readline() for _ in range(3)]; print('done'); sys.stdout.write('do'); sys.exit(7)"
+        program = """
+            import sys
+            for _ in range(3): sys.stdin.readline()
+            sys.stdout.write("done\\ndo")
+            sys.exit(7)
+        """
         async with aio.Space(script(program)) as space:
             answers = await asyncio.gather(*(space.out((number,)) for number in range(3)), return_exceptions=True)
             self.assertIsNone(answers[0])

@@ -1,7 +1,7 @@
 """The recipes' very steps, in every order of their workers' calls, and with workers that stop at every place.
 
-tools/orders.py goes through the states, as tools/recipes does with its own wording of the recipes. In each state the promise
-of the recipe is looked at, and an heir goes on alone, as if all others had died there.
+tools/orders.py goes through the states, as tools/recipes does with its own wording of the recipes. In each state the
+promise of the recipe is looked at, and an heir goes on alone, as if all others had died there.
 """
 
 import importlib.util
@@ -103,25 +103,24 @@ def give_up_at_once(name, held):
     yield recipes.cas(term, term)
 
 
+def held_by(what, notes):
+    return [held for each in notes.values() for (held,) in orders.noted(each, what)]
+
+
 def promise_of_lock(space, notes, puts):
     """One holds the lock at a time, but for those who were given up: they have lower terms."""
-    given_up = {it for each in notes.values() for it in orders.noted(each, "gives up")}
-    inside = sorted(it for each in notes.values() for it in orders.noted(each, "holds") if it not in orders.noted(each, "lets go"))
-    for (lower,), (higher,) in zip(inside, inside[1:]):
-        orders.hold(lower.term < higher.term and (lower,) in given_up, "two hold the lock", inside, space)
+    given_up = held_by("gives up", notes)
+    inside = sorted({*held_by("holds", notes)} - {*held_by("lets go", notes)})
+    for lower, higher in zip(inside, inside[1:]):
+        orders.hold(lower.term < higher.term and lower in given_up, "two hold the lock", inside, space)
     highest_stays(space, puts, "term", 2)
 
 
 def lock(**form):
-    workers = {"ann": lambda: ask_for_lock("ann", gives_up=False), "ben": lambda: ask_for_lock("ben", **form)}
-    return trial((), workers, promise_of_lock, lambda: ask_for_lock("zoe"), heir_has("holds"))
-
-
-def lock_of_three():
     workers = {
         "ann": lambda: ask_for_lock("ann", gives_up=False),
-        "ben": lambda: ask_for_lock("ben"),
-        "cal": lambda: ask_for_lock("cal"),
+        "ben": lambda: ask_for_lock("ben", **form),
+        "cal": lambda: ask_for_lock("cal", gives_up=False),
     }
     return trial((), workers, promise_of_lock, lambda: ask_for_lock("zoe"), heir_has("holds"))
 
@@ -213,7 +212,7 @@ class EveryOrder(unittest.TestCase):
         self.assertGreater(orders.try_all(lock()), 100)
 
     def test_lock_that_is_given_up_the_wrong_way_round(self):
-        with self.assertRaisesRegex(orders.Broken if ORDERS.exists() else Exception, "two hold the lock"):
+        with self.assertRaisesRegex(orders.Broken, "two hold the lock"):
             orders.try_all(lock(give_up=give_up_at_once))
 
     def test_election(self):
