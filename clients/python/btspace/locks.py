@@ -76,6 +76,8 @@ class Lock(_Permits):
     *A holder that was only slow* learns of it from `holds`, and at the end from GivenUp. Until then two may do what the
     lock guards. So name the term, `held.term`, in all that is done under it: what has seen a later one refuses it.
 
+    *If asking raises Unanswered*, this worker's own tuple may be there: it asks for `holder`, and gives itself up.
+
     Each worker, and each thread, has an object of its own, and a name that no other has.
     """
 

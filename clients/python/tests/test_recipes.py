@@ -94,6 +94,15 @@ class Locks(Recipes):
         self.assertTrue(ben.give_up(ben.holder()))
         self.assertEqual(1, ben.acquire(SHORT).term)
 
+    def test_who_asked_and_got_no_answer(self):
+        ann = Lock(self.space, "printer", "ann")
+        self.space.cas(("lock", "printer", btspace.ANY, btspace.ANY), ("lock", "printer", 0, "ann"))
+        with self.assertRaises(TimedOut):
+            ann.acquire(SHORT)
+        self.assertEqual("ann", ann.holder().holder)
+        ann.give_up(ann.holder())
+        self.assertEqual(Held(1, "ann"), ann.acquire(SHORT))
+
     def test_wrong_uses(self):
         ann = Lock(self.space, "printer")
         self.assertRaises(btspace.Error, ann.release)
