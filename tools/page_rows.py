@@ -149,9 +149,15 @@ def checks():
             yield Row(f"not stale: {command}", lambda it=(TOP / first, *rest): fault_of_check(it))
 
 
+def of_clients(programs):
+    tests = TOP / "clients" / "python" / "run_tests"
+    yield Row("clients/python/run_tests", lambda: fault_of_check((tests, programs.whole), seconds=300))
+
+
 def all_rows(programs):
     yield from of_examples(programs)
     yield from of_refusals(programs)
     yield from of_pages(programs)
+    yield from of_clients(programs)
     yield from of_endless_files(programs)
     yield from checks()

@@ -70,12 +70,12 @@ def end_group(begun):
         os.killpg(begun.pid, signal.SIGKILL)
 
 
-def run(words, folder, given=b"", **streams):
-    """Runs a program on this standard input, and returns how it ended."""
+def run(words, folder, given=b"", seconds=LONGEST, **streams):
+    """Runs a program on this standard input for so many seconds at most, and returns how it ended."""
     how = {"stdin": subprocess.PIPE, "stdout": subprocess.PIPE, "stderr": subprocess.PIPE, **streams}
     begun = subprocess.Popen(words, cwd=folder, start_new_session=True, **how)
     try:
-        texts = begun.communicate(given, LONGEST)
+        texts = begun.communicate(given, seconds)
         status = begun.returncode
     except subprocess.TimeoutExpired:
         end_group(begun)
@@ -87,9 +87,9 @@ def run(words, folder, given=b"", **streams):
     return Ended(status, *(it or b"" for it in texts))
 
 
-def fault_of_check(words, where=TOP):
+def fault_of_check(words, where=TOP, seconds=LONGEST):
     """Returns what a script says if it ends with another status than 0."""
-    ended = run(words, where)
+    ended = run(words, where, seconds=seconds)
     if ended.status == 0:
         return None
     last = (ended.results + ended.said).decode(errors="replace").strip().splitlines()[-3:]
