@@ -24,7 +24,7 @@ CHECKS = {
     "tools/layers --check": True,
     "tools/sizes --check": True,
     "tools/examples": True,
-    "edits/table --check": False,
+    "edits/table --check": True,
 }
 # A stream of this length would not fit into the addresses that a row has.
 STREAM = 64 << 20
