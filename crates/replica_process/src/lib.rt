@@ -2,7 +2,8 @@
 //!
 //! Frames that come, timers that are over and links that change are told by records (`records`). [`serve`] steps a
 //! replica by each, and writes a record for each frame that it sends, and for each timer that then begins (`patience`).
-//! It reads no clock and opens nothing, so what it writes follows from what it reads. A replica is any [`Machine`].
+//! It reads no clock and opens nothing, so what it writes follows from what it reads. A replica is any [`Machine`]; that
+//! of the crate `replica` is one.
 //!
 //! # What is proved
 //!
@@ -24,6 +25,7 @@
 
 mod fault;
 mod machine;
+mod of_replica;
 mod process;
 
 pub use fault::ServeFault;
