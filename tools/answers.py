@@ -179,12 +179,16 @@ class Walk:
         return ((self.name, "shown", name), "") if name == "help" else self.use(name)
 
     def unknown(self, name):
-        """The answer names the options that were used, or says that there are options if nothing was used."""
+        """The answer names the options that were used, or says that there are options if nothing was used.
+
+        It names a close one last. So where that is the last one used, it is the answer without that use.
+        """
         close = closest(name, self.command.options)
-        if close in self.used:
+        used = self.used[:-1] if close in self.used[-1:] else self.used
+        if close in used:
             raise Unknown
         is_first = not self.used and not self.files and not close
-        return (self.name, "option", close, is_first, *self.used), f"--{name}"
+        return (self.name, "option", close, is_first, *used), f"--{name}"
 
     def take_value(self, name, option, value):
         if value is None:

@@ -6,7 +6,7 @@ ghost use Rattle.cluster_run.specs.Hands.{HasCalled};
 ghost use Rattle.cluster_run.specs.Threads.{AddsCalled, AreJoined, AreStarted, StartsThread, promises_of};
 
 use crate::fault::LateFault;
-use crate::patience::Patience;
+use crate::idle_time::Patience;
 use crate::progress::{LOOKS_A_SECOND, Progress, Stage, Watch};
 use journal::Naming;
 use space_node::{ClientHandle, Cluster};

@@ -28,8 +28,8 @@
 mod calling;
 mod dealing;
 mod fault;
+mod idle_time;
 mod laws;
-mod patience;
 mod progress;
 mod report;
 mod room;

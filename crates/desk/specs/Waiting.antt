@@ -1,5 +1,5 @@
 -- The requests that wait for execution.
-use Rattle.std.specs.Prelude.{ℕ, zero, suc, true, ◌==◌, ◌&&◌, Bool, not, List, ◌∷◌, [], ◌++◌, length, map, filter, find, take, nat_lt, if◌then◌else◌, Option, option_map, Vec}
+use Rattle.std.specs.Prelude.{ℕ, zero, suc, true, ◌==◌, ◌&&◌, Bool, not, List, ◌∷◌, [], ◌++◌, length, map, filter, find, take, nat_lt, if◌then◌else◌, Option, Some, None, option_map, Vec}
 use Rattle.std.specs.List.{list_any}
 use Rattle.std.specs.Borrow.{Bor}
 use Rattle.std.specs.declared.alloc.Global.{Global}
@@ -48,6 +48,11 @@ lent found = option_map (λ r. r.now) found
 -- the client's request, if one waits
 abbrev pub request_of : ℕ → WaitingData → Option WaitingRequest
 request_of client w = find (is_of client) w.requests
+
+-- the client's number and the timestamp of the request that has waited longest
+abbrev pub oldest_of : List WaitingRequest → Option (ℕ × Timestamp)
+oldest_of [] = None
+oldest_of (r ∷ requests) = Some (r.client.number, r.timestamp)
 
 -- those without a number, and up to 16 of them
 abbrev pub all_unnumbered : List WaitingRequest → List WaitingRequest

@@ -7,7 +7,7 @@ ghost use Rattle.wire_format.specs.Lists.{Each};
 ghost use Rattle.wire_format.specs.Spelling.{IsCarried, is_ordered_request};
 ghost use Rattle.wire_format.specs.Views.{texts_of};
 ghost use Rattle.desk.specs.State.{IsDesk, IsSameDesk};
-ghost use Rattle.desk.specs.Waiting.{count_unnumbered, texts, unnumbered, with_numbered};
+ghost use Rattle.desk.specs.Waiting.{count_unnumbered, oldest_of, texts, unnumbered, with_numbered};
 ghost use Rattle.desk.specs.Desking.{IsNewDesk, HasReply, RepliesAgain, RepliesToAll, RunsBatch, RunsWhole, SendsToClient, RequestWaits, message_of};
 
 use crate::keeping::pages_of;
@@ -186,6 +186,13 @@ impl Desk {
         ensures { IsTrue result ↔ (self.now.waiting.requests ≡ []) }
     {
         self.waiting.is_empty()
+    }
+
+    /// The client's number and the timestamp of the request that has waited longest, if one waits.
+    pub fn oldest_waiting(&self) -> Option<(u16, Timestamp)>
+        ensures { result ≡ oldest_of self.now.waiting.requests }
+    {
+        self.waiting.oldest()
     }
 
     /// The number of waiting requests that have no sequence number yet.

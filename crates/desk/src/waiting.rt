@@ -4,7 +4,7 @@ ghost use Rattle.std.specs.Prelude.{◌≡◌, ◌≤◌, ◌++◌, ◌∷◌, [
 ghost use Rattle.wire_format.specs.Lists.{Each};
 ghost use Rattle.wire_format.specs.Spelling.{IsCarried, is_ordered_request};
 ghost use Rattle.wire_format.specs.Views.{texts_of};
-ghost use Rattle.desk.specs.Waiting.{HasRequestFrame, count_unnumbered, none_waiting, lent, request_of, texts, unnumbered, unnumbered_texts, is_of, is_new, is_assigned, all_numbered, renumbered, with_request, with_numbered, with_view, without_client, forgotten};
+ghost use Rattle.desk.specs.Waiting.{HasRequestFrame, count_unnumbered, none_waiting, lent, oldest_of, request_of, texts, unnumbered, unnumbered_texts, is_of, is_new, is_assigned, all_numbered, renumbered, with_request, with_numbered, with_view, without_client, forgotten};
 
 use events::Stop;
 use execution::Executed;
@@ -73,6 +73,16 @@ impl Waiting {
         ensures { IsTrue result ↔ (self.now.requests ≡ []) }
     {
         self.requests.is_empty()
+    }
+
+    /// The client's number and the timestamp of the request that has waited longest.
+    pub(crate) fn oldest(&self) -> Option<(u16, Timestamp)>
+        ensures { result ≡ oldest_of self.now.requests }
+    {
+        match self.requests.as_slice() {
+            [] => None,
+            [request, ..] => Some((request.client.number, request.timestamp)),
+        }
     }
 
     /// How many requests have no number yet.

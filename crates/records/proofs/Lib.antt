@@ -1,4 +1,4 @@
 pub mod Framing
 mod Parts
-mod Telling
+pub mod Telling
 mod Putting

@@ -1,5 +1,5 @@
 -- What records tell: one list of notices, whatever the bytes.
-use Rattle.std.proofs.Common.{◌≡◌, ℕ, zero, suc, ◌+◌, ◌-◌, ◌≤◌, ◌<◌, ◌^◌, ◌==◌, nat_le, Bool, true, false, MatchBool, List, [], ◌∷◌, ◌++◌, length, take, drop, get_or, refl, sym, ap, subst, ◌∙◌, arith, length-append, inl, inr, ◌⊎◌}
+use Rattle.std.proofs.Common.{◌≡◌, ℕ, zero, suc, ◌+◌, ◌-◌, ◌≤◌, ◌<◌, ◌^◌, ◌==◌, nat_le, Bool, true, false, cond, MatchBool, List, [], ◌∷◌, ◌++◌, length, take, drop, get_or, refl, sym, ap, subst, ◌∙◌, arith, length-append, inl, inr, ◌⊎◌}
 use Rattle.std.proofs.lemmas.Bool.{leb-true, leb-false, eqb-true, eqb-false, cases_eq, cases_lt}
 use Rattle.std.proofs.lemmas.List.{take_at, drop_at}
 use Rattle.tuple_tree.proofs.Readers.{bytes_take, bytes_drop}
@@ -8,7 +8,8 @@ use Rattle.std.proofs.lemmas.Nat.{be_bytes_8, from_be_bytes-to_be_bytes_8}
 use Rattle.tuple_tree.specs.Values.{AreBytes}
 use Rattle.wire_format.specs.Spelling.{piece}
 use Rattle.records.specs.Records.{IsBody, IsPartial, NoticeData, came, timer_over, linked, notice_body, IsNotice, TellsNotice, TellsNothing, BeginsWithRecord, TellNotices, ends, tells, passes}
-use Rattle.records.specs.Laws.{InputsTell, InputsTellOne}
+use Rattle.records.specs.Laws.{InputsTell, InputsTellOne, KeptTellTheSame}
+use Rattle.records.specs.declared.notice.TheConstants.{MAX_RECORD}
 use Rattle.records.proofs.Framing.{one_record, says_body, says_length, judges, is_short}
 
 -- one body tells one notice
@@ -199,3 +200,29 @@ some_list (suc n) bytes short each =
 
 pub inputs_tell : InputsTell
 inputs_tell bytes each = some_list (length bytes) bytes (omega arith) each
+
+-- ---- what is kept of a record
+
+-- an empty body tells nothing
+empty_tells : (notice : NoticeData) → TellsNotice [] notice → ⊥
+empty_tells (came x) (short, same) = cc
+empty_tells (timer_over n) (short, same) = cc
+empty_tells (linked n) (short, same) = cc
+
+-- what tells something is not too long
+told_short : (body : List ℕ) (notice : NoticeData) → TellsNotice body notice → length body ≤ MAX_RECORD
+told_short body (came x) (short, same) = omega (arith, ap length same, short)
+told_short body (timer_over n) (short, same) = omega (arith, ap length same)
+told_short body (linked n) (short, same) = omega (arith, ap length same)
+
+pub kept_tell_the_same : KeptTellTheSame
+kept_tell_the_same body = at (nat_le (length body) MAX_RECORD) refl
+  where
+    at : (b : Bool) → nat_le (length body) MAX_RECORD ≡ b
+        → ((notice : NoticeData) → TellsNotice (cond b body []) notice → TellsNotice body notice)
+        × (TellsNothing (cond b body []) → TellsNothing body)
+    at true e = ((λ notice t. t), λ t. t)
+    at false e = (
+      (λ notice t. absurd (empty_tells notice t)),
+      λ t notice told. omega (arith, told_short body notice told, leb-false (length body) MAX_RECORD e),
+    )

@@ -12,7 +12,8 @@
 //! [`RecordReader::is_at_hand`] tells whether the next record has come whole. [`put_frame`] and [`put_timer`] append a
 //! record's bytes, or nothing.
 //!
-//! Laws: all bytes tell some list of notices, and one alone (`inputs_tell`, `inputs_tell_one`).
+//! Laws: all bytes tell some list of notices, and one alone (`inputs_tell`, `inputs_tell_one`). What is kept of a record
+//! tells what the record tells (`kept_tell_the_same`).
 //!
 //! # What it keeps
 //!
@@ -26,7 +27,7 @@ mod reader;
 mod taking;
 mod writing;
 
-pub use laws::{inputs_tell, inputs_tell_one};
+pub use laws::{inputs_tell, inputs_tell_one, kept_tell_the_same};
 pub use notice::{FRAME, LINKS, MAX_RECORD, Notice, TIMER};
 pub use reader::RecordReader;
 pub use writing::{PutFault, put_frame, put_timer};

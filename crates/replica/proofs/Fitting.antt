@@ -2,7 +2,7 @@
 use Rattle.std.proofs.Common.{◌≡◌, ℕ, ◌+◌, ◌*◌, ◌<◌, ◌≤◌, [], true, false, refl, sym, ap, arith}
 use Rattle.std.proofs.lemmas.Option.{none-some}
 use Rattle.ordering.specs.Log.{new_log}
-use Rattle.protocol.specs.System.Configuration.{Configuration, IsConfiguration, span}
+use Rattle.protocol.specs.System.Configuration.{Configuration, span}
 use Rattle.protocol.specs.Replica.State.{opening}
 use Rattle.replica_histories.specs.Events as histories
 use Rattle.replica_histories.proofs.ChangesPassing.{changes_begin}
@@ -16,12 +16,12 @@ use Rattle.orderer.proofs.Flags.{flags_first}
 use Rattle.replica.specs.BothParts.{BothPartsFitHistory}
 
 -- a new replica
-module _ (c : Configuration) (me : ℕ) (valid : IsConfiguration c) (mine : me < 3 * c.faults + 1) where
+module _ (c : Configuration) (me : ℕ) (some_faults : 1 ≤ c.faults) (most_faults : c.faults ≤ 3) (period : c.period ≤ 16) (mine : me < 3 * c.faults + 1) where
   few : span c ≤ 32
-  few = let most = valid.period_most in omega (arith, most)
+  few = omega (arith, period)
 
   first : histories.BothFitBetweenEvents c me first_desk (new_log me c.faults (span c)) []
-  first = first_hold c me valid.some_faults valid.most mine few
+  first = first_hold c me some_faults most_faults mine few
 
   pub fits_new : (r : BothPartsData) → IsNewOrderer c me r.orderer → IsNewDesk c me r.desk → BothPartsFitHistory c r []
   fits_new r orders desks = record {

@@ -42,3 +42,4 @@ pub mod ReadsDropped
 pub mod ReadsLead
 pub mod PartsLead
 pub mod Prompt
+pub mod Awaiting

@@ -1,14 +1,19 @@
 -- The parts of a replica fit the histories that their joined replica fits.
-use Rattle.std.proofs.Common.{◌≡◌, ℕ, ◌+◌, ◌*◌, ◌<◌, inr, Bool, true, false, List, [], ◌∷◌, refl, sym, ap, ◌∙◌, subst, Option, Some, None}
+use Rattle.std.proofs.Common.{◌≡◌, ℕ, ◌+◌, ◌*◌, ◌<◌, arith, inr, Bool, true, false, List, [], ◌∷◌, refl, sym, ap, ◌∙◌, subst, Option, Some, None}
 use Rattle.std.proofs.lemmas.Option.{none-some}
-use Rattle.std.specs.Prelude.{is_none, IsTrue, option_map}
+use Rattle.std.specs.Prelude.{is_none, IsTrue, option_map, replicate}
 use Rattle.authenticator.specs.Membership.{Membership}
+use Rattle.ordering.specs.Log.{new_log}
+use Rattle.pq_sets.specs.PqSetsView.{empty_pq_sets}
 use Rattle.events.specs.declared.output.Output.{Output}
 use Rattle.events.specs.Outputs.{after_event, AreSentAsMeant}
 use Rattle.protocol.specs.System.Configuration.{Configuration, IsConfiguration, members}
 use Rattle.protocol.specs.System.Reads.{without_reads}
 use Rattle.protocol.specs.System.Trace.{Entry}
 use Rattle.protocol.specs.Replica.Owed.{IsReplica}
+use Rattle.protocol.specs.Replica.State.{opening}
+use Rattle.replica_histories.specs.Desk.{snapshot_of}
+use Rattle.desk.specs.Waiting.{none_waiting}
 use Rattle.protocol.proofs.Words.Options.{some_injective}
 use Rattle.replica.specs.declared.replica.Event.{Event}
 use Rattle.replica.specs.declared.replica.Event.TheVariants as events
@@ -72,10 +77,49 @@ one_new c me o d new_orderer new_desk = (
   new_orderer.2 ∙ sym (ap (λ (x : DeskData). x.period) new_desk),
 )
 
+-- They are new in each configuration of the same members and period.
+abbrev OrderersLooks : OrdererData → ℕ → Membership → ℕ → Type 0
+OrderersLooks o me m period = (o ≡ record {
+  endpoint = record { membership = m; me = me; used = 0 };
+  log = new_log me m.faults (2 * period);
+  used = 0;
+  assigned = 0;
+  target = 0;
+  new_view = None;
+  pq_sets = empty_pq_sets;
+  received = record { seed = m.seed; sizes = o.received.sizes; held = replicate (3 * m.faults + 1) None };
+  last_checkpoint = None;
+  spent = 0;
+}) × (o.received.sizes.faults ≡ m.faults) × (o.received.sizes.period ≡ period)
+
+abbrev DesksLooks : DeskData → ℕ → Membership → ℕ → Type 0
+DesksLooks d me m period = d ≡ record {
+  me = me;
+  membership = m;
+  period = period;
+  executed = record { state = opening; clients = m.clients };
+  snapshots = snapshot_of opening ∷ [];
+  transfer = None;
+  waiting = none_waiting;
+}
+
+orderer_new : (c e : Configuration) (me : ℕ) (o : OrdererData) → members e ≡ members c → e.period ≡ c.period → IsNewOrderer c me o → IsNewOrderer e me o
+orderer_new c e me o known period new =
+    subst (λ (m : Membership). OrderersLooks o me m e.period) (sym known) (subst (λ (n : ℕ). OrderersLooks o me (members c) n) (sym period) new)
+
+desk_new : (c e : Configuration) (me : ℕ) (d : DeskData) → members e ≡ members c → e.period ≡ c.period → IsNewDesk c me d → IsNewDesk e me d
+desk_new c e me d known period new =
+    subst (λ (m : Membership). DesksLooks d me m e.period) (sym known) (subst (λ (n : ℕ). DesksLooks d me (members c) n) (sym period) new)
+
 pub both_new : (c : Configuration) (m : MemberData) (me : ℕ) (o : OrdererData) (d : DeskData) → IsConfiguration c → me < 3 * c.faults + 1 → m.me ≡ me → m.membership ≡ members c
-    → IsNewOrderer c me o → IsNewDesk c me d → AreChanges o.received.held → FitBoth c m.me (orders m o) (answers m d) []
-both_new c m me o d valid few mine membership new_orderer new_desk are =
-    both_fit c m o d [] (one_new c me o d new_orderer new_desk) are (ap (λ (x : OrdererData). x.endpoint.me) new_orderer.0 ∙ sym mine) (sym membership) (fits_new c me valid few (both_parts o d) new_orderer new_desk)
+    → IsNewOrderer c me o → IsNewDesk c me d → AreChanges o.received.held
+    → (e : Configuration) → members e ≡ members c → e.period ≡ c.period → FitBoth e m.me (orders m o) (answers m d) []
+both_new c m me o d valid few mine membership new_orderer new_desk are e known period =
+    let faults : e.faults ≡ c.faults = ap (λ (x : Membership). x.faults) known in
+    both_fit e m o d [] (one_new c me o d new_orderer new_desk) are (ap (λ (x : OrdererData). x.endpoint.me) new_orderer.0 ∙ sym mine) (known ∙ sym membership)
+    (fits_new e me (let l = valid.some_faults in omega (arith, faults, l)) (let l = valid.most in omega (arith, faults, l))
+    (let l = valid.period_most in omega (arith, period, l)) (omega (arith, faults, few)) (both_parts o d)
+    (orderer_new c e me o known period new_orderer) (desk_new c e me d known period new_desk))
 
 -- ---- an event
 

@@ -22,3 +22,4 @@ pub mod MemberView
 pub mod PartedView
 pub mod ReplicaView
 pub mod Fits
+pub mod Standing

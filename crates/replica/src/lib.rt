@@ -104,6 +104,7 @@ mod parted;
 mod parted_laws;
 mod reading;
 mod replica;
+mod standing;
 mod taking;
 mod transfers;
 mod view_change_in;

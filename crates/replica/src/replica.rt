@@ -1,9 +1,11 @@
 //! A replica.
 
-ghost use Rattle.std.specs.Prelude.{◌≡◌, ◌↔◌, ◌+◌, ◌*◌, ◌<◌, true, false, [], Err, IfOk, OnErr};
+ghost use Rattle.std.specs.Prelude.{◌≡◌, ◌↔◌, ◌+◌, ◌*◌, ◌<◌, true, false, [], Err, IfOk, IfSome, OnErr, is_none};
 ghost use Rattle.events.specs.declared.output.Stop.TheVariants as Stop;
+ghost use Rattle.protocol.specs.System.Configuration.{Configuration, members};
 ghost use Rattle.replica.specs.State.{IsReplicaData, has_stopped};
 ghost use Rattle.replica.specs.Fits.{EventLeads, Fits, SendsAsMeant, me_of};
+ghost use Rattle.replica.specs.Standing.{TellsStanding};
 
 use crate::both_parts::BothParts;
 use crate::member::Member;
@@ -11,6 +13,7 @@ use crate::parted::{Desk, Orderer};
 use desk::Desk as DeskState;
 use events::{Config, Outputs, Stop};
 use orderer::Orderer as OrdererState;
+use patience::Standing;
 use signing::PublicKeys;
 use std::alloc::Global;
 use std::marker::Model;
@@ -48,7 +51,8 @@ impl Model for Replica {
 }
 
 impl Replica {
-    /// A replica of this configuration before its first event. The public keys are the configuration's.
+    /// A replica of this configuration before its first event. The public keys are the configuration's. It fits the
+    /// empty history of each configuration with the same members and period: no replica knows who is faulty.
     ///
     /// # Errors
     ///
@@ -62,7 +66,8 @@ impl Replica {
     ) -> Result<Replica, NoMemory>
         requires known { me.0 < 3 * config.now.faults + 1 }
         requires keys { publics ≡ config.now.seed }
-        ensures fits { IfOk result (λ r. Fits config.now r []) }
+        ensures fits { IfOk result (λ r. (c : Configuration) → members c ≡ members config.now
+            → c.period ≡ config.now.period → Fits c r []) }
         ensures number { IfOk result (λ r. me_of r ≡ me.0) }
         ensures runs { IfOk result (λ r. has_stopped r ≡ false) }
     {
@@ -81,6 +86,18 @@ impl Replica {
         ensures value { result ≡ has_stopped self.now }
     {
         self.holds.is_none()
+    }
+
+    /// What the replica waits for between two events, or `None` if it has stopped.
+    pub fn standing(&self) -> Option<Standing>
+        ensures runs { is_none result ≡ has_stopped self.now }
+        ensures stands { IfSome result (TellsStanding self.now) }
+    {
+        let Some(both_parts) = &self.holds else {
+            return None;
+        };
+        both_parts.are_one();
+        Some(both_parts.standing())
     }
 
     /// What the replica gives for its next input.

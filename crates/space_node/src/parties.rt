@@ -188,7 +188,8 @@ fn new_node<N: Naming>(
 {
     // Tells a proof that it is a party of the configuration.
     let _party = order.party();
-    let (orderer, desk) = Replica::new(alloc, config, replica, publics.share()?)?.split();
+    let whole = Replica::new(alloc, config, replica, publics.share()?)?;
+    let (orderer, desk) = whole.split();
     Ok(Node {
         replica,
         order: Mutex::new(NodeOrder::new(orderer, order)),

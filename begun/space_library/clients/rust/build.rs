@@ -1,0 +1,15 @@
+//! Tells where the static library is: BTSPACE_LIBRARY names its file, and BTSPACE_LIBRARY_C that of the C part of Rattle's
+//! libraries.
+
+use std::env;
+use std::path::PathBuf;
+
+fn main() {
+    for variable in ["BTSPACE_LIBRARY", "BTSPACE_LIBRARY_C"] {
+        println!("cargo:rerun-if-env-changed={variable}");
+        let named = env::var(variable).unwrap_or_else(|_| panic!("{variable} has to name a static library"));
+        let file = PathBuf::from(named).canonicalize().expect("a static library is there");
+        println!("cargo:rerun-if-changed={}", file.display());
+        println!("cargo:rustc-link-arg={}", file.display());
+    }
+}

@@ -1,0 +1,5 @@
+mod Writing
+mod Outputs
+mod Noticing
+mod Courses
+mod Running
