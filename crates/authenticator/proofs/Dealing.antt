@@ -1,4 +1,4 @@
--- A seed gives a key to two parties exactly if they exchange frames.
+-- The keys that a seed gives a party: one for each direction with each of its peers, and no other.
 use Rattle.std.proofs.Common.{◌≡◌, ℕ, zero, suc, ◌+◌, ◌*◌, ◌<◌, ◌≤◌, ◌⊎◌, inl, inr, Bool, true, false, cond, ◌&&◌, ◌||◌, ◌==◌, nat_lt, nat_le, List, [], ◌∷◌, ◌++◌, Option, Some, None, refl, sym, ap, ap₂, subst, ◌∙◌, arith, eqb-true}
 use Rattle.std.specs.Prelude.{not, filter, find, option_map, ◌-◌}
 use Rattle.std.proofs.lemmas.List.{append_assoc, append-nil}
@@ -6,156 +6,128 @@ use Rattle.std.specs.List.{range_with_len}
 use Rattle.std.proofs.lemmas.Bool.{and_parts, and_from, eq-eqb, eqb-false, ltb-true, ltb-false, leb-true}
 use Rattle.terms.specs.declared.parties.TheConstants.{FIRST_CLIENT}
 use Rattle.wire_format.specs.Lists.{Each}
-use Rattle.authenticator.specs.Keys.{derived_key, find_key, is_between}
-use Rattle.authenticator.specs.Dealing.{all_clients, all_keys, all_parties, all_replicas, both_keys, do_exchange, is_among_clients, keys_from, keys_to, keys_with, other_replicas, others_among}
+use Rattle.authenticator.specs.Keys.{derived_key, find_key, is_between, row}
+use Rattle.authenticator.specs.Dealing.{all_clients, all_replicas, both_keys, clients_of, dealt_keys, keys_with, other_replicas, others_among, peers}
+use Rattle.authenticator.specs.Laws.{IsOwnKey, is_among_clients, is_peer}
 use Rattle.authenticator.specs.declared.row.SharedKey.{SharedKey}
 use Rattle.authenticator.proofs.Digests.{each_append}
 
-module _ (seed : List ℕ) (faults clients : ℕ) where
-  -- a key of a seed, of two parties that exchange frames
-  abbrev IsDealt : SharedKey → Type 0
-  IsDealt shared = (shared.key ≡ derived_key seed shared.from shared.to) × (do_exchange faults clients shared.from shared.to ≡ true)
+-- ---- parties in a list
 
-  to_dealt : (from : ℕ) (parties : List ℕ) → Each IsDealt (keys_to seed faults clients from parties)
-  to_dealt from [] = tt
-  to_dealt from (to ∷ parties) = go (do_exchange faults clients from to) refl (to_dealt from parties)
-    where
-      go : (is : Bool) → do_exchange faults clients from to ≡ is → Each IsDealt (keys_to seed faults clients from parties)
-          → Each IsDealt (cond is (record { from = from; to = to; key = derived_key seed from to } ∷ []) [] ++ keys_to seed faults clients from parties)
-      go true is rest = ((refl, is), rest)
-      go false is rest = rest
+abbrev IsIn : ℕ → List ℕ → Type 0
+IsIn x [] = ⊥
+IsIn x (y ∷ ys) = (y ≡ x) ⊎ IsIn x ys
 
-  from_dealt : (parties : List ℕ) → Each IsDealt (keys_from seed faults clients parties)
-  from_dealt [] = tt
-  from_dealt (from ∷ parties) =
-      each_append IsDealt (keys_to seed faults clients from (all_parties faults clients)) (keys_from seed faults clients parties)
-      (to_dealt from (all_parties faults clients)) (from_dealt parties)
+in_right : (x : ℕ) (ys zs : List ℕ) → IsIn x zs → IsIn x (ys ++ zs)
+in_right x [] zs has = has
+in_right x (y ∷ ys) zs has = inr (in_right x ys zs has)
+
+in_left : (x : ℕ) (ys zs : List ℕ) → IsIn x ys → IsIn x (ys ++ zs)
+in_left x [] zs has = absurd has
+in_left x (y ∷ ys) zs (inl here) = inl here
+in_left x (y ∷ ys) zs (inr later) = inr (in_left x ys zs later)
+
+le_and_not_eq : (a x : ℕ) → a ≤ x → (a ≡ x → ⊥) → a + 1 ≤ x
+le_and_not_eq a x least other = go (nat_lt a x) refl
+  where
+    go : (is : Bool) → nat_lt a x ≡ is → a + 1 ≤ x
+    go true is = let less = ltb-true a x is in omega (arith, less)
+    go false is = let most = ltb-false a x is in absurd (other (omega (arith, least, most)))
+
+in_range : (x a n : ℕ) → a ≤ x → x < a + n → IsIn x (range_with_len a n)
+in_range x a zero least less = absurd (omega (arith, least, less))
+in_range x a (suc n) least less = go (a == x) refl (λ above. in_range x (a + 1) n above (omega (arith, less)))
+  where
+    go : (is : Bool) → (a == x) ≡ is → (a + 1 ≤ x → IsIn x (range_with_len (a + 1) n)) → IsIn x (range_with_len a (suc n))
+    go true is rest = inl (eqb-true a x is)
+    go false is rest = inr (rest (let other = eqb-false a x is in let under = le_and_not_eq a x least other in under))
+
+in_others : (x me : ℕ) (parties : List ℕ) → (x == me) ≡ false → IsIn x parties → IsIn x (others_among parties me)
+in_others x me [] other has = has
+in_others x me (party ∷ parties) other (inl here) =
+    let apart : (party == me) ≡ false = subst (λ (n : ℕ). (n == me) ≡ false) (sym here) other in rw apart (inl here)
+in_others x me (party ∷ parties) other (inr later) = go (not (party == me)) (in_others x me parties other later)
+  where
+    go : (stays : Bool) → IsIn x (others_among parties me) → IsIn x (cond stays (party ∷ others_among parties me) (others_among parties me))
+    go true has = inr has
+    go false has = has
+
+no_not : (b : Bool) → not b ≡ true → b ≡ false
+no_not true h = absurd cc
+no_not false h = refl
+
+pub in_peers : (faults clients me party : ℕ) → is_peer faults clients me party ≡ true → IsIn party (peers faults clients me)
+in_peers faults clients me party is = go (not (party == me) && nat_lt party (3 * faults + 1)) refl is
+  where
+    client : (b : Bool) → nat_lt me FIRST_CLIENT ≡ b → (b && is_among_clients clients party) ≡ true
+        → IsIn party (all_clients (cond b clients 0))
+    client true below h =
+        let parts = and_parts (nat_le FIRST_CLIENT party) (nat_lt party (FIRST_CLIENT + clients)) h in
+        in_range party FIRST_CLIENT clients (leb-true FIRST_CLIENT party parts.0) (ltb-true party (FIRST_CLIENT + clients) parts.1)
+    client false below h = absurd cc
+    go : (b : Bool) → (not (party == me) && nat_lt party (3 * faults + 1)) ≡ b
+        → (b || (nat_lt me FIRST_CLIENT && is_among_clients clients party)) ≡ true → IsIn party (peers faults clients me)
+    go true replica h =
+        let parts = and_parts (not (party == me)) (nat_lt party (3 * faults + 1)) replica in
+        in_left party (other_replicas faults me) (all_clients (clients_of me clients))
+        (in_others party me (all_replicas faults) (no_not (party == me) parts.0)
+        (in_range party 0 (3 * faults + 1) (omega arith) (let below = ltb-true party (3 * faults + 1) parts.1 in omega (arith, below))))
+    go false replica h =
+        in_right party (other_replicas faults me) (all_clients (clients_of me clients)) (client (nat_lt me FIRST_CLIENT) refl h)
+
+-- ---- their keys
+
+module _ (seed : List ℕ) where
+  abbrev IsDerived : SharedKey → Type 0
+  IsDerived shared = shared.key ≡ derived_key seed shared.from shared.to
+
+  all_derived : (me : ℕ) (parties : List ℕ) → Each IsDerived (keys_with seed me parties)
+  all_derived me [] = tt
+  all_derived me (party ∷ parties) = (refl, (refl, all_derived me parties))
+
+  pub all_own : (me : ℕ) (parties : List ℕ) → Each (IsOwnKey me) (keys_with seed me parties)
+  all_own me [] = tt
+  all_own me (party ∷ parties) = (inr refl, (inl refl, all_own me parties))
 
   module _ (from to : ℕ) where
-    -- ---- none is found
-
-    none_found : (keys : List SharedKey) → Each IsDealt keys → do_exchange faults clients from to ≡ false → find_key keys from to ≡ None
-    none_found [] dealt apart = refl
-    none_found (shared ∷ keys) dealt apart = go (is_between from to shared) refl (none_found keys dealt.1 apart)
-      where
-        go : (is : Bool) → is_between from to shared ≡ is → find_key keys from to ≡ None
-            → option_map (λ (s : SharedKey). s.key) (cond is (Some shared) (find (is_between from to) keys)) ≡ None
-        go true is rest =
-            let parts = and_parts (shared.from == from) (shared.to == to) is in
-            let one : do_exchange faults clients from to ≡ true =
-            subst (λ (n : ℕ). do_exchange faults clients from n ≡ true) (eqb-true shared.to to parts.1)
-            (subst (λ (n : ℕ). do_exchange faults clients n shared.to ≡ true) (eqb-true shared.from from parts.0) dealt.0.1) in
-            absurd (let bad : true ≡ false = sym one ∙ apart in cc)
-        go false is rest = rest
-
-    -- ---- the key is found
-
     abbrev HasKey : List SharedKey → Type 0
     HasKey [] = ⊥
     HasKey (shared ∷ keys) = ((shared.from ≡ from) × (shared.to ≡ to)) ⊎ HasKey keys
 
-    some_found : (keys : List SharedKey) → Each IsDealt keys → HasKey keys → find_key keys from to ≡ Some (derived_key seed from to)
-    some_found [] dealt has = absurd has
-    some_found (shared ∷ keys) dealt has = go (is_between from to shared) refl has (some_found keys dealt.1)
+    some_found : (keys : List SharedKey) → Each IsDerived keys → HasKey keys → find_key (row keys) from to ≡ Some (derived_key seed from to)
+    some_found [] derived has = absurd has
+    some_found (shared ∷ keys) derived has = go (is_between from to shared) refl has (some_found keys derived.1)
       where
         go : (is : Bool) → is_between from to shared ≡ is → ((shared.from ≡ from) × (shared.to ≡ to)) ⊎ HasKey keys
-            → (HasKey keys → find_key keys from to ≡ Some (derived_key seed from to))
+            → (HasKey keys → find_key (row keys) from to ≡ Some (derived_key seed from to))
             → option_map (λ (s : SharedKey). s.key) (cond is (Some shared) (find (is_between from to) keys)) ≡ Some (derived_key seed from to)
         go true is some rest =
             let parts = and_parts (shared.from == from) (shared.to == to) is in
-            ap Some (dealt.0.0 ∙ ap₂ (derived_key seed) (eqb-true shared.from from parts.0) (eqb-true shared.to to parts.1))
+            ap Some (derived.0 ∙ ap₂ (derived_key seed) (eqb-true shared.from from parts.0) (eqb-true shared.to to parts.1))
         go false is (inl here) rest = absurd
             (let bad : false ≡ true = sym is ∙ and_from (shared.from == from) (shared.to == to) (eq-eqb shared.from from here.0) (eq-eqb shared.to to here.1) in cc)
         go false is (inr later) rest = rest later
 
-    has_right : (keys more : List SharedKey) → HasKey more → HasKey (keys ++ more)
-    has_right [] more has = has
-    has_right (shared ∷ keys) more has = inr (has_right keys more has)
+  has_from : (me party : ℕ) (parties : List ℕ) → IsIn party parties → HasKey me party (keys_with seed me parties)
+  has_from me party [] has = absurd has
+  has_from me party (other ∷ parties) (inl here) = inr (inl (refl, here))
+  has_from me party (other ∷ parties) (inr later) = inr (inr (has_from me party parties later))
 
-    has_left : (keys more : List SharedKey) → HasKey keys → HasKey (keys ++ more)
-    has_left [] more has = absurd has
-    has_left (shared ∷ keys) more (inl here) = inl here
-    has_left (shared ∷ keys) more (inr later) = inr (has_left keys more later)
+  has_to : (me party : ℕ) (parties : List ℕ) → IsIn party parties → HasKey party me (keys_with seed me parties)
+  has_to me party [] has = absurd has
+  has_to me party (other ∷ parties) (inl here) = inl (here, refl)
+  has_to me party (other ∷ parties) (inr later) = inr (inr (has_to me party parties later))
 
-    abbrev IsIn : ℕ → List ℕ → Type 0
-    IsIn x [] = ⊥
-    IsIn x (y ∷ ys) = (y ≡ x) ⊎ IsIn x ys
+  module _ (faults clients me party : ℕ) (is : is_peer faults clients me party ≡ true) where
+    pub finds_from : find_key (row (dealt_keys seed faults clients me)) me party ≡ Some (derived_key seed me party)
+    finds_from =
+        some_found me party (dealt_keys seed faults clients me) (all_derived me (peers faults clients me))
+        (has_from me party (peers faults clients me) (in_peers faults clients me party is))
 
-    to_has : (parties : List ℕ) → IsIn to parties → do_exchange faults clients from to ≡ true → HasKey (keys_to seed faults clients from parties)
-    to_has [] has one = absurd has
-    to_has (party ∷ parties) (inl here) one =
-        let same : do_exchange faults clients from party ≡ true = subst (λ (n : ℕ). do_exchange faults clients from n ≡ true) (sym here) one in
-        has_left (cond (do_exchange faults clients from party) (record { from = from; to = party; key = derived_key seed from party } ∷ []) [])
-        (keys_to seed faults clients from parties)
-        (rw same (inl (refl, here)))
-    to_has (party ∷ parties) (inr later) one =
-        has_right (cond (do_exchange faults clients from party) (record { from = from; to = party; key = derived_key seed from party } ∷ []) [])
-        (keys_to seed faults clients from parties) (to_has parties later one)
-
-    from_has : (parties : List ℕ) → IsIn from parties → IsIn to (all_parties faults clients) → do_exchange faults clients from to ≡ true
-        → HasKey (keys_from seed faults clients parties)
-    from_has [] has other one = absurd has
-    from_has (party ∷ parties) (inl here) other one =
-        has_left (keys_to seed faults clients party (all_parties faults clients)) (keys_from seed faults clients parties)
-        (subst (λ (n : ℕ). HasKey (keys_to seed faults clients n (all_parties faults clients))) (sym here) (to_has (all_parties faults clients) other one))
-    from_has (party ∷ parties) (inr later) other one =
-        has_right (keys_to seed faults clients party (all_parties faults clients)) (keys_from seed faults clients parties) (from_has parties later other one)
-
-    -- ---- parties that exchange frames are among all
-
-    in_right : (x : ℕ) (ys zs : List ℕ) → IsIn x zs → IsIn x (ys ++ zs)
-    in_right x [] zs has = has
-    in_right x (y ∷ ys) zs has = inr (in_right x ys zs has)
-
-    in_left : (x : ℕ) (ys zs : List ℕ) → IsIn x ys → IsIn x (ys ++ zs)
-    in_left x [] zs has = absurd has
-    in_left x (y ∷ ys) zs (inl here) = inl here
-    in_left x (y ∷ ys) zs (inr later) = inr (in_left x ys zs later)
-
-    le_and_not_eq : (a x : ℕ) → a ≤ x → (a ≡ x → ⊥) → a + 1 ≤ x
-    le_and_not_eq a x least other = go (nat_lt a x) refl
-      where
-        go : (is : Bool) → nat_lt a x ≡ is → a + 1 ≤ x
-        go true is = let less = ltb-true a x is in omega (arith, less)
-        go false is = let most = ltb-false a x is in absurd (other (omega (arith, least, most)))
-
-    in_range : (x a n : ℕ) → a ≤ x → x < a + n → IsIn x (range_with_len a n)
-    in_range x a zero least less = absurd (omega (arith, least, less))
-    in_range x a (suc n) least less = go (a == x) refl (λ above. in_range x (a + 1) n above (omega (arith, less)))
-      where
-        go : (is : Bool) → (a == x) ≡ is → (a + 1 ≤ x → IsIn x (range_with_len (a + 1) n)) → IsIn x (range_with_len a (suc n))
-        go true is rest = inl (eqb-true a x is)
-        go false is rest = inr (rest (let other = eqb-false a x is in let under = le_and_not_eq a x least other in under))
-
-    in_all : (x : ℕ) → (nat_lt x (3 * faults + 1) || is_among_clients clients x) ≡ true → IsIn x (all_parties faults clients)
-    in_all x is = go (nat_lt x (3 * faults + 1)) refl is
-      where
-        go : (b : Bool) → nat_lt x (3 * faults + 1) ≡ b → (b || is_among_clients clients x) ≡ true → IsIn x (all_parties faults clients)
-        go true less h = in_left x (all_replicas faults) (all_clients clients) (in_range x 0 (3 * faults + 1) (omega arith) (let below = ltb-true x (3 * faults + 1) less in omega (arith, below)))
-        go false other h =
-            let parts = and_parts (nat_le FIRST_CLIENT x) (nat_lt x (FIRST_CLIENT + clients)) h in
-            in_right x (all_replicas faults) (all_clients clients)
-            (in_range x FIRST_CLIENT clients (leb-true FIRST_CLIENT x parts.0) (ltb-true x (FIRST_CLIENT + clients) parts.1))
-
-    both : (a b c d e : Bool) → cond a (not e && (b || d)) (c && b) ≡ true → ((a || c) ≡ true) × ((b || d) ≡ true)
-    both true true c d e h = (refl, refl)
-    both true false c true e h = (refl, refl)
-    both true false c false true h = absurd cc
-    both true false c false false h = absurd cc
-    both false true true d e h = (refl, refl)
-    both false true false d e h = absurd cc
-    both false false true d e h = absurd cc
-    both false false false d e h = absurd cc
-
-    pub is_found : do_exchange faults clients from to ≡ true → find_key (all_keys seed faults clients) from to ≡ Some (derived_key seed from to)
-    is_found one =
-        let parties =
-        both (nat_lt from (3 * faults + 1)) (nat_lt to (3 * faults + 1)) (is_among_clients clients from) (is_among_clients clients to) (to == from) one in
-        some_found (all_keys seed faults clients) (from_dealt (all_parties faults clients))
-        (from_has (all_parties faults clients) (in_all from parties.0) (in_all to parties.1) one)
-
-    pub is_not_found : do_exchange faults clients from to ≡ false → find_key (all_keys seed faults clients) from to ≡ None
-    is_not_found apart = none_found (all_keys seed faults clients) (from_dealt (all_parties faults clients)) apart
+    pub finds_to : find_key (row (dealt_keys seed faults clients me)) party me ≡ Some (derived_key seed party me)
+    finds_to =
+        some_found party me (dealt_keys seed faults clients me) (all_derived me (peers faults clients me))
+        (has_to me party (peers faults clients me) (in_peers faults clients me party is))
 
 -- ---- the keys of a party, one peer after another
 

@@ -7,7 +7,7 @@ use Rattle.std.proofs.lemmas.Bool.{and_from, eq-eqb}
 use Rattle.std.proofs.lemmas.Slice.Eq.{bytes_eq-Decides}
 use Rattle.std.proofs.lemmas.List.{append_assoc, map-append, take-map, drop_all}
 use Rattle.terms.specs.declared.parties.Party.{Party}
-use Rattle.authenticator.specs.Keys.{key_between, mac_between, shared_mac}
+use Rattle.authenticator.specs.Keys.{Keys, key_between, mac_between, shared_mac}
 use Rattle.authenticator.specs.Laws.{ShareKey}
 use Rattle.authenticator.specs.Mac.{hmac_of}
 use Rattle.authenticator.specs.Sealing.{entry_for}
@@ -17,7 +17,6 @@ use Rattle.wire_format.specs.Messages.{MacData}
 use Rattle.wire_format.specs.Views.{mac_data}
 use Rattle.wire.proofs.Entries.{drop_more}
 use Rattle.authenticator.specs.Authentic.{has_mac, has_some_mac, is_mac_for}
-use Rattle.authenticator.specs.declared.row.SharedKey.{SharedKey}
 
 -- the test of an entry, and of those after it
 pub has_mac-step : (party : ℕ) (mac : List ℕ) (entries : List MacData) (i : ℕ) (entry : MacData) (found : Bool) → slice_get entries i ≡ Some entry → found ≡ is_mac_for party mac entry
@@ -29,7 +28,7 @@ pub has_mac-end : (party : ℕ) (mac : List ℕ) (entries : List MacData) (i : �
 has_mac-end party mac entries i over = ap (has_mac party mac) (drop_all i entries over)
 
 -- the entries for the first of some receivers are the first of the entries
-pub entries-front : (keys : List SharedKey) (sender : ℕ) (text : List ℕ) (n : ℕ) (receivers more : List Party) (entries : List ReceiverMac)
+pub entries-front : (keys : Keys) (sender : ℕ) (text : List ℕ) (n : ℕ) (receivers more : List Party) (entries : List ReceiverMac)
     → map mac_data entries ≡ map (entry_for keys sender text) (map party_number more) → take n more ≡ receivers
     → map mac_data (take n entries) ≡ map (entry_for keys sender text) (map party_number receivers)
 entries-front keys sender text n receivers more entries made front =
@@ -39,7 +38,7 @@ entries-front keys sender text n receivers more entries made front =
     ∙ ap (map (entry_for keys sender text)) (take-map party_number n more ∙ ap (map party_number) front)
 
 -- the entries for one more group of receivers are made
-pub entries-group : (keys : List SharedKey) (sender : ℕ) (text : List ℕ) (old made new : List ReceiverMac) (group rest left : List Party)
+pub entries-group : (keys : Keys) (sender : ℕ) (text : List ℕ) (old made new : List ReceiverMac) (group rest left : List Party)
     → map mac_data made ≡ map (entry_for keys sender text) (map party_number group) → new ≡ old ++ made → left ≡ group ++ rest
     → map mac_data new ++ map (entry_for keys sender text) (map party_number rest)
     ≡ map mac_data old ++ map (entry_for keys sender text) (map party_number left)
@@ -57,7 +56,7 @@ here-is : (party : ℕ) (mac : List ℕ) → is_mac_for party mac (record { rece
 here-is party mac = and_from _ _ (eq-eqb party party refl) ((bytes_eq-Decides mac mac).1 refl)
 
 -- the entries for parties have that of each of them
-pub entries-have : (keys : List SharedKey) (sender : ℕ) (text : List ℕ) (parties : List ℕ) (party : ℕ) → Contains parties party
+pub entries-have : (keys : Keys) (sender : ℕ) (text : List ℕ) (parties : List ℕ) (party : ℕ) → Contains parties party
     → has_mac party (mac_between keys sender party text) (map (entry_for keys sender text) parties) ≡ true
 entries-have keys sender text [] party (k, within, is) = absurd (omega arith)
 entries-have keys sender text (p ∷ ps) party (zero, within, is) =
@@ -68,7 +67,7 @@ entries-have keys sender text (p ∷ ps) party (suc k, within, is) =
     rw (entries-have keys sender text ps party (k, omega arith, is)) (or-true _)
 
 -- So a party that shares the sender's key finds its entry.
-pub shared-have : (keys others : List SharedKey) (sender : ℕ) (text : List ℕ) (parties : List ℕ) (party : ℕ) → Contains parties party
+pub shared-have : (keys others : Keys) (sender : ℕ) (text : List ℕ) (parties : List ℕ) (party : ℕ) → Contains parties party
     → ShareKey keys others sender party → has_some_mac party (shared_mac others sender party text) (map (entry_for keys sender text) parties) ≡ true
 unfolding key_between
 shared-have keys others sender text parties party among share =

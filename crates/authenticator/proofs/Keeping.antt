@@ -7,11 +7,10 @@ use Rattle.std.specs.HashMap.{HashMap, get, Updates, IsUnchanged}
 use Rattle.std.specs.Map.{lookup}
 use Rattle.std.specs.Result.{OnOk, OnErr}
 use Rattle.authenticator.specs.Kept.{IsCodeBetween, IsKeyBetween, ValuesFit, KeepsOrTakesText, pair_eq}
-use Rattle.authenticator.specs.Keys.{find_key, key_between, mac_between, shared_mac}
+use Rattle.authenticator.specs.Keys.{Keys, find_key, key_between, mac_between, shared_mac}
 use Rattle.authenticator.specs.Mac.{hmac_of}
 use Rattle.authenticator.specs.Made.{IsMadeOf}
 use Rattle.authenticator.specs.declared.mac.Key.{Key}
-use Rattle.authenticator.specs.declared.row.SharedKey.{SharedKey}
 use Rattle.authenticator.specs.declared.ring.CodedText.{CodedText}
 
 pub fit-put : {V S : Type 0} (fits : ℕ → ℕ → V → Type 0) (m n : HashMap (ℕ × ℕ) V S) (from to : ℕ) (it : V)
@@ -38,7 +37,7 @@ fit-inserted fits m n from to it (Ok _) fit right puts _ = fit-put fits m n from
 fit-inserted fits m n from to it (Err _) fit right _ same = fit-same fits m n fit same
 
 -- after a text is taken in place of another, or stays
-pub coded-taken : (keys : List SharedKey) (from to : ℕ) (text code : List ℕ) (old new : CodedText) → IsCodeBetween keys from to text code
+pub coded-taken : (keys : Keys) (from to : ℕ) (text code : List ℕ) (old new : CodedText) → IsCodeBetween keys from to text code
     → IsCodeBetween keys from to old.text.items old.code → KeepsOrTakesText text code old new → IsCodeBetween keys from to new.text.items new.code
 coded-taken keys from to text code old new right was (inl e) = rw (e.0, e.1) right
 coded-taken keys from to text code old new right was (inr e) = rw (e.0, e.1) was
@@ -46,12 +45,12 @@ coded-taken keys from to text code old new right was (inr e) = rw (e.0, e.1) was
 -- ---- keys
 
 -- the code under the key that two parties share
-pub shared-code : (keys : List SharedKey) (from to : ℕ) (text code bytes : List ℕ) → find_key keys from to ≡ Some bytes → code ≡ hmac_of bytes text
+pub shared-code : (keys : Keys) (from to : ℕ) (text code bytes : List ℕ) → find_key keys from to ≡ Some bytes → code ≡ hmac_of bytes text
     → Some code ≡ shared_mac keys from to text
 shared-code keys from to text code bytes found made = ap Some made ∙ sym (ap (option_map (λ key. hmac_of key text)) found)
 
 -- the code that one party makes for another under it
-pub sealing-code : (keys : List SharedKey) (from to : ℕ) (text code : List ℕ) → Some code ≡ shared_mac keys from to text → code ≡ mac_between keys from to text
+pub sealing-code : (keys : Keys) (from to : ℕ) (text code : List ℕ) → Some code ≡ shared_mac keys from to text → code ≡ mac_between keys from to text
 unfolding key_between
 sealing-code keys from to text code is = go (find_key keys from to) is
   where
@@ -60,7 +59,7 @@ sealing-code keys from to text code is = go (find_key keys from to) is
     go (Some bytes) e = cc
 
 -- without a shared key it is the one under the empty key
-pub sealing-none : (keys : List SharedKey) (from to : ℕ) (text code : List ℕ) → None ≡ shared_mac keys from to text → code ≡ hmac_of [] text
+pub sealing-none : (keys : Keys) (from to : ℕ) (text code : List ℕ) → None ≡ shared_mac keys from to text → code ≡ hmac_of [] text
     → code ≡ mac_between keys from to text
 unfolding key_between
 sealing-none keys from to text code is made = go (find_key keys from to) is
@@ -70,6 +69,6 @@ sealing-none keys from to text code is made = go (find_key keys from to) is
     go (Some bytes) e = absurd cc
 
 -- a kept key is made of the bytes under which one party seals for the other
-pub is-made : (keys : List SharedKey) (from to : ℕ) (key : Key) → IsKeyBetween keys from to key → IsMadeOf key (key_between keys from to)
+pub is-made : (keys : Keys) (from to : ℕ) (key : Key) → IsKeyBetween keys from to key → IsMadeOf key (key_between keys from to)
 unfolding key_between
 is-made keys from to key kept = subst (IsMadeOf key) (sym (ap (λ (found : Option (List ℕ)). option_map_or (λ bytes. bytes) found []) kept.1)) kept.2

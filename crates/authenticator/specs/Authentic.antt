@@ -5,11 +5,10 @@ use Rattle.std.specs.List.{list_any}
 use Rattle.std.specs.Option.{option_map_or}
 use Rattle.wire_format.specs.Messages.{BodyData, MacData, AuthenticatorData, macs, signature, FrameData}
 use Rattle.wire_format.specs.Spelling.{body_spelling}
-use Rattle.authenticator.specs.Keys.{mac_between, shared_mac}
-use Rattle.authenticator.specs.declared.row.SharedKey.{SharedKey}
+use Rattle.authenticator.specs.Keys.{Keys, mac_between, shared_mac}
 
 -- the MAC that its sender makes of a body for a party
-abbrev pub mac_of : List SharedKey → ℕ → BodyData → List ℕ
+abbrev pub mac_of : Keys → ℕ → BodyData → List ℕ
 mac_of keys party body = mac_between keys body.sender party (body_spelling body)
 
 abbrev pub is_mac_for : ℕ → List ℕ → MacData → Bool
@@ -32,6 +31,6 @@ abbrev pub proves_some : ℕ → Option (List ℕ) → AuthenticatorData → Boo
 proves_some party mac authenticator = option_map_or (λ m. proves party m authenticator) mac false
 
 -- the frame's entry for the party is the MAC of its body under the key that the sender shares with the party
-abbrev pub is_authentic : List SharedKey → ℕ → FrameData → Bool
+abbrev pub is_authentic : Keys → ℕ → FrameData → Bool
 is_authentic keys party frame =
     proves_some party (shared_mac keys frame.body.sender party (body_spelling frame.body)) frame.authenticator

@@ -2,10 +2,9 @@
 use Rattle.std.specs.Prelude.{◌≡◌, ℕ, List, Some, map, slice_get}
 use Rattle.std.specs.Borrow.{Bor}
 use Rattle.hash_lanes.specs.Midstates.{IsAfter}
-use Rattle.authenticator.specs.Keys.{mac_between}
+use Rattle.authenticator.specs.Keys.{Keys, mac_between}
 use Rattle.authenticator.specs.Mac.{block_key, hmac_of, xor_each}
 use Rattle.authenticator.specs.declared.mac.Key.{Key}
-use Rattle.authenticator.specs.declared.row.SharedKey.{SharedKey}
 
 -- The key is made of these bytes: its hashes have taken in their block, mixed with either pad.
 pub record IsMadeOf (key : Key) (bytes : List ℕ) : Type 0 where
@@ -23,5 +22,5 @@ AreMacsUnder keys text macs =
     → IsMadeOf key.now bytes → slice_get macs lane ≡ Some (hmac_of bytes text)
 
 -- the codes are those of a text from one party to others, in their order
-abbrev pub AreMacsTo : List SharedKey → ℕ → List ℕ → List ℕ → List (List ℕ) → Type 0
+abbrev pub AreMacsTo : Keys → ℕ → List ℕ → List ℕ → List (List ℕ) → Type 0
 AreMacsTo keys from parties text macs = macs ≡ map (λ party. mac_between keys from party text) parties

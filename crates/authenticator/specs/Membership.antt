@@ -3,14 +3,14 @@
 use Rattle.std.specs.Prelude.{ℕ, ◌+◌, ◌*◌, Bool, ◌&&◌, nat_lt, nat_le, List}
 use Rattle.terms.specs.declared.parties.TheConstants.{FIRST_CLIENT}
 use Rattle.wire_format.specs.Messages.{MessageData, request, BodyData}
-use Rattle.authenticator.specs.declared.row.SharedKey.{SharedKey}
+use Rattle.authenticator.specs.Keys.{Keys}
 
 -- how many replicas may be faulty, how many clients there are, the keys that the party shares with others, and the
 -- public keys of the replicas, in their order
 pub record Membership : Type 0 where
   pub faults : ℕ
   pub clients : ℕ
-  pub keys : List SharedKey
+  pub keys : Keys
   pub publics : List (List ℕ)
 
 -- how many replicas there are: 3 f + 1 if f may be faulty

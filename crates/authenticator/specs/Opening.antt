@@ -7,10 +7,10 @@ use Rattle.authenticator.specs.declared.sealed.OpenFault.{OpenFault}
 use Rattle.authenticator.specs.declared.sealed.OpenFault.TheVariants as faults
 use Rattle.authenticator.specs.Membership.{Membership, has_sender}
 use Rattle.authenticator.specs.Authentic.{is_authentic}
-use Rattle.authenticator.specs.declared.row.SharedKey.{SharedKey}
+use Rattle.authenticator.specs.Keys.{Keys}
 
 -- The authenticator of the frame has the right entry for the party, or is a signature.
-abbrev pub may_open : List SharedKey → ℕ → FrameData → Bool
+abbrev pub may_open : Keys → ℕ → FrameData → Bool
 may_open keys party frame =
     authenticator_is_signed frame.authenticator || is_authentic keys party frame
 

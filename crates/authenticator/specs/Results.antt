@@ -20,23 +20,23 @@ use Rattle.authenticator.specs.Headers.{header_refusal}
 use Rattle.authenticator.specs.Membership.{Membership}
 use Rattle.authenticator.specs.Opening.{Opens}
 use Rattle.authenticator.specs.Sealing.{IsTooLong, entry_for, sealed_for}
-use Rattle.authenticator.specs.declared.row.SharedKey.{SharedKey}
+use Rattle.authenticator.specs.Keys.{Keys}
 
 -- The entries are the MACs of a text for the receivers.
-abbrev pub AreMacsFor : List SharedKey → ℕ → List ℕ → List Party → List ReceiverMac → Type 0
+abbrev pub AreMacsFor : Keys → ℕ → List ℕ → List Party → List ReceiverMac → Type 0
 AreMacsFor keys sender text receivers entries =
     map mac_data entries ≡ map (entry_for keys sender text) (map party_number receivers)
 
 -- the body with its MACs for the receivers
-abbrev pub sealed_frame : List SharedKey → Body → List Party → FrameData
+abbrev pub sealed_frame : Keys → Body → List Party → FrameData
 sealed_frame keys body receivers = sealed_for keys (body_data body) (map party_number receivers)
 
 -- The bytes spell that frame.
-abbrev pub SealsBody : List SharedKey → Body → List Party → Vec ℕ Global → Type 0
+abbrev pub SealsBody : Keys → Body → List Party → Vec ℕ Global → Type 0
 SealsBody keys body receivers bytes = SpellsFrame bytes.items (sealed_frame keys body receivers)
 
 -- The body is refused as too large exactly if its frame would be longer than it may be.
-abbrev pub TellsTooLong : List SharedKey → Body → List Party → Result (Vec ℕ Global) SealFault → Type 0
+abbrev pub TellsTooLong : Keys → Body → List Party → Result (Vec ℕ Global) SealFault → Type 0
 TellsTooLong keys body receivers result =
     (result ≡ Err seal_faults.TooLarge) ↔ IsTooLong (sealed_frame keys body receivers)
 

@@ -3,16 +3,15 @@ use Rattle.std.specs.Prelude.{◌≡◌, ℕ, ◌<◌, ◌≤◌, false, IsTrue,
 use Rattle.wire_format.specs.Lists.{ascends}
 use Rattle.wire_format.specs.Messages.{BodyData, MacData, macs, FrameData}
 use Rattle.wire_format.specs.Spelling.{IsBody, is_signed, body_spelling, frame_spelling, frame_limit}
-use Rattle.authenticator.specs.Keys.{mac_between}
-use Rattle.authenticator.specs.declared.row.SharedKey.{SharedKey}
+use Rattle.authenticator.specs.Keys.{Keys, mac_between}
 
 -- the entry of an authenticator for a party
-abbrev pub entry_for : List SharedKey → ℕ → List ℕ → ℕ → MacData
+abbrev pub entry_for : Keys → ℕ → List ℕ → ℕ → MacData
 entry_for keys sender text party =
     record { receiver = party; mac = mac_between keys sender party text }
 
 -- a body with its MACs for these parties
-abbrev pub sealed_for : List SharedKey → BodyData → List ℕ → FrameData
+abbrev pub sealed_for : Keys → BodyData → List ℕ → FrameData
 sealed_for keys body parties =
     record {
       body = body;

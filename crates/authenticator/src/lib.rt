@@ -18,7 +18,7 @@ mod ring;
 mod row;
 mod sealed;
 
-pub use laws::sealed_frames_open;
+pub use laws::{keys_are_shared, sealed_frames_open};
 pub use mac::{Key, hmac, same};
 pub use ring::Ring;
 pub use row::{SharedKey, deal, signing_seed};

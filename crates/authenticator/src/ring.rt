@@ -1,9 +1,8 @@
 //! The keys under which parties seal and open frames.
 
-ghost use Rattle.std.specs.Prelude.{◌≡◌, IfSome, [], Some, option_map};
-ghost use Rattle.authenticator.specs.Dealing.{all_keys};
+ghost use Rattle.std.specs.Prelude.{◌≡◌, IfOk, IfSome, [], Some, option_map};
 ghost use Rattle.authenticator.specs.Kept.{IsCodeBetween, IsKeyBetween, KeepsOrTakesText};
-ghost use Rattle.authenticator.specs.Keys.{find_key, mac_between, shared_mac};
+ghost use Rattle.authenticator.specs.Keys.{dealt, find_key, mac_between, row, shared_mac};
 ghost use Rattle.authenticator.specs.Made.{AreMacsTo};
 ghost use Rattle.authenticator.specs.Headers.{takes_part};
 ghost use Rattle.authenticator.specs.RingView.{keys_of};
@@ -15,7 +14,8 @@ use crate::row::{Seed, SharedKey, key_among};
 use std::alloc::Global;
 use std::collections::HashMap;
 use std::marker::Model;
-use terms::FIRST_CLIENT;
+use std::sync::Arc;
+use terms::{FIRST_CLIENT, NoMemory};
 use wire::{Body, Message};
 
 /// A text with its authentication code.
@@ -45,7 +45,7 @@ impl CodedText {
 #[derive(Drop)]
 enum Source {
     Seed(Seed),
-    Row(Vec<SharedKey>),
+    Row(Arc<Vec<SharedKey>>),
 }
 
 /// The keys of one party, or of all parties of a seed. The ring makes each ready for texts when it first needs it, and
@@ -72,12 +72,12 @@ impl Model for Ring {
     ghost view = { λ r. record {
         faults = r.faults;
         clients = r.clients;
-        keys = keys_of r.source r.faults r.clients;
+        keys = keys_of r.source;
         publics = [];
     } };
 
-    ghost invariant = { λ r. KeysFit (keys_of r.source r.faults r.clients) r.kept
-        × CodesFit (keys_of r.source r.faults r.clients) r.requests };
+    ghost invariant = { λ r. KeysFit (keys_of r.source) r.kept
+        × CodesFit (keys_of r.source) r.requests };
 }
 
 impl Ring {
@@ -87,7 +87,7 @@ impl Ring {
         ensures { result ≡ record {
             faults = faults;
             clients = clients;
-            keys = all_keys seed.now faults clients;
+            keys = dealt seed.now;
             publics = [];
         } }
     {
@@ -95,17 +95,47 @@ impl Ring {
     }
 
     /// The keys that one party has, and no other.
-    pub fn of_party(alloc: Global, faults: u8, clients: u16, keys: Vec<SharedKey>) -> Ring
-        ensures { result ≡ record { faults = faults; clients = clients; keys = keys.items; publics = [] } }
+    ///
+    /// # Errors
+    ///
+    /// NoMemory if memory runs out.
+    pub fn of_party(
+        alloc: Global,
+        faults: u8,
+        clients: u16,
+        keys: Vec<SharedKey>,
+    ) -> Result<Ring, NoMemory>
+        ensures { IfOk result (λ ring. ring ≡ record {
+            faults = faults;
+            clients = clients;
+            keys = row keys.items;
+            publics = [];
+        }) }
     {
-        Ring::from_source(alloc, faults, clients, Source::Row(keys))
+        let source = Source::Row(Arc::new(alloc, keys)?);
+        Ok(Ring::from_source(alloc, faults, clients, source))
+    }
+
+    /// A ring of the same keys, which are not copied. What either makes ready or keeps from then on is its own.
+    ///
+    /// # Errors
+    ///
+    /// NoMemory if memory runs out.
+    pub fn share(&self) -> Result<Ring, NoMemory>
+        ensures { IfOk result (λ ring. ring ≡ self.now) }
+    {
+        let source = match &self.source {
+            Source::Seed(seed) => Source::Seed(seed.twin()),
+            Source::Row(keys) => Source::Row(Arc::try_clone(keys)?),
+        };
+        Ok(Ring::from_source(self.alloc, self.faults, self.clients, source))
     }
 
     fn from_source(alloc: Global, faults: u8, clients: u16, source: Source) -> Ring
         ensures { result ≡ record {
             faults = faults;
             clients = clients;
-            keys = keys_of source faults clients;
+            keys = keys_of source;
             publics = [];
         } }
     {
@@ -172,7 +202,7 @@ impl Ring {
         ensures { result ≡ find_key self.now.keys from to }
     {
         match &self.source {
-            Source::Seed(seed) => seed.shared_key(self.faults, self.clients, from, to),
+            Source::Seed(seed) => Some(seed.derive(from, to)),
             Source::Row(keys) => key_among(keys.as_slice(), from, to),
         }
     }

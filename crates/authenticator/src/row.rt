@@ -2,8 +2,8 @@
 
 ghost use Rattle.std.specs.Prelude.{◌≡◌, [], ◌∷◌, ◌++◌, ◌≤◌, ◌+◌, ◌<◌, IfOk, OnOk};
 ghost use Rattle.std.specs.Int.{w16, to_be_bytes};
-ghost use Rattle.authenticator.specs.Dealing.{all_clients, all_keys, both_keys, clients_of, dealt_keys, do_exchange, is_among_clients, keys_with, other_replicas, others_among};
-ghost use Rattle.authenticator.specs.Keys.{derived_key, find_key, signing_seed};
+ghost use Rattle.authenticator.specs.Dealing.{all_clients, both_keys, clients_of, dealt_keys, keys_with, other_replicas, others_among};
+ghost use Rattle.authenticator.specs.Keys.{derived_key, find_key, row, signing_seed};
 ghost use Rattle.terms.specs.Parties.{party_number};
 
 use crate::mac::{Key, hmac};
@@ -12,7 +12,7 @@ use std::marker::Model;
 use terms::{FIRST_CLIENT, NoMemory, Party};
 
 /// The key under which one party seals what it sends to another.
-#[derive(Clone, Copy, Drop)]
+#[derive(Drop)]
 pub struct SharedKey {
     pub from: u16,
     pub to: u16,
@@ -47,22 +47,18 @@ impl Seed {
         }
     }
 
+    /// The same seed once more.
+    pub(crate) fn twin(&self) -> Seed
+        ensures { result ≡ self.now }
+    {
+        Seed::new(&self.seed)
+    }
+
     /// The key from one party to another.
     pub(crate) fn derive(&self, from: u16, to: u16) -> [u8; 32]
         ensures { result ≡ derived_key self.now from to }
     {
         self.source.mac(&key_text(from, to))
-    }
-
-    /// The key from one party to another, if they exchange frames.
-    pub(crate) fn shared_key(&self, faults: u8, clients: u16, from: u16, to: u16) -> Option<[u8; 32]>
-        ensures { result ≡ find_key (all_keys self.now faults clients) from to }
-    {
-        if do_exchange(faults, clients, from, to) {
-            Some(self.derive(from, to))
-        } else {
-            None
-        }
     }
 
     // Appends the keys between two parties, in both directions.
@@ -165,30 +161,12 @@ fn push_clients(
 
 /// The key from one party to another, if it is among these.
 pub(crate) fn key_among(keys: &[SharedKey], from: u16, to: u16) -> Option<[u8; 32]>
-    ensures { result ≡ find_key keys.now from to }
+    ensures { result ≡ find_key (row keys.now) from to }
 {
     let shared = keys
         .iter()
         .find(|shared| shared.from == from && shared.to == to)?;
     Some(shared.key)
-}
-
-/// Whether two parties exchange frames: replicas with each other and with clients.
-pub(crate) fn do_exchange(faults: u8, clients: u16, from: u16, to: u16) -> bool
-    ensures { result ≡ do_exchange faults clients from to }
-{
-    let replicas = 3 * u16::from(faults) + 1;
-    if from < replicas {
-        to != from && (to < replicas || is_client(clients, to))
-    } else {
-        is_client(clients, from) && to < replicas
-    }
-}
-
-fn is_client(clients: u16, party: u16) -> bool
-    ensures { result ≡ is_among_clients clients party }
-{
-    party >= FIRST_CLIENT && party - FIRST_CLIENT < clients
 }
 
 /// The seed of a party's signatures, derived from that of the configuration. Only replicas sign.

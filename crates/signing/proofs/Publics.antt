@@ -22,6 +22,11 @@ one_within seed faults n less =
     slice_get-get_or (derived_publics seed faults) n [] (omega (arith, less, count))
     ∙ ap Some (get_or-map-range_with_len (λ r. public_key (signing_seed seed r)) 0 (3 * faults + 1) n n [] less (omega arith))
 
+pub public_within : (seed : List ℕ) (faults n : ℕ) → n < 3 * faults + 1 → public_of (derived_publics seed faults) n ≡ public_key (signing_seed seed n)
+public_within seed faults n less =
+    sym (unwrap_or-slice_get (derived_publics seed faults) n [])
+    ∙ ap (λ (o : Option (List ℕ)). unwrap_or o []) (one_within seed faults n less)
+
 -- nobody else has one
 pub none_beyond : (seed : List ℕ) (faults n : ℕ) → 3 * faults + 1 ≤ n → slice_get (derived_publics seed faults) n ≡ None
 none_beyond seed faults n over = let count = how_many seed faults in slice_get_past (derived_publics seed faults) n (omega (arith, over, count))

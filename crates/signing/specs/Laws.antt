@@ -1,10 +1,11 @@
 -- The laws of authentic frames.
-use Rattle.std.specs.Prelude.{◌≡◌, ◌≢◌, ◌↔◌, ◌<◌, ℕ, IsTrue, List, Some}
+use Rattle.std.specs.Prelude.{◌≡◌, ◌≢◌, ◌↔◌, ◌<◌, ℕ, ◌+◌, ◌*◌, IsTrue, List, Some, slice_get}
 use Rattle.wire_format.specs.Messages.{BodyData, FrameData, signature}
 use Rattle.wire_format.specs.Spelling.{SpellsFrame, body_spelling, is_signed}
 use Rattle.authenticator.specs.Membership.{Membership, has_sender}
 use Rattle.authenticator.specs.Opening.{Opens}
-use Rattle.signing.specs.Publics.{public_of}
+use Rattle.authenticator.specs.Keys.{signing_seed}
+use Rattle.signing.specs.Publics.{derived_publics, public_of}
 use Rattle.signing.specs.Signatures.{public_key, signature_of, verifies, Verifies}
 use Rattle.signing.specs.AuthenticBody.{has_signature, authentic, signed_body}
 
@@ -80,3 +81,9 @@ abbrev pub VerifyingIsDecided : Type 0
 VerifyingIsDecided =
     (public text signature : List ℕ)
     → IsTrue (verifies public text signature) ↔ Verifies public text signature
+
+-- a seed gives each replica the public key of its signing seed
+abbrev pub PublicsAreDerived : Type 0
+PublicsAreDerived =
+    (seed : List ℕ) (faults replica : ℕ) → replica < 3 * faults + 1
+    → slice_get (derived_publics seed faults) replica ≡ Some (public_key (signing_seed seed replica))

@@ -1,6 +1,6 @@
 //! Laws of the definitions.
 
-ghost use Rattle.signing.specs.Laws.{AuthenticWasOpened, AuthenticWasSigned, OpenedIsAuthentic, SignedIsAuthentic, SignedWasSigned, SignerIsAuthentic, VerifyingIsDecided};
+ghost use Rattle.signing.specs.Laws.{AuthenticWasOpened, AuthenticWasSigned, OpenedIsAuthentic, PublicsAreDerived, SignedIsAuthentic, SignedWasSigned, SignerIsAuthentic, VerifyingIsDecided};
 
 /// The test of a signature is true exactly if the signature verifies.
 pub fn verifying_is_decided()
@@ -16,4 +16,9 @@ pub fn receiving()
     ensures authentic_was_signed { AuthenticWasSigned }
     ensures signed_was_signed { SignedWasSigned }
     ensures signer_is_authentic { SignerIsAuthentic }
+{}
+
+/// Of the public keys that a seed gives, each replica's is that of its signing seed.
+pub fn publics_are_derived()
+    ensures { PublicsAreDerived }
 {}

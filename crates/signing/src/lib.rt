@@ -32,7 +32,7 @@ pub use authentic_frame::AuthenticFrame;
 pub use authentic_request::{AuthenticRequest, authenticate_request};
 pub use authentication_fault::AuthenticationFault;
 pub use from_bytes::{authenticate, is_authentic_for};
-pub use laws::{receiving, verifying_is_decided};
+pub use laws::{publics_are_derived, receiving, verifying_is_decided};
 pub use public_keys::PublicKeys;
 pub use signature::{SIGNATURE_LEN, Signature, verify, verify_bytes};
 pub use signer::{SignFault, Signer};

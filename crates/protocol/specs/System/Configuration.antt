@@ -4,6 +4,7 @@ use Rattle.std.specs.Prelude.{◌≡◌, ◌≢◌, ℕ, ◌*◌, ◌%◌, ◌^�
 use Rattle.terms.specs.Parties.{client_number}
 use Rattle.terms.specs.declared.parties.TheConstants.{MAX_CLIENTS}
 use Rattle.authenticator.specs.Dealing.{dealt_keys}
+use Rattle.authenticator.specs.Keys.{row}
 use Rattle.signing.specs.Publics.{derived_publics}
 use Rattle.authenticator.specs.Membership.{Membership, replicas as member_replicas, is_replica as is_member_replica, is_client as is_member_client}
 use Rattle.quorum.specs.Quorum.{member}
@@ -21,11 +22,11 @@ pub record Configuration : Type 0 where
 
 -- what everybody knows: who takes part, and the public keys of the replicas
 abbrev pub signers : Configuration → Membership
-signers c = record { faults = c.faults; clients = c.clients; keys = []; publics = c.publics }
+signers c = record { faults = c.faults; clients = c.clients; keys = row []; publics = c.publics }
 
 -- What a party knows: the same, and the keys that the seed gives it. No other party's keys are among them.
 abbrev pub members : Configuration → ℕ → Membership
-members c me = record (signers c) { keys = dealt_keys c.seed c.faults c.clients me }
+members c me = record (signers c) { keys = row (dealt_keys c.seed c.faults c.clients me) }
 
 -- how many replicas there are
 abbrev pub replicas : Configuration → ℕ

@@ -5,12 +5,12 @@ use Rattle.std.specs.List.{list_any, range_with_len}
 use Rattle.std.specs.Option.{option_map_or}
 use Rattle.terms.specs.Parties.{client_party}
 use Rattle.tuple_codec.specs.Operations.{Operation, Outcome, IsOperation}
-use Rattle.authenticator.specs.Keys.{signing_seed}
+use Rattle.authenticator.specs.Keys.{dealt, signing_seed}
 use Rattle.authenticator.specs.Sealing.{entry_for}
 use Rattle.wire_format.specs.Spelling.{piece, authenticator_spelling}
 use Rattle.signing.specs.Signatures.{signature_of}
 use Rattle.quorum.specs.Votes.{or_else}
-use Rattle.protocol.specs.System.Configuration.{Configuration, members, replicas, is_replica, is_client, is_correct, is_correct_client}
+use Rattle.protocol.specs.System.Configuration.{Configuration, replicas, is_replica, is_client, is_correct, is_correct_client}
 use Rattle.wire_format.specs.Messages.{AuthenticatorData as Authenticator, macs, signature}
 use Rattle.wire_format.specs.Words.{frame_of, receivers_of}
 use Rattle.protocol.specs.System.Trace.{Entry, is_output, history_of}
@@ -50,10 +50,11 @@ made_by c (Sent p bytes) = record {
 } ∷ []
 made_by c _ = []
 
--- the bytes of a frame with MACs under the sender's keys, and of one signed with a leaf of the replica's keys
+-- The bytes of a frame with MACs under the keys that the seed gives its sender, for whatever receivers; and of one signed
+-- with a leaf of the replica's keys.
 abbrev pub sealed_bytes : Configuration → ℕ → List ℕ → List ℕ → List ℕ
 sealed_bytes c sender receivers body =
-    piece body ++ authenticator_spelling (macs (map (entry_for (members c sender).keys sender body) receivers))
+    piece body ++ authenticator_spelling (macs (map (entry_for (dealt c.seed) sender body) receivers))
 
 abbrev pub signed_bytes : Configuration → ℕ → ℕ → List ℕ → List ℕ
 signed_bytes c replica leaf body =

@@ -7,7 +7,7 @@ use Rattle.authenticator.proofs.ring.Ring.first_mac.Goals as goal
 
 pub invariant_of-self : goal.invariant_of-self
 invariant_of-self c =
-    let keys = keys_of c.self.inside.source c.self.inside.faults c.self.inside.clients in
+    let keys = keys_of c.self.inside.source in
     let shared : find_key c.args.self.now.keys c.args.from c.args.to ≡ Some c.in_ok-bytes.bytes = sym c.in_ok-bytes.ensures in
     let found : find_key keys c.args.from c.args.to ≡ Some c.in_ok-bytes.bytes = rw (← c.self.view_is) at shared in
     let fits = fit-inserted (IsKeyBetween keys) c.self.inside.kept c.insert.new.self

@@ -6,7 +6,7 @@ use Rattle.authenticator.proofs.ring.Ring.keep_code.Goals as goal
 
 pub invariant_of-self : goal.invariant_of-self
 invariant_of-self c =
-    let keys = keys_of c.self.inside.source c.self.inside.faults c.self.inside.clients in
+    let keys = keys_of c.self.inside.source in
     let right : IsCodeBetween keys c.args.from c.args.to c.args.text.now c.args.code = rw (← c.self.view_is) at c.requires in
     let was = c.self.invariant.1 c.args.from c.args.to c.in-Some.last.now (sym c.in-Some.ensures.value) in
     let taken = coded-taken keys c.args.from c.args.to c.args.text.now c.args.code c.in-Some.last.now c.put.new.self right was c.put.ensures in

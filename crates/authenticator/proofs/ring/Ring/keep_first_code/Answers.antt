@@ -5,7 +5,7 @@ use Rattle.authenticator.proofs.ring.Ring.keep_first_code.Goals as goal
 
 pub invariant_of-self : goal.invariant_of-self
 invariant_of-self c =
-    let keys = keys_of c.self.inside.source c.self.inside.faults c.self.inside.clients in
+    let keys = keys_of c.self.inside.source in
     let right : IsCodeBetween keys c.args.from c.args.to c.in-Ok.text.items c.args.code =
     rw c.in-Ok.ensures.items (rw (← c.self.view_is) at c.requires) in
     let fits = fit-inserted (λ from to it. IsCodeBetween keys from to it.text.items it.code) c.self.inside.requests c.insert.new.self

@@ -12,7 +12,7 @@ use Rattle.authenticator.proofs.ring.Ring.kept_macs.Goals as goal
 
 pub returns : goal.returns
 returns c =
-    let keys = keys_of c.self.inside.source c.self.inside.faults c.self.inside.clients in
+    let keys = keys_of c.self.inside.source in
     let from = c.args.from in
     let text = c.args.text.now in
     let made = λ (i : ℕ) (party : ℕ) (key : Key) (at : slice_get c.args.to i ≡ Some party) (kept : IsKeyBetween keys from (get_or c.args.to i 0) key).
