@@ -4,6 +4,7 @@ use Rattle.std.specs.Prelude.{All, AllPairs, nat_le, nat_lt}
 use Rattle.std.proofs.lemmas.Bool.{and_parts, and_from, not-true, eqb-false, ne_eqb, ltb-true, lt-ltb, leb-true, le-leb, or_parts}
 use Rattle.std.proofs.lemmas.List.Elements.{All-cons, All-tail}
 use Rattle.std.proofs.lemmas.List.Kept.{AllPairs-cons}
+use Rattle.signing.specs.Publics.{derived_publics}
 use Rattle.quorum.specs.Quorum.{member}
 use Rattle.protocol.specs.System.Configuration.{Configuration, IsConfiguration, replicas}
 use Rattle.events.specs.Checking.{each_once, is_within_limit, is_configuration}
@@ -54,8 +55,8 @@ module _ (c : Configuration) where
   abbrev replicas_once : Bool
   replicas_once = each_once (replicas c) c.faulty_replicas
 
-  pub is_valid : length c.seed ≡ 32 → is_configuration c ≡ true → IsConfiguration c
-  is_valid seed e =
+  pub is_valid : length c.seed ≡ 32 → c.publics ≡ derived_publics c.seed c.faults → is_configuration c ≡ true → IsConfiguration c
+  is_valid seed publics e =
       let x = and_parts ((numbers && few) && replicas_once) (each_once c.clients c.faulty_clients) e in
       let y = and_parts (numbers && few) replicas_once x.0 in
       let z = and_parts numbers few y.0 in
@@ -70,6 +71,7 @@ module _ (c : Configuration) where
         some_clients = leb-true 1 c.clients clients.0;
         clients = leb-true c.clients 256 clients.1;
         seed = seed;
+        publics = publics;
         period = leb-true 1 c.period period.0;
         period_most = leb-true c.period 16 period.1;
         few = leb-true (length c.faulty_replicas) c.faults z.1;

@@ -1,6 +1,7 @@
 -- The model of the program's configuration.
 use Rattle.std.specs.Prelude.{◌≡◌, ℕ, List, Result, IfOk, IsOk, Vec}
 use Rattle.std.specs.declared.alloc.Global.{Global}
+use Rattle.signing.specs.Publics.{derived_publics}
 use Rattle.protocol.specs.System.Configuration.{Configuration, IsConfiguration}
 use Rattle.events.specs.declared.config.BadConfig.{BadConfig}
 use Rattle.events.specs.declared.config.Config.TheInside.{Inside}
@@ -11,6 +12,7 @@ configuration_of faults clients seed period faulty_replicas faulty_clients =
       faults = faults;
       clients = clients;
       seed = seed;
+      publics = derived_publics seed faults;
       period = period;
       faulty_replicas = faulty_replicas;
       faulty_clients = faulty_clients;
