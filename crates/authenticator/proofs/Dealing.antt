@@ -65,6 +65,7 @@ in_peers faults clients me party is = go (not (party == me) && nat_lt party (3 *
         let parts = and_parts (nat_le FIRST_CLIENT party) (nat_lt party (FIRST_CLIENT + clients)) h in
         in_range party FIRST_CLIENT clients (leb-true FIRST_CLIENT party parts.0) (ltb-true party (FIRST_CLIENT + clients) parts.1)
     client false below h = absurd cc
+
     go : (b : Bool) → (not (party == me) && nat_lt party (3 * faults + 1)) ≡ b
         → (b || (nat_lt me FIRST_CLIENT && is_among_clients clients party)) ≡ true → IsIn party (peers faults clients me)
     go true replica h =

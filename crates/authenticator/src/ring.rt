@@ -70,10 +70,10 @@ impl Model for Ring {
     ghost Value = { Membership };
 
     ghost view = { λ r. record {
-        faults = r.faults;
-        clients = r.clients;
-        keys = keys_of r.source;
-        publics = [];
+      faults = r.faults;
+      clients = r.clients;
+      keys = keys_of r.source;
+      publics = [];
     } };
 
     ghost invariant = { λ r. KeysFit (keys_of r.source) r.kept
@@ -85,10 +85,10 @@ impl Ring {
     /// `clients`, 1 to 256, is the number of clients. It derives no key yet and takes no memory, so it gives no error.
     pub fn new(alloc: Global, seed: &[u8; 32], faults: u8, clients: u16) -> Ring
         ensures { result ≡ record {
-            faults = faults;
-            clients = clients;
-            keys = dealt seed.now;
-            publics = [];
+          faults = faults;
+          clients = clients;
+          keys = dealt seed.now;
+          publics = [];
         } }
     {
         Ring::from_source(alloc, faults, clients, Source::Seed(Seed::new(seed)))
@@ -106,10 +106,10 @@ impl Ring {
         keys: Vec<SharedKey>,
     ) -> Result<Ring, NoMemory>
         ensures { IfOk result (λ ring. ring ≡ record {
-            faults = faults;
-            clients = clients;
-            keys = row keys.items;
-            publics = [];
+          faults = faults;
+          clients = clients;
+          keys = row keys.items;
+          publics = [];
         }) }
     {
         let source = Source::Row(Arc::new(alloc, keys)?);
@@ -133,10 +133,10 @@ impl Ring {
 
     fn from_source(alloc: Global, faults: u8, clients: u16, source: Source) -> Ring
         ensures { result ≡ record {
-            faults = faults;
-            clients = clients;
-            keys = keys_of source;
-            publics = [];
+          faults = faults;
+          clients = clients;
+          keys = keys_of source;
+          publics = [];
         } }
     {
         Ring {
@@ -207,8 +207,9 @@ impl Ring {
         }
     }
 
-    /// The authentication code that one party makes of a text for another.
-    pub(crate) fn mac(&mut self, from: u16, to: u16, text: &[u8]) -> [u8; 32]
+    /// The authentication code that one party makes of a text for another: under an empty key, which no party takes, if
+    /// they share none.
+    pub fn mac(&mut self, from: u16, to: u16, text: &[u8]) -> [u8; 32]
         ensures code { result ≡ mac_between self.old.keys from to text.now }
         ensures same { self.new ≡ self.old }
     {

@@ -129,12 +129,7 @@ fn push_replicas(
 }
 
 // Appends the keys that a party shares with this one, if that is another.
-fn push_other(
-    seed: &Seed,
-    me: u16,
-    party: u16,
-    keys: &mut Vec<SharedKey>,
-) -> Result<(), AllocError>
+fn push_other(seed: &Seed, me: u16, party: u16, keys: &mut Vec<SharedKey>) -> Result<(), AllocError>
     ensures { OnOk result (keys.new.items ≡ keys.old.items ++ keys_with seed.now me (others_among (party ∷ []) me)) }
 {
     if party == me {
