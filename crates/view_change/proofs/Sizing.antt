@@ -1,4 +1,4 @@
--- The rules use only the seed, the faults and the period of a configuration.
+-- The rules use only the public keys, the faults and the period of a configuration.
 use Rattle.std.specs.Prelude.{option_and_then, if◌then◌else◌, nat_lt, not, ◌==◌}
 use Rattle.std.proofs.Common.{◌≡◌, ℕ, ◌+◌, ◌*◌, Bool, true, List, [], ◌∷◌, length, map, Option, Some, None, refl, sym, ap, ap₂, ◌∙◌, subst, ◌&&◌}
 use Rattle.wire_format.specs.Messages.{MessageData as Message, BodyData as Body, FrameData as Frame, NewViewData, ViewChangeData, view_change as ViewChange, new_view as NewView}
@@ -6,7 +6,7 @@ use Rattle.wire_format.specs.Words.{frame_of}
 use Rattle.wire_format.specs.Spelling.{is_signed}
 use Rattle.authenticator.specs.Membership.{sends}
 use Rattle.signing.specs.AuthenticBody.{has_signature, is_signed_frame, signed_body}
-use Rattle.protocol.specs.System.Configuration.{Configuration, members, primary}
+use Rattle.protocol.specs.System.Configuration.{Configuration, primary, signers}
 use Rattle.protocol.specs.Replica.Certificates.{is_later}
 use Rattle.protocol.specs.Replica.Selection.{change_in, changes_of, count_in, is_quorum, is_within, list_of, may_select, signed_change}
 use Rattle.view_change.specs.declared.fault.NewViewFault.{NewViewFault}
@@ -21,7 +21,7 @@ use Rattle.view_change.proofs.Opening.{tells}
 
 tells_as : Configuration → ℕ → Message → Bool → Option (ℕ × ViewChangeData)
 tells_as c sender message b =
-    option_and_then change_in (if is_signed message && (sends (members c) sender message && b) then Some (let body : Body = record { sender = sender; message = message } in body) else None)
+    option_and_then change_in (if is_signed message && (sends (signers c) sender message && b) then Some (let body : Body = record { sender = sender; message = message } in body) else None)
 
 as_same : (c d : Configuration) (sender : ℕ) (message : Message) (b : Bool) → c.faults ≡ d.faults → tells_as c sender message b ≡ tells_as d sender message b
 unfolding tells_as
@@ -31,27 +31,27 @@ as_same c d sender (NewView new) b e =
     ap (λ (n : ℕ). option_and_then change_in (if nat_lt sender (3 * n + 1) && b then Some (let body : Body = record { sender = sender; message = NewView new } in body) else None)) e
 as_same c d sender _ b e = refl
 
-tells_same : (c d : Configuration) (f : Frame) → c.seed ≡ d.seed → c.faults ≡ d.faults → tells c f ≡ tells d f
+tells_same : (c d : Configuration) (f : Frame) → c.publics ≡ d.publics → c.faults ≡ d.faults → tells c f ≡ tells d f
 unfolding tells_as
-tells_same c d f seed faults =
-    ap (λ s. tells_as c f.body.sender f.body.message (has_signature s f)) seed ∙ as_same c d f.body.sender f.body.message (has_signature d.seed f) faults
+tells_same c d f publics faults =
+    ap (λ s. tells_as c f.body.sender f.body.message (has_signature s f)) publics ∙ as_same c d f.body.sender f.body.message (has_signature d.publics f) faults
 
-signed_same : (c d : Configuration) (bytes : List ℕ) → c.seed ≡ d.seed → c.faults ≡ d.faults → signed_change c bytes ≡ signed_change d bytes
+signed_same : (c d : Configuration) (bytes : List ℕ) → c.publics ≡ d.publics → c.faults ≡ d.faults → signed_change c bytes ≡ signed_change d bytes
 unfolding signed_body
-signed_same c d bytes seed faults = go (frame_of bytes)
+signed_same c d bytes publics faults = go (frame_of bytes)
   where
     go : (o : Option Frame)
-        → option_and_then change_in (option_and_then (λ frame. if is_signed_frame (members c) frame then Some frame.body else None) o)
-        ≡ option_and_then change_in (option_and_then (λ frame. if is_signed_frame (members d) frame then Some frame.body else None) o)
+        → option_and_then change_in (option_and_then (λ frame. if is_signed_frame (signers c) frame then Some frame.body else None) o)
+        ≡ option_and_then change_in (option_and_then (λ frame. if is_signed_frame (signers d) frame then Some frame.body else None) o)
     go None = refl
-    go (Some f) = tells_same c d f seed faults
+    go (Some f) = tells_same c d f publics faults
 
-changes_same : (c d : Configuration) (frames : List (List ℕ)) → c.seed ≡ d.seed → c.faults ≡ d.faults → map (signed_change c) frames ≡ map (signed_change d) frames
-changes_same c d [] seed faults = refl
-changes_same c d (x ∷ xs) seed faults = ap₂ (λ (y : Option (ℕ × ViewChangeData)) (ys : List (Option (ℕ × ViewChangeData))). y ∷ ys) (signed_same c d x seed faults) (changes_same c d xs seed faults)
+changes_same : (c d : Configuration) (frames : List (List ℕ)) → c.publics ≡ d.publics → c.faults ≡ d.faults → map (signed_change c) frames ≡ map (signed_change d) frames
+changes_same c d [] publics faults = refl
+changes_same c d (x ∷ xs) publics faults = ap₂ (λ (y : Option (ℕ × ViewChangeData)) (ys : List (Option (ℕ × ViewChangeData))). y ∷ ys) (signed_same c d x publics faults) (changes_same c d xs publics faults)
 
 pub of_sizes : ℕ → ℕ → Configuration
-of_sizes faults period = record { faults = faults; clients = 1; seed = []; period = period; faulty_replicas = []; faulty_clients = [] }
+of_sizes faults period = record { faults = faults; clients = 1; seed = []; publics = []; period = period; faulty_replicas = []; faulty_clients = [] }
 
 -- words that depend on the two sizes alone
 by_sizes : {A : Type 0} (f : Configuration → A) → ((c : Configuration) → f c ≡ f (of_sizes c.faults c.period)) → (c d : Configuration) → AreAlikeConfigurations c d → f c ≡ f d
@@ -81,7 +81,7 @@ untaken_same c d alike view held x = by_sizes (λ y. view_change_refusal y view 
 -- ---- new views
 
 of_changes : (c d : Configuration) → AreAlikeConfigurations c d → (new : NewViewData) → changes_of c new ≡ changes_of d new
-of_changes c d alike new = ap list_of (changes_same c d new.changes alike.seed alike.faults)
+of_changes c d alike new = ap list_of (changes_same c d new.changes alike.publics alike.faults)
 
 selected_too : (c d : Configuration) → AreAlikeConfigurations c d → (new : NewViewData) → may_select c new ≡ true → may_select d new ≡ true
 selected_too c d alike new h =
@@ -94,7 +94,7 @@ selected_too c d alike new h =
     )
 
 turned : (c d : Configuration) → AreAlikeConfigurations c d → AreAlikeConfigurations d c
-turned c d alike = record { seed = sym alike.seed; faults = sym alike.faults; period = sym alike.period }
+turned c d alike = record { publics = sym alike.publics; faults = sym alike.faults; period = sym alike.period }
 
 selected_same : (c d : Configuration) → AreAlikeConfigurations c d → (new : NewViewData) → may_select c new ≡ may_select d new
 selected_same c d alike new = same_truth (may_select c new) (may_select d new) (selected_too c d alike new) (selected_too d c (turned c d alike) new)
@@ -127,7 +127,7 @@ refused_same c d alike view target sender new =
 
 pub sizes_decide : SizesDecide
 sizes_decide c d alike = record {
-  signed = λ bytes. signed_same c d bytes alike.seed alike.faults;
+  signed = λ bytes. signed_same c d bytes alike.publics alike.faults;
   within = within_same c d alike;
   sets = sets_same c d alike;
   meet = meets_same c d alike;

@@ -50,9 +50,9 @@ StartsAreListed =
     → Has (λ x. Has (λ (checkpoint : CheckpointEntry). (checkpoint.number ≡ start) × (checkpoint.digest ≡ root))
     x.1.checkpoints) set
 
--- The configurations have the same seed, faults and period.
+-- The configurations have the same public keys, faults and period.
 pub record AreAlikeConfigurations (c d : Configuration) : Type 0 where
-  pub seed : c.seed ≡ d.seed
+  pub publics : c.publics ≡ d.publics
   pub faults : c.faults ≡ d.faults
   pub period : c.period ≡ d.period
 
@@ -70,7 +70,7 @@ pub record HaveOneRule (c d : Configuration) : Type 0 where
   pub untaken : (view : ℕ) (held : List (Option HeldData)) (x : ℕ × ViewChangeData)
       → view_change_refusal c view held x ≡ view_change_refusal d view held x
 
--- The rules use only the seed, the faults and the period of a configuration.
+-- The rules use only the public keys, the faults and the period of a configuration.
 abbrev pub SizesDecide : Type 0
 SizesDecide = (c d : Configuration) → AreAlikeConfigurations c d → HaveOneRule c d
 

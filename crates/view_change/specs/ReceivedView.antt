@@ -10,15 +10,15 @@ use Rattle.view_change.specs.declared.received.Received.TheInside.{Inside}
 use Rattle.view_change.specs.ReceivedData.{HeldData, held_of, with_held, view_change_refusal, AreHeldFrom}
 use Rattle.view_change.specs.Sets.{keyed}
 
--- the seed of the keys, the sizes, and the stored view changes, one place for each replica
+-- the public keys, the sizes, and the stored view changes, one place for each replica
 pub record ReceivedState : Type 0 where
-  pub seed : List ℕ
+  pub publics : List (List ℕ)
   pub sizes : Sizes
   pub held : List (Option HeldData)
 
 -- the configuration that judges view changes
 abbrev pub judging_configuration : ReceivedState → Configuration
-judging_configuration r = keyed r.seed r.sizes
+judging_configuration r = keyed r.publics r.sizes
 
 -- a view change in its frame
 abbrev pub held_as : Change → List ℕ → HeldData
@@ -31,7 +31,7 @@ abbrev pub held_by : List (Option SignedChange) → List (Option HeldData)
 held_by held = map (option_map held_data) held
 
 abbrev pub received_state : Inside → ReceivedState
-received_state r = record { seed = r.keys; sizes = r.sizes; held = held_by r.held.items }
+received_state r = record { publics = r.keys; sizes = r.sizes; held = held_by r.held.items }
 
 -- there is a place for each replica, and each place has its replica's view change
 pub record AreReceived (r : ReceivedState) : Type 0 where

@@ -13,13 +13,14 @@ use Rattle.view_change.specs.declared.changes.Change.{Change}
 use Rattle.view_change.specs.declared.changes.Rule.{Rule}
 use Rattle.view_change.specs.declared.changes.Rule.TheVariants as rules
 
--- a configuration of these sizes, with the seed of the keys; the rules use nothing else of a configuration
-abbrev pub keyed : List ℕ → Sizes → Configuration
-keyed seed s =
+-- a configuration of these sizes, with these public keys; the rules use nothing else of a configuration
+abbrev pub keyed : List (List ℕ) → Sizes → Configuration
+keyed publics s =
     record {
       faults = s.faults;
       clients = 1;
-      seed = seed;
+      seed = [];
+      publics = publics;
       period = s.period;
       faulty_replicas = [];
       faulty_clients = [];

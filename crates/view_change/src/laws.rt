@@ -23,7 +23,7 @@ pub fn gaps_forbid()
     ensures listed { StartsAreListed }
 {}
 
-/// All rules depend only on the seed, the number of faulty replicas and the period.
+/// All rules depend only on the public keys, the number of faulty replicas and the period.
 pub fn sizes_decide()
     ensures decide { SizesDecide }
 {}

@@ -15,7 +15,7 @@
 //! - `check_new_view` is Ok exactly if the new view is by its primary, of a later view, and satisfies the rules; else
 //!   it returns the first refusal that applies.
 //! - The laws: a new view is selected by its set; a larger set allows all that a smaller one does; entries decide which
-//!   digests may stand; the rules depend on two sizes and the seed of the keys alone; and a replica takes exactly what
+//!   digests may stand; the rules depend on two sizes and the public keys alone; and a replica takes exactly what
 //!   it does not refuse.
 //!
 //! If memory runs out, a call that takes memory returns an error and leaves all as it was.

@@ -50,7 +50,7 @@ impl Received {
     /// NoMemory if memory runs out.
     pub fn new(alloc: Global, keys: PublicKeys, sizes: Sizes) -> Result<Received, NoMemory>
         ensures { IfOk result (λ r. r ≡ record {
-          seed = keys;
+          publics = keys;
           sizes = sizes;
           held = replicate (3 * sizes.faults + 1) None;
         }) }

@@ -9,5 +9,5 @@ invariant_of-result c = none_received _ (3 * c.args.sizes.faults + 1) refl (ap h
 
 pub returns : goal.returns
 returns c =
-    ap (λ (held : List (Option HeldData)). let r : ReceivedState = record { seed = c.args.keys; sizes = c.args.sizes; held = held } in r)
+    ap (λ (held : List (Option HeldData)). let r : ReceivedState = record { publics = c.args.keys; sizes = c.args.sizes; held = held } in r)
     (ap held_by c.in_ok-held.ensures ∙ no_held (3 * c.args.sizes.faults + 1))
