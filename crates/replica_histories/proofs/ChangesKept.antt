@@ -11,7 +11,7 @@ use Rattle.wire_format.proofs.Saying.{reads_frames, says_what_is_spelled}
 use Rattle.signing.specs.AuthenticBody.{authentic, has_signature, signed_body}
 use Rattle.signing.proofs.AuthenticBody.{authentic_was_signed, signed_is_authentic}
 use Rattle.ordering.specs.Log as logs
-use Rattle.protocol.specs.System.Configuration.{Configuration, replicas, primary, members}
+use Rattle.protocol.specs.System.Configuration.{Configuration, replicas, primary, members, signers}
 use Rattle.protocol.specs.System.Frames.{IsSealed}
 use Rattle.protocol.specs.System.Trace.{Entry}
 use Rattle.protocol.specs.System.Trace.Entry.{Got, Tick, Executed, Installed, Sent}
@@ -155,7 +155,7 @@ not_own : (me v i sender : ℕ) (message : Message) → sender ≢ me → commit
 not_own me v i sender (Commit w j digest) other = rw (ne_eqb sender me other) refl
 not_own me v i sender _ other = refl
 
-no_own : (c : Configuration) (me v i : ℕ) (bytes : List ℕ) (o : Option Body) → authentic (members c) me bytes ≡ o → option_and_then (commit_from me v i) o ≡ None
+no_own : (c : Configuration) (me v i : ℕ) (bytes : List ℕ) (o : Option Body) → authentic (members c me) me bytes ≡ o → option_and_then (commit_from me v i) o ≡ None
 no_own c me v i bytes None h = refl
 no_own c me v i bytes (Some body) h = not_own me v i body.sender body.message (heard_other c me bytes body h)
 
@@ -165,7 +165,7 @@ got_keep c me past bytes log after p same none batches changes = record {
     none = none;
     target = omega arith;
     logged = λ v i. logged_same c me v i past e (λ batch h free. fresh v i batch h free);
-    commits = λ v i. commit_quiet c me past e v i (no_own c me v i bytes (authentic (members c) me bytes) refl);
+    commits = λ v i. commit_quiet c me past e v i (no_own c me v i bytes (authentic (members c me) me bytes) refl);
     changes = changes;
     leaves = λ sent leaf is now. absurd now;
   };
@@ -199,7 +199,7 @@ received_keep c me past bytes none no_batch changes = record {
         (λ batch h free.
         let s = proposal_said c me v i batch past (Got me bytes) none h in
         subst (λ (m : Message). IsNoBatch (Some (record { sender = s.0.sender; message = m }))) s.2 (subst IsNoBatch s.1 no_batch));
-    commits = λ v i. commit_quiet c me past (Got me bytes) v i (no_own c me v i bytes (authentic (members c) me bytes) refl);
+    commits = λ v i. commit_quiet c me past (Got me bytes) v i (no_own c me v i bytes (authentic (members c me) me bytes) refl);
     changes = changes;
     leaves = λ sent leaf is now. absurd now;
   };
@@ -214,14 +214,19 @@ change_is sender (ViewChange vc) x h =
     (ap (λ (y : ℕ × ViewChangeData). y.0) same, ap (λ (y : ℕ × ViewChangeData). ViewChange y.1) same)
 change_is sender _ x h = absurd cc
 
+-- the replica's own keys don't matter for signed frames
+signed_alike : (c : Configuration) (me : ℕ) (bytes : List ℕ) → signed_body (members c me) bytes ≡ signed_body (signers c) bytes
+unfolding signed_body
+signed_alike c me bytes = refl
+
 pub others_bring_none : OthersBringNone
 others_bring_none c me s past bytes silent other = go (signed_change c bytes) refl
   where
     none : (x : ℕ × ViewChangeData) → signed_change c bytes ≡ Some x → (b : Bool) → (x.0 == s) ≡ b → latest_change c (Got me bytes ∷ past) s ≡ latest_change c past s
     none x is true e =
-        let b = and_then_some change_in (signed_body (members c) bytes) x is in
+        let b = and_then_some change_in (signed_body (signers c) bytes) x is in
         let k = change_is b.0.sender b.0.message x b.2 in
-        let receives : authentic (members c) me bytes ≡ Some b.0 = signed_is_authentic (members c) me bytes b.0 b.1 (λ own. other (sym (eqb-true x.0 s e) ∙ sym k.0 ∙ own)) in
+        let receives : authentic (members c me) me bytes ≡ Some b.0 = signed_is_authentic (members c me) me bytes b.0 (signed_alike c me bytes ∙ b.1) (λ own. other (sym (eqb-true x.0 s e) ∙ sym k.0 ∙ own)) in
         absurd (subst (λ (m : Message). IsNoChange (Some (record { sender = b.0.sender; message = m }))) k.1 (subst IsNoChange receives silent))
     none x is false e =
         let nothing : change_taken c (view c past) s bytes ≡ 0 = taken_is c (view c past) s bytes x is ∙ rw e refl in
@@ -235,10 +240,10 @@ pub received_are_signed : ReceivedAreSigned
 received_are_signed c me s vc bytes h = (signed, heard_other c me bytes (record { sender = s; message = ViewChange vc }) h, (signed_is c bytes (s, vc) signed).known)
   where
     signed : signed_change c bytes ≡ Some (s, vc)
-    signed = ap (option_and_then change_in) (authentic_was_signed (members c) me bytes (record { sender = s; message = ViewChange vc }) h refl)
+    signed = ap (option_and_then change_in) (sym (signed_alike c me bytes) ∙ authentic_was_signed (members c me) me bytes (record { sender = s; message = ViewChange vc }) h refl)
 
 -- a frame that is sealed as it has to be, and signed, has its sender's signature
-sealed_signed : (c : Configuration) (body : Body) (a : Authenticator) → authenticator_is_signed a ≡ true → IsSealed c (record { body = body; authenticator = a }) → has_signature c.seed (record { body = body; authenticator = a }) ≡ true
+sealed_signed : (c : Configuration) (body : Body) (a : Authenticator) → authenticator_is_signed a ≡ true → IsSealed c (record { body = body; authenticator = a }) → has_signature c.publics (record { body = body; authenticator = a }) ≡ true
 sealed_signed c body (macs entries) h well = absurd cc
 sealed_signed c body (signature s) h well = well
 

@@ -300,7 +300,7 @@ changes_follow_new_views c me past e log x new frame pq_sets s spent p t brings 
     own_begins (Some text) k mine = inr (text, refl)
 
 -- a received new view is of another primary
-pub not_mine : (c : Configuration) (me : ℕ) (past : List Entry) (s : ℕ) (new : NewViewData) (bytes : List ℕ) → authentic (members c) me bytes ≡ Some (record { sender = s; message = NewView new }) → taken c past (Got me bytes) ≡ Some new
+pub not_mine : (c : Configuration) (me : ℕ) (past : List Entry) (s : ℕ) (new : NewViewData) (bytes : List ℕ) → authentic (members c me) me bytes ≡ Some (record { sender = s; message = NewView new }) → taken c past (Got me bytes) ≡ Some new
     → primary c new.view ≢ me
 not_mine c me past s new bytes h t mine = go (s == primary c new.view) refl
   where

@@ -11,7 +11,7 @@ use Rattle.signing.specs.AuthenticBody.{signed_body}
 use Rattle.ordering.specs.Log as logs
 use Rattle.ordering.specs.Log.{LogData}
 use Rattle.ordering.proofs.Reading.{batches_are_logged}
-use Rattle.protocol.specs.System.Configuration.{Configuration, primary, replicas, span, members}
+use Rattle.protocol.specs.System.Configuration.{Configuration, primary, replicas, span, signers}
 use Rattle.protocol.specs.System.Trace.{Entry, Once, Has}
 use Rattle.protocol.specs.System.Trace.Entry.{Got, Sent}
 use Rattle.protocol.specs.Replica.Selection.{change_in, signed_change}
@@ -189,9 +189,9 @@ commit_quiet c me past e v i none =
 
 -- no view change
 pub said_no_change : (c : Configuration) (bytes : List ℕ) (body : Body) → said bytes ≡ Some body → change_in body ≡ None → signed_change c bytes ≡ None
-said_no_change c bytes body says none = go (signed_body (members c) bytes) refl
+said_no_change c bytes body says none = go (signed_body (signers c) bytes) refl
   where
-    go : (o : Option Body) → signed_body (members c) bytes ≡ o → signed_change c bytes ≡ None
+    go : (o : Option Body) → signed_body (signers c) bytes ≡ o → signed_change c bytes ≡ None
     go None is = ap (option_and_then change_in) is
     go (Some b) is = ap (option_and_then change_in) is ∙ ap change_in (some_injective b body (sym (signed_said c bytes b is) ∙ says)) ∙ none
 

@@ -19,7 +19,7 @@ use Rattle.ordering.specs.Log.{LogData}
 use Rattle.ordering.specs.Checkpoints.{root_at}
 use Rattle.ordering.specs.Keeping.{IsLog}
 use Rattle.ordering.specs.Taking.{fault_beside, ordering_fault, preprepare_fault, prepare_fault, commit_fault, checkpoint_fault}
-use Rattle.protocol.specs.System.Configuration.{Configuration, primary, is_number, members}
+use Rattle.protocol.specs.System.Configuration.{Configuration, primary, is_number, members, signers}
 use Rattle.protocol.specs.System.Trace.{Entry}
 use Rattle.protocol.specs.System.Trace.Entry.{Got}
 use Rattle.protocol.specs.Replica.Certificates.{are_genuine, checkpoint_from, checkpoint_in, insert_checkpoint, with_checkpoint, checkpoints_of, lists_checkpoint, batch_from, prepare_from, commit_from, entry_proposal, vote_in, logged, prepare_of, commit_of}
@@ -83,10 +83,10 @@ no_digest log i k h = let row : (logs.row_of log i).batch ≡ None = sym (batch_
 
 -- ---- the log's answers after a received message
 
-reads_it : (c : Configuration) (me : ℕ) (log : LogData) (past : List Entry) (bytes : List ℕ) (body : Body) (i : ℕ) (vote : Body → Option (List ℕ)) → FitsLog c me log past → authentic (members c) me bytes ≡ Some body
+reads_it : (c : Configuration) (me : ℕ) (log : LogData) (past : List Entry) (bytes : List ℕ) (body : Body) (i : ℕ) (vote : Body → Option (List ℕ)) → FitsLog c me log past → authentic (members c me) me bytes ≡ Some body
     → log.active ≡ true → logs.is_in_marks log i ≡ true → vote_in c me past (Got me bytes) vote log.view i ≡ vote body
 reads_it c me log past bytes body i vote f h active k =
-    got_reads c me log past bytes i vote f k ∙ ap (λ (b : Bool). cond b (option_and_then vote (authentic (members c) me bytes)) None) active ∙ ap (option_and_then vote) h
+    got_reads c me log past bytes i vote f k ∙ ap (λ (b : Bool). cond b (option_and_then vote (authentic (members c me) me bytes)) None) active ∙ ap (option_and_then vote) h
 
 -- ---- a batch
 
@@ -105,8 +105,8 @@ batches_count c me log past point s v i batch bytes f h none genuine = (
     p : NoFault log (s == logs.primary log v) v i
     p = no_fault log (s == logs.primary log v) v i faults.0
 
-    receives : authentic (members c) me bytes ≡ Some (record { sender = s; message = PrePrepare log.view i batch })
-    receives = subst (λ (x : ℕ). authentic (members c) me bytes ≡ Some (record { sender = s; message = PrePrepare x i batch })) p.view h
+    receives : authentic (members c me) me bytes ≡ Some (record { sender = s; message = PrePrepare log.view i batch })
+    receives = subst (λ (x : ℕ). authentic (members c me) me bytes ≡ Some (record { sender = s; message = PrePrepare x i batch })) p.view h
 
     primary_is : (s == primary c log.view) ≡ true
     primary_is = ap (λ (x : ℕ). s == x) (sym (primary_same c log log.view f.faults)) ∙ ap (λ (x : ℕ). s == logs.primary log x) (sym p.view) ∙ p.sends
@@ -141,11 +141,11 @@ batches_drop c me log past s v i batch bytes f h faulty = subst (λ (o : Option 
 -- ---- votes
 
 -- the sender of a received vote is a replica
-known : (c : Configuration) (me : ℕ) (log : LogData) (past : List Entry) (bytes : List ℕ) (body : Body) → FitsLog c me log past → authentic (members c) me bytes ≡ Some body
-    → has_sender (members c) body ≡ nat_lt body.sender (3 * c.faults + 1) → nat_lt body.sender (logs.replicas log) ≡ true
+known : (c : Configuration) (me : ℕ) (log : LogData) (past : List Entry) (bytes : List ℕ) (body : Body) → FitsLog c me log past → authentic (members c me) me bytes ≡ Some body
+    → has_sender (signers c) body ≡ nat_lt body.sender (3 * c.faults + 1) → nat_lt body.sender (logs.replicas log) ≡ true
 known c me log past bytes body f h is =
-    let o = authentic_was_opened (members c) me bytes body h in
-    ap (λ (n : ℕ). nat_lt body.sender (3 * n + 1)) f.faults ∙ sym is ∙ subst (λ (b : Body). has_sender (members c) b ≡ true) o.body_is o.opens.sender
+    let o = authentic_was_opened (members c me) me bytes body h in
+    ap (λ (n : ℕ). nat_lt body.sender (3 * n + 1)) f.faults ∙ sym is ∙ subst (λ (b : Body). has_sender (signers c) b ≡ true) o.body_is o.opens.sender
 
 pub prepares_count : PreparesAreCounted
 prepares_count c me log past point s v i digest bytes vote f h none sender same = (
@@ -162,8 +162,8 @@ prepares_count c me log past point s v i digest bytes vote f h none sender same 
     p : NoFault log (nat_lt s (logs.replicas log) && not (s == logs.primary log v)) v i
     p = no_fault log (nat_lt s (logs.replicas log) && not (s == logs.primary log v)) v i faults.0
 
-    receives : authentic (members c) me bytes ≡ Some (record { sender = s; message = Prepare log.view i digest })
-    receives = subst (λ (x : ℕ). authentic (members c) me bytes ≡ Some (record { sender = s; message = Prepare x i digest })) p.view h
+    receives : authentic (members c me) me bytes ≡ Some (record { sender = s; message = Prepare log.view i digest })
+    receives = subst (λ (x : ℕ). authentic (members c me) me bytes ≡ Some (record { sender = s; message = Prepare x i digest })) p.view h
 
     sends : (nat_lt s (logs.replicas log) ≡ true) × (not (s == logs.primary log v) ≡ true)
     sends = and_parts (nat_lt s (logs.replicas log)) (not (s == logs.primary log v)) p.sends
@@ -211,8 +211,8 @@ commits_count c me log past point s v i digest bytes vote f h none sender same =
     p : NoFault log (nat_lt s (logs.replicas log)) v i
     p = no_fault log (nat_lt s (logs.replicas log)) v i faults.0
 
-    receives : authentic (members c) me bytes ≡ Some (record { sender = s; message = Commit log.view i digest })
-    receives = subst (λ (x : ℕ). authentic (members c) me bytes ≡ Some (record { sender = s; message = Commit x i digest })) p.view h
+    receives : authentic (members c me) me bytes ≡ Some (record { sender = s; message = Commit log.view i digest })
+    receives = subst (λ (x : ℕ). authentic (members c me) me bytes ≡ Some (record { sender = s; message = Commit x i digest })) p.view h
 
     given : commit_from s log.view i (record { sender = s; message = Commit log.view i digest }) ≡ Some digest
     given = rw (eq-eqb s s refl, eq-eqb log.view log.view refl, eq-eqb i i refl) refl
@@ -240,7 +240,7 @@ commits_drop c me log past s v i digest bytes fault f h faulty = subst (λ (o : 
 -- ---- others
 
 pub others_drop : OthersDrop
-others_drop c me log past bytes f beside = go (authentic (members c) me bytes) beside
+others_drop c me log past bytes f beside = go (authentic (members c me) me bytes) beside
   where
     no_proposal : (v j sender : ℕ) (message : Message) → IsBesideLog (Some (record { sender = sender; message = message })) → batch_from c me v j (record { sender = sender; message = message }) ≡ None
     no_proposal v j sender (PrePrepare w k batch) b = absurd b

@@ -51,10 +51,10 @@ module _ (c : Configuration) (me : ℕ) (past : List Entry) (bytes : List ℕ) (
   abbrev start : Start
   start = record { before = past; input = Got me bytes; old = old }
 
-  asked_is_due : (k : ℕ) (kept : Kept) → IsRepeatedRequest c me start k kept → Has (λ x. x ≡ reply_of k kept) (replies_again old.state (authentic (members c) me bytes))
+  asked_is_due : (k : ℕ) (kept : Kept) → IsRepeatedRequest c me start k kept → Has (λ x. x ≡ reply_of k kept) (replies_again old.state (authentic (members c me) me bytes))
   asked_is_due k kept a = rw receives (at (256 + k - 256) (let n : 256 + k - 256 ≡ k = omega arith in n) (nat_le 256 (256 + k)) (le-leb 256 (256 + k) (omega arith)))
     where
-      receives : authentic (members c) me bytes ≡ Some (record { sender = 256 + k; message = Request a.0 modes.Ordered a.1 })
+      receives : authentic (members c me) me bytes ≡ Some (record { sender = 256 + k; message = Request a.0 modes.Ordered a.1 })
       receives = a.2
 
       kept_is : kept_of old.state k ≡ Some kept
@@ -66,11 +66,11 @@ module _ (c : Configuration) (me : ℕ) (past : List Entry) (bytes : List ℕ) (
   abbrev got : List Entry
   got = Got me bytes ∷ past
 
-  due_is_right : (point : Point) → point.state ≡ old.state → (message : Message) → Has (λ x. x ≡ message) (replies_again old.state (authentic (members c) me bytes)) → MaySendDue c me got point message
-  due_is_right point same message h = go (authentic (members c) me bytes) refl h
+  due_is_right : (point : Point) → point.state ≡ old.state → (message : Message) → Has (λ x. x ≡ message) (replies_again old.state (authentic (members c me) me bytes)) → MaySendDue c me got point message
+  due_is_right point same message h = go (authentic (members c me) me bytes) refl h
     where
       Says : ℕ → Message → Type 0
-      Says = λ sender m. authentic (members c) me bytes ≡ Some (record { sender = sender; message = m })
+      Says = λ sender m. authentic (members c me) me bytes ≡ Some (record { sender = sender; message = m })
 
       ordered : (sender t : ℕ) (op : Operation) → Says sender (Request t modes.Ordered op) → (b : Bool) → nat_le 256 sender ≡ b → (o : Option Kept) → kept_of old.state (sender - 256) ≡ o
           → Has (λ x. x ≡ message) (cond b (again_for (sender - 256) t o) []) → MaySendDue c me got point message
@@ -97,7 +97,7 @@ module _ (c : Configuration) (me : ℕ) (past : List Entry) (bytes : List ℕ) (
       of sender (Request t modes.ReadOnly op) says h = absurd h
       of sender _ says h = absurd h
 
-      go : (o : Option Body) → authentic (members c) me bytes ≡ o → Has (λ x. x ≡ message) (replies_again old.state o) → MaySendDue c me got point message
+      go : (o : Option Body) → authentic (members c me) me bytes ≡ o → Has (λ x. x ≡ message) (replies_again old.state o) → MaySendDue c me got point message
       go None says h = absurd h
       go (Some body) says h = of body.sender body.message says h
 
@@ -160,7 +160,7 @@ inputs_fit c me desk new log after due past bytes held none e = record {
   once = tt;
   says = record {
     begins = refl;
-    unsaid = subst (λ (xs : List Message). AreUnsent me xs []) (sym due_is) (asked_unsaid me old.state (authentic (members c) me bytes));
+    unsaid = subst (λ (xs : List Message). AreUnsent me xs []) (sym due_is) (asked_unsaid me old.state (authentic (members c me) me bytes));
     replies = λ k kept way. replies k kept way;
   };
 }
@@ -200,8 +200,8 @@ inputs_fit c me desk new log after due past bytes held none e = record {
     moves : point_of new old.snapshots [] ≡ record old { ran = []; waiting = waiting_after c me old bytes }
     moves = same_point old.snapshots new.state old.state new.waiting (waiting_after c me old bytes) (e.state ∙ sym state_is) (e.waiting ∙ sym waits)
 
-    due_is : due ≡ replies_again old.state (authentic (members c) me bytes)
-    due_is = e.due_is ∙ ap (λ (st : State). replies_again st (authentic (members c) me bytes)) (sym state_is)
+    due_is : due ≡ replies_again old.state (authentic (members c me) me bytes)
+    due_is = e.due_is ∙ ap (λ (st : State). replies_again st (authentic (members c me) me bytes)) (sym state_is)
 
     -- the kept reply that the input asks for has its client's last timestamp
     replies : (k : ℕ) (kept : Kept) → IsOnItsWay me due [] (reply_of k kept) → kept.timestamp ≤ last_time new.state k
@@ -218,9 +218,9 @@ inputs_fit c me desk new log after due past bytes held none e = record {
             let stamp : h.1.timestamp ≡ kept.timestamp = same.1 in
             omega (arith, here, stamp)
 
-    kept_frame : (frame : List ℕ) → Has (λ x. x ≡ frame) desk.frames ⊎ ((frame ≡ bytes) × (is_some (authentic (members c) me bytes) ≡ true)) → Once (HasSeen frame) (Got me bytes ∷ past) × (is_some (authentic (members c) me frame) ≡ true)
+    kept_frame : (frame : List ℕ) → Has (λ x. x ≡ frame) desk.frames ⊎ ((frame ≡ bytes) × (is_some (authentic (members c me) me bytes) ≡ true)) → Once (HasSeen frame) (Got me bytes ∷ past) × (is_some (authentic (members c me) me frame) ≡ true)
     kept_frame frame (inl k) = let f = held.of_desk.frames frame k in (inr f.0, f.1)
-    kept_frame frame (inr k) = (inl (inl (sym k.0)), subst (λ (x : List ℕ). is_some (authentic (members c) me x) ≡ true) (sym k.0) k.1)
+    kept_frame frame (inr k) = (inl (inl (sym k.0)), subst (λ (x : List ℕ). is_some (authentic (members c me) me x) ≡ true) (sym k.0) k.1)
 
 -- ---- a checkpoint arrives
 
@@ -290,7 +290,7 @@ checkpoints_enter c me desk log past s entry bytes held h none = record {
 
     asks_nothing : (k : ℕ) (kept : Kept) → IsRepeatedRequest c me (record { before = past; input = Got me bytes; old = old }) k kept → ⊥
     asks_nothing k kept a =
-        let receives : authentic (members c) me bytes ≡ Some (record { sender = 256 + k; message = Request a.0 modes.Ordered a.1 }) = a.2 in
+        let receives : authentic (members c me) me bytes ≡ Some (record { sender = 256 + k; message = Request a.0 modes.Ordered a.1 }) = a.2 in
         let same : checking s entry.number entry.digest ≡ record { sender = 256 + k; message = Request a.0 modes.Ordered a.1 } = some_injective _ _ (sym h ∙ receives) in
         subst IsCheckpoint (ap (λ (b : Body). b.message) same) tt
 

@@ -136,7 +136,7 @@ open_at c me desk t number history is f = subst (λ (o : Option TransferData). F
 
 -- it changes nothing but the transfer
 part_enters : (c : Configuration) (me : ℕ) (desk : Desk) (log : LogData) (past : List Entry) (s : ℕ) (message : Message) (bytes : List ℕ) → FitsLog c me log past → IsPart message
-    → authentic (members c) me bytes ≡ Some (record { sender = s; message = message }) → BytesEnter c me bytes desk desk log log []
+    → authentic (members c me) me bytes ≡ Some (record { sender = s; message = message }) → BytesEnter c me bytes desk desk log log []
 part_enters c me desk log past s message bytes f is h = record {
   takes = others_drop c me log past bytes f (subst IsBesideLog (sym h) (beside message is));
   state = refl;
@@ -164,7 +164,7 @@ part_enters c me desk log past s message bytes f is h = record {
 
 -- so the event begins with the transfer that has the part
 enters : (c : Configuration) (me : ℕ) (desk : Desk) (log : LogData) (past : List Entry) (s : ℕ) (message : Message) (bytes : List ℕ) (open_one : Option TransferData) (held : BothFitBetweenEvents c me desk log past) → IsPart message
-    → authentic (members c) me bytes ≡ Some (record { sender = s; message = message }) → FitsStateTransfer c me open_one desk.state.number (Got me bytes ∷ past)
+    → authentic (members c me) me bytes ≡ Some (record { sender = s; message = message }) → FitsStateTransfer c me open_one desk.state.number (Got me bytes ∷ past)
     → BothFitWithinEvent c me (start_at c me desk log past held (Got me bytes)) (record desk { transfer = open_one }) log [] []
 enters c me desk log past s message bytes open_one held is h o =
     transfers_change c me (start_at c me desk log past held (Got me bytes)) desk log [] [] open_one o

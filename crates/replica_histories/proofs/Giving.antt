@@ -322,8 +322,8 @@ placed c me w k v i s b batch h =
 
 -- a stored frame was seen and is authentic
 each_held : (c : Configuration) (me : ℕ) (desk : Desk) (history : List Entry) (frames : List (List ℕ)) → FitsFrames c me desk history → Each (λ frame. Has (λ x. x ≡ frame) desk.frames) frames
-    → Each (λ frame. Once (HasSeen frame) history × (is_some (authentic (members c) me frame) ≡ true)) frames
-each_held c me desk history frames f h = each_weaker (λ frame. Has (λ x. x ≡ frame) desk.frames) (λ frame. Once (HasSeen frame) history × (is_some (authentic (members c) me frame) ≡ true)) (λ frame k. f frame k) frames h
+    → Each (λ frame. Once (HasSeen frame) history × (is_some (authentic (members c me) me frame) ≡ true)) frames
+each_held c me desk history frames f h = each_weaker (λ frame. Has (λ x. x ≡ frame) desk.frames) (λ frame. Once (HasSeen frame) history × (is_some (authentic (members c me) me frame) ≡ true)) (λ frame k. f frame k) frames h
 
 or_else_given : {A : Type 0} (o later : Option A) (x : A) → later ≡ Some x → (y : A) × (or_else o later ≡ Some y)
 or_else_given None later x h = (x, h)
@@ -333,7 +333,7 @@ pub batches_fit : BatchesFit
 unfolding logged
 batches_fit c me s desk log due outputs i batch bytes p is_outgoing f =
     sent_fits c me s desk log (logs.with_batch log i batch) due due outputs bytes (others c me) (PrePrepare log.view i batch) f is_outgoing refl
-    (each_weaker (λ frame. Once (HasSeen frame) past × (is_some (authentic (members c) me frame) ≡ true)) (λ frame. Once (HasSeen frame) past) (λ frame k. k.0) (requests_of batch) seen)
+    (each_weaker (λ frame. Once (HasSeen frame) past × (is_some (authentic (members c me) me frame) ≡ true)) (λ frame. Once (HasSeen frame) past) (λ frame k. k.0) (requests_of batch) seen)
     (record { is_primary = primary_is; active = active c me log past f.of_log ∙ p.active; in_marks = marks_are c me log past i f.of_log ∙ p.within; genuine = genuine; one = one; next = λ none. p.free })
     tt takes is_placed refl (no_root c (after_outputs s outputs) bytes me (PrePrepare log.view i batch) desk.state.number is_outgoing.says refl) (pays_none c me s desk log outputs (PrePrepare log.view i batch) bytes is_outgoing.says due refl f) new once
   where
@@ -343,11 +343,11 @@ batches_fit c me s desk log due outputs i batch bytes p is_outgoing f =
     primary_is : primary c log.view ≡ me
     primary_is = sym (primary_same c log log.view f.of_log.faults) ∙ p.own ∙ f.of_log.own
 
-    seen : Each (λ frame. Once (HasSeen frame) past × (is_some (authentic (members c) me frame) ≡ true)) (requests_of batch)
+    seen : Each (λ frame. Once (HasSeen frame) past × (is_some (authentic (members c me) me frame) ≡ true)) (requests_of batch)
     seen = each_held c me desk past (requests_of batch) f.of_desk.frames p.held
 
     genuine : are_genuine c me batch ≡ true
-    genuine = all_of_each (λ frame. Once (HasSeen frame) past × (is_some (authentic (members c) me frame) ≡ true)) (λ request. is_some (authentic (members c) me request)) (λ frame k. k.1) (requests_of batch) seen
+    genuine = all_of_each (λ frame. Once (HasSeen frame) past × (is_some (authentic (members c me) me frame) ≡ true)) (λ request. is_some (authentic (members c me) me request)) (λ frame k. k.1) (requests_of batch) seen
 
     free : logs.logged_batch log i ≡ None
     free = sym (f.of_log.batches i p.within) ∙ p.free.unused i (omega arith)

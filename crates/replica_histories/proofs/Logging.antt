@@ -301,10 +301,10 @@ log_goes c me log new past e f r t = record {
 
 -- received bytes are read while active in the view
 pub got_reads : (c : Configuration) (me : ℕ) (log : LogData) (past : List Entry) (bytes : List ℕ) (i : ℕ) (vote : Body → Option (List ℕ)) → FitsLog c me log past → logs.is_in_marks log i ≡ true
-    → vote_in c me past (Got me bytes) vote log.view i ≡ while_active log (option_and_then vote (authentic (members c) me bytes))
+    → vote_in c me past (Got me bytes) vote log.view i ≡ while_active log (option_and_then vote (authentic (members c me) me bytes))
 got_reads c me log past bytes i vote f k = go log.active (active c me log past f)
   where
-    go : (b : Bool) → is_active_in c past log.view ≡ b → cond (is_active_in c past log.view && is_in_marks c (low c me past) i) (option_and_then vote (authentic (members c) me bytes)) None ≡ cond b (option_and_then vote (authentic (members c) me bytes)) None
+    go : (b : Bool) → is_active_in c past log.view ≡ b → cond (is_active_in c past log.view && is_in_marks c (low c me past) i) (option_and_then vote (authentic (members c me) me bytes)) None ≡ cond b (option_and_then vote (authentic (members c me) me bytes)) None
     go true a = rw (a, marks_are c me log past i f ∙ k) refl
     go false a = rw a refl
 
@@ -323,15 +323,15 @@ got_read c me log past bytes f none = record {
         let p = and_parts (is_active_in c past v) (is_in_marks c (low c me past) i) e in
         (active_view c me log past v f p.0, sym (marks_are c me log past i f) ∙ p.1)
 
-    shut : (v i : ℕ) → (v ≢ log.view) ⊎ (logs.is_in_marks log i ≡ false) → (vote : Body → Option (List ℕ)) → cond (is_active_in c past v && is_in_marks c (low c me past) i) (option_and_then vote (authentic (members c) me bytes)) None ≡ None
+    shut : (v i : ℕ) → (v ≢ log.view) ⊎ (logs.is_in_marks log i ≡ false) → (vote : Body → Option (List ℕ)) → cond (is_active_in c past v && is_in_marks c (low c me past) i) (option_and_then vote (authentic (members c me) me bytes)) None ≡ None
     shut v i other vote = go (is_active_in c past v && is_in_marks c (low c me past) i) refl other
       where
-        go : (b : Bool) → (is_active_in c past v && is_in_marks c (low c me past) i) ≡ b → (v ≢ log.view) ⊎ (logs.is_in_marks log i ≡ false) → cond b (option_and_then vote (authentic (members c) me bytes)) None ≡ None
+        go : (b : Bool) → (is_active_in c past v && is_in_marks c (low c me past) i) ≡ b → (v ≢ log.view) ⊎ (logs.is_in_marks log i ≡ false) → cond b (option_and_then vote (authentic (members c me) me bytes)) None ≡ None
         go false e other = refl
         go true e (inl differs) = absurd (differs (at v i e).0)
         go true e (inr out) = absurd (apart (logs.is_in_marks log i) (at v i e).1 out)
 
-    place : (v i : ℕ) (batch : List ℕ) (b : Bool) → (is_active_in c past v && is_in_marks c (low c me past) i) ≡ b → cond b (option_and_then (batch_from c me v i) (authentic (members c) me bytes)) None ≡ Some batch
+    place : (v i : ℕ) (batch : List ℕ) (b : Bool) → (is_active_in c past v && is_in_marks c (low c me past) i) ≡ b → cond b (option_and_then (batch_from c me v i) (authentic (members c me) me bytes)) None ≡ Some batch
         → (v ≡ log.view) × (logs.is_in_marks log i ≡ true)
     place v i batch false e h = absurd cc
     place v i batch true e h = at v i e

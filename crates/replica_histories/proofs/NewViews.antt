@@ -193,7 +193,7 @@ new_views_enter c me desk log past s new bytes held h t = record {
 
     asks_nothing : (k : ℕ) (kept : Kept) → IsRepeatedRequest c me (record { before = past; input = e; old = old }) k kept → ⊥
     asks_nothing k kept a =
-        let receives : authentic (members c) me bytes ≡ Some (record { sender = 256 + k; message = Request a.0 modes.Ordered a.1 }) = a.2 in
+        let receives : authentic (members c me) me bytes ≡ Some (record { sender = 256 + k; message = Request a.0 modes.Ordered a.1 }) = a.2 in
         let same : ◌≡◌ {A = Body} (record { sender = s; message = NewView new }) (record { sender = 256 + k; message = Request a.0 modes.Ordered a.1 }) = some_injective _ _ (sym h ∙ receives) in
         subst IsNewView (ap (λ (b : Body). b.message) same) tt
 

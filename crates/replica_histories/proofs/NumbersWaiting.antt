@@ -122,7 +122,7 @@ requests_fit c me v used assigned entries st waiting history call f =
     (arrives c me v used assigned entries st history call) f
 
 pub inputs_keep_numbers : InputsKeepNumbers
-inputs_keep_numbers c me v used assigned entries point history bytes f = go (option_and_then (call_in c) (authentic (members c) me bytes))
+inputs_keep_numbers c me v used assigned entries point history bytes f = go (option_and_then (call_in c) (authentic (members c me) me bytes))
   where
     go : (o : Option Call) → FitsNumbers c me v used assigned (option_map_or (entries_with assigned point.state entries) o entries) point.state (option_map_or (with_waiting point.state point.waiting) o point.waiting) history
     go None = f

@@ -44,9 +44,9 @@ of_other me sender _ checkpoints other = refl
 -- received bytes
 pub got_later : (c : Configuration) (me : ℕ) (past : List Entry) (bytes : List ℕ) → latest_checkpoint c me (Got me bytes ∷ past) ≡ latest_checkpoint c me past
 unfolding checkpoints_of
-got_later c me past bytes = go (authentic (members c) me bytes) refl
+got_later c me past bytes = go (authentic (members c me) me bytes) refl
   where
-    go : (o : Option Body) → authentic (members c) me bytes ≡ o
+    go : (o : Option Body) → authentic (members c me) me bytes ≡ o
         → slice_get (with_checkpoint me (option_and_then checkpoint_from o) (checkpoints_of c past me)) 0 ≡ slice_get (checkpoints_of c past me) 0
     go None is = refl
     go (Some body) is = ap (λ (ms : List CheckpointEntry). slice_get ms 0) (of_other me body.sender body.message (checkpoints_of c past me) (heard_other c me bytes body is))

@@ -64,7 +64,7 @@ module _ (c : Configuration) (me : ℕ) (past : List Entry) (bytes : List ℕ) (
   abbrev GoesOnFor : ℕ → Type 0
   GoesOnFor k = TransferGoesOn c me (Got me bytes ∷ past) point outputs executed k
 
-  answered : (body : Body) → authentic (members c) me bytes ≡ Some body → is_part body ≡ true → (Awaits body → GoesOnFor (number_in body)) → AnswersInput c me past (Got me bytes) outputs point executed
+  answered : (body : Body) → authentic (members c me) me bytes ≡ Some body → is_part body ≡ true → (Awaits body → GoesOnFor (number_in body)) → AnswersInput c me past (Got me bytes) outputs point executed
   answered body h part goes = (
     nothing.0,
     nothing.1,
@@ -77,7 +77,7 @@ module _ (c : Configuration) (me : ℕ) (past : List Entry) (bytes : List ℕ) (
       nothing : AnswersFetches c me past (Got me bytes) outputs point × OwesReadReply c me past (Got me bytes) outputs point × AnswersWaiting c me past (Got me bytes) outputs point × OwesViewChange c me past (Got me bytes) outputs point
       nothing = parts_ask_nothing c me body past (Got me bytes) h outputs point part
 
-      on : (other : Body) → authentic (members c) me bytes ≡ Some other → Awaits other → GoesOnFor (number_in other)
+      on : (other : Body) → authentic (members c me) me bytes ≡ Some other → Awaits other → GoesOnFor (number_in other)
       on other receives awaited =
           let same : body ≡ other = some_injective body other (sym h ∙ receives) in
           subst (λ (b : Body). GoesOnFor (number_in b)) same (goes (subst Awaits (sym same) awaited))

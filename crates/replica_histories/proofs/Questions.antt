@@ -38,7 +38,7 @@ others_owe_no_part c me before input outputs old executed none = (
 )
 
 -- Received bytes that ask nothing give no reason to move.
-no_question : (c : Configuration) (me p : ℕ) (before : List Entry) (bytes : List ℕ) (waiting : List Call) (v : ℕ) → has_question (authentic (members c) me bytes) ≡ false → HasToMove c me before (Got p bytes) waiting v → ⊥
+no_question : (c : Configuration) (me p : ℕ) (before : List Entry) (bytes : List ℕ) (waiting : List Call) (v : ℕ) → has_question (authentic (members c me) me bytes) ≡ false → HasToMove c me before (Got p bytes) waiting v → ⊥
 no_question c me p before bytes waiting v none (inl t) = no_time c me p before bytes waiting v t
 no_question c me p before bytes waiting v none (inr (taken, joins)) = absurd (let bad : false ≡ true = sym none ∙ ap has_question taken.2 in cc)
 
@@ -55,7 +55,7 @@ part_of sender (Page k index text) h = h
 part_of sender _ h = refl
 
 no_part : (c : Configuration) (me : ℕ) (input : Entry) → brings_question c me input ≡ false → brings_part c me input ≡ false
-no_part c me (Got p bytes) none = go (authentic (members c) me bytes) none
+no_part c me (Got p bytes) none = go (authentic (members c me) me bytes) none
   where
     go : (o : Option Body) → has_question o ≡ false → has_part o ≡ false
     go None h = refl
@@ -67,7 +67,7 @@ others_owe_none c me before input outputs old executed none =
     let parts = others_owe_no_part c me before input outputs old executed (no_part c me input none) in (parts.0, parts.1, parts.2, parts.3, parts.4, no_move_owed c me before input outputs old none)
 
 -- An input that asks for a part or a read asks for no move.
-no_change_heard : (c : Configuration) (me p : ℕ) (body : Body) (before : List Entry) (bytes : List ℕ) (waiting : List Call) (v : ℕ) → authentic (members c) me bytes ≡ Some body → is_change body ≡ false
+no_change_heard : (c : Configuration) (me p : ℕ) (body : Body) (before : List Entry) (bytes : List ℕ) (waiting : List Call) (v : ℕ) → authentic (members c me) me bytes ≡ Some body → is_change body ≡ false
     → HasToMove c me before (Got p bytes) waiting v → ⊥
 no_change_heard c me p body before bytes waiting v receives none (inl t) = no_time c me p before bytes waiting v t
 no_change_heard c me p body before bytes waiting v receives none (inr (taken, joins)) =

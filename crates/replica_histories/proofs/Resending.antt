@@ -163,7 +163,7 @@ with_new st waiting call new = go (nat_lt (last_time st call.client) call.timest
     go false b is = new
 
 got_new : (c : Configuration) (me : ℕ) (point : Point) (bytes : List ℕ) → AreNew point.state point.waiting → AreNew point.state (waiting_after c me point bytes)
-got_new c me point bytes new = go (option_and_then (call_in c) (authentic (members c) me bytes))
+got_new c me point bytes new = go (option_and_then (call_in c) (authentic (members c me) me bytes))
   where
     go : (o : Option Call) → AreNew point.state (option_map_or (with_waiting point.state point.waiting) o point.waiting)
     go None = new

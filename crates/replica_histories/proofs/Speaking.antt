@@ -19,8 +19,8 @@ use Rattle.protocol.proofs.Agreement.Commits.{Commits as SentCommits, committing
 use Rattle.replica_histories.specs.Events.{Start, after_outputs}
 
 -- received bytes are another's
-pub heard_other : (c : Configuration) (me : ℕ) (bytes : List ℕ) (body : Body) → authentic (members c) me bytes ≡ Some body → body.sender ≢ me
-heard_other c me bytes body h = (authentic_was_opened (members c) me bytes body h).other
+pub heard_other : (c : Configuration) (me : ℕ) (bytes : List ℕ) (body : Body) → authentic (members c me) me bytes ≡ Some body → body.sender ≢ me
+heard_other c me bytes body h = (authentic_was_opened (members c me) me bytes body h).other
 
 -- so the replica sent its own messages in the history
 own_said : (c : Configuration) (me : ℕ) (body : Body) → body.sender ≡ me → (past : List Entry) (e : Entry) → RightAt c me past e → Brings c body past e → Speaks body past e

@@ -155,18 +155,18 @@ open_executes c me (Some t) number later past batch grows f = go (nat_lt later t
 -- ---- parts that a transfer takes
 
 -- a received message may be sent
-pub heard_valid : (c : Configuration) (me : ℕ) (bytes : List ℕ) (body : Body) → authentic (members c) me bytes ≡ Some body → IsMessage body.message
+pub heard_valid : (c : Configuration) (me : ℕ) (bytes : List ℕ) (body : Body) → authentic (members c me) me bytes ≡ Some body → IsMessage body.message
 heard_valid c me bytes body h =
     let w = (says_what_is_spelled bytes body).0 (heard_said c me bytes body h) in
     subst (λ (b : Body). IsMessage b.message) w.2 w.1.valid.message
 
 -- digests of the root's children
-parts_told : (c : Configuration) (me : ℕ) (t : TransferData) (past : List Entry) (bytes : List ℕ) (s n index : ℕ) (digests : List (List ℕ)) → authentic (members c) me bytes ≡ Some (record { sender = s; message = Meta n levels.Root index digests })
+parts_told : (c : Configuration) (me : ℕ) (t : TransferData) (past : List Entry) (bytes : List ℕ) (s n index : ℕ) (digests : List (List ℕ)) → authentic (members c me) me bytes ≡ Some (record { sender = s; message = Meta n levels.Root index digests })
     → Some t.root ≡ Some (digest_of_children digests) → TransferAims c me t past → TransferAims c me (with_part_digests t digests) (Got me bytes ∷ past)
 parts_told c me t past bytes s n index digests receives is a = record {
   root_wanted = later.root_wanted;
   inner = λ others same. subst (λ (x : List (List ℕ)). GotBelow c me (Got me bytes ∷ past) levels.Root 0 t.root x) (some_injective digests others same)
-      (sym (some_injective t.root (digest_of_children digests) is), (s, n, inl (subst (λ (x : ℕ). authentic (members c) me bytes ≡ Some (record { sender = s; message = Meta n levels.Root x digests })) first receives)));
+      (sym (some_injective t.root (digest_of_children digests) is), (s, n, inl (subst (λ (x : ℕ). authentic (members c me) me bytes ≡ Some (record { sender = s; message = Meta n levels.Root x digests })) first receives)));
   parts = later.parts;
 }
   where
@@ -177,7 +177,7 @@ parts_told c me t past bytes s n index digests receives is a = record {
     first = let valid = heard_valid c me bytes (record { sender = s; message = Meta n levels.Root index digests }) receives in let most : index ≤ 0 = valid.2 in omega arith
 
 -- and of an inner part's pages
-pages_told : (c : Configuration) (me : ℕ) (t : TransferData) (past : List Entry) (bytes : List ℕ) (s n index : ℕ) (digests : List (List ℕ)) → authentic (members c) me bytes ≡ Some (record { sender = s; message = Meta n levels.Inner index digests })
+pages_told : (c : Configuration) (me : ℕ) (t : TransferData) (past : List Entry) (bytes : List ℕ) (s n index : ℕ) (digests : List (List ℕ)) → authentic (members c me) me bytes ≡ Some (record { sender = s; message = Meta n levels.Inner index digests })
     → TransferAims c me t past → TransferAims c me (with_page_digests t index digests) (Got me bytes ∷ past)
 pages_told c me t past bytes s n index digests receives a = record {
   root_wanted = later.root_wanted;
@@ -192,11 +192,11 @@ pages_told c me t past bytes s n index digests receives a = record {
         → get_or (set t.page_digests index (Some digests)) j None ≡ Some others → GotBelow c me (Got me bytes ∷ past) levels.Inner j (digest_of_children others) others
     put j others (inl k) same =
         subst (λ (x : List (List ℕ)). GotBelow c me (Got me bytes ∷ past) levels.Inner j (digest_of_children x) x) (some_injective digests others (sym k.1 ∙ same))
-        (refl, (s, n, inl (subst (λ (x : ℕ). authentic (members c) me bytes ≡ Some (record { sender = s; message = Meta n levels.Inner x digests })) (sym k.0) receives)))
+        (refl, (s, n, inl (subst (λ (x : ℕ). authentic (members c me) me bytes ≡ Some (record { sender = s; message = Meta n levels.Inner x digests })) (sym k.0) receives)))
     put j others (inr k) same = later.parts j others (sym k ∙ same)
 
 taken_at : (c : Configuration) (me : ℕ) (t : TransferData) (past : List Entry) (bytes : List ℕ) (s n : ℕ) (level : Level) (index : ℕ) (digests : List (List ℕ))
-    → authentic (members c) me bytes ≡ Some (record { sender = s; message = Meta n level index digests }) → wanted_at t level index ≡ Some (digest_of_children digests) → TransferAims c me t past
+    → authentic (members c me) me bytes ≡ Some (record { sender = s; message = Meta n level index digests }) → wanted_at t level index ≡ Some (digest_of_children digests) → TransferAims c me t past
     → TransferAims c me (with_digests t (record { level = level; index = index }) digests) (Got me bytes ∷ past)
 taken_at c me t past bytes s n levels.Root index digests receives is a = parts_told c me t past bytes s n index digests receives is a
 taken_at c me t past bytes s n levels.Inner index digests receives is a = pages_told c me t past bytes s n index digests receives a

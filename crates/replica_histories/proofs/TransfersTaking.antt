@@ -109,7 +109,7 @@ rested_taken c me next pages old new history r h i l =
 -- ---- inputs
 
 -- the page that was asked for last
-pub page_taken : (c : Configuration) (me sender index : ℕ) (t : TransferData) (past : List Entry) (bytes text : List ℕ) → authentic (members c) me bytes ≡ Some (record { sender = sender; message = Page t.number index text })
+pub page_taken : (c : Configuration) (me sender index : ℕ) (t : TransferData) (past : List Entry) (bytes text : List ℕ) → authentic (members c me) me bytes ≡ Some (record { sender = sender; message = Page t.number index text })
     → asked_last past ≡ Some (t.number, (levels.Page, index)) → length t.held ≡ 1024 → length t.fetched ≡ 1024 → index < 1024 → AreTaken c me None t past → AreTaken c me (Some t.number) (with_page t index text) (Got me bytes ∷ past)
 page_taken c me sender index t past bytes text says asked long known within h i l = at (i == index) refl
   where
@@ -137,7 +137,7 @@ page_taken c me sender index t past bytes text says asked long known within h i 
 
 -- digests are no page
 pub meta_taken : (c : Configuration) (me k s n index : ℕ) (level : Level) (digests : List (List ℕ)) (t : TransferData) (past : List Entry) (bytes : List ℕ)
-    → authentic (members c) me bytes ≡ Some (record { sender = s; message = Meta n level index digests }) → AreTaken c me None t past → AreTaken c me (Some k) t (Got me bytes ∷ past)
+    → authentic (members c me) me bytes ≡ Some (record { sender = s; message = Meta n level index digests }) → AreTaken c me None t past → AreTaken c me (Some k) t (Got me bytes ∷ past)
 meta_taken c me k s n index level digests t past bytes says h i l = Taken.others_are_left c me k i past bytes (λ sender text receives asked. absurd (other sender text (some_injective _ _ (sym says ∙ receives)))) ∙ h i l
   where
     IsMeta : Message → Type 0

@@ -204,7 +204,7 @@ IsNoBatch (Some body) = elim body.message [ PrePrepare v i batch ↦ ⊥ | _ ↦
 abbrev pub ReceivedKeep : Type 0
 ReceivedKeep =
     (c : Configuration) (me : ℕ) (past : List Entry) (bytes : List ℕ)
-    → taken c past (Got me bytes) ≡ None → IsNoBatch (authentic (members c) me bytes)
+    → taken c past (Got me bytes) ≡ None → IsNoBatch (authentic (members c me) me bytes)
     → ((s : ℕ) → s ≢ me → latest_change c (Got me bytes ∷ past) s ≡ latest_change c past s)
     → KeepsChanges c me past (Got me bytes)
 
@@ -216,14 +216,14 @@ IsNoChange (Some body) = elim body.message [ ViewChange vc ↦ ⊥ | _ ↦ ⊤ ]
 abbrev pub OthersBringNone : Type 0
 OthersBringNone =
     (c : Configuration) (me s : ℕ) (past : List Entry) (bytes : List ℕ)
-    → IsNoChange (authentic (members c) me bytes) → s ≢ me
+    → IsNoChange (authentic (members c me) me bytes) → s ≢ me
     → latest_change c (Got me bytes ∷ past) s ≡ latest_change c past s
 
 -- The sender of a received view change signed it, and is another replica. The replica signs its own ones.
 abbrev pub ReceivedAreSigned : Type 0
 ReceivedAreSigned =
     (c : Configuration) (me s : ℕ) (vc : ViewChangeData) (bytes : List ℕ)
-    → authentic (members c) me bytes ≡ Some (record { sender = s; message = ViewChange vc })
+    → authentic (members c me) me bytes ≡ Some (record { sender = s; message = ViewChange vc })
     → (signed_change c bytes ≡ Some (s, vc)) × (s ≢ me) × (s < replicas c)
 
 abbrev pub OwnAreSigned : Type 0
@@ -354,7 +354,7 @@ ChangesAreTaken =
     (c : Configuration) (me : ℕ) (past : List Entry) (log : LogData) (x : Changes) (s : ℕ) (vc : ViewChangeData)
     (bytes : List ℕ)
     → LogPassesEntry c me past (Got me bytes) log log
-    → authentic (members c) me bytes ≡ Some (record { sender = s; message = ViewChange vc })
+    → authentic (members c me) me bytes ≡ Some (record { sender = s; message = ViewChange vc })
     → view_change_refusal c log.view x.held (s, vc) ≡ None → FitsChanges c me log x past
     → FitsChanges c me log (record x {
       held = with_held (record { sender = s; change = vc; frame = bytes }) x.held;

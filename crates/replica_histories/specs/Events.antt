@@ -69,7 +69,7 @@ IsAskedOpen s k level index =
 abbrev pub FitsFrames : Configuration → ℕ → Desk → List Entry → Type 0
 FitsFrames c me desk history =
     (frame : List ℕ) → Has (λ x. x ≡ frame) desk.frames
-    → Once (HasSeen frame) history × (is_some (authentic (members c) me frame) ≡ true)
+    → Once (HasSeen frame) history × (is_some (authentic (members c me) me frame) ≡ true)
 
 -- the kept snapshots are those that the low mark leaves
 abbrev pub FitsSnapshots : Configuration → ℕ → Desk → List State → List Entry → Type 0
@@ -138,7 +138,7 @@ LeavesNoView c me history = (new : NewViewData) → CanBeginView c me history ne
 -- a rule takes the input
 abbrev pub IsTaken : Configuration → ℕ → Start → Type 0
 IsTaken c me s = elim s.input [
-  | Got p bytes ↦ (body : Body) × (authentic (members c) me bytes ≡ Some body)
+  | Got p bytes ↦ (body : Body) × (authentic (members c me) me bytes ≡ Some body)
       × Counts c me s.before s.old bytes body.sender body.message
   | Tick p ↦ ⊤
   | _ ↦ ⊥

@@ -77,7 +77,7 @@ DigestsEnter =
     (c : Configuration) (me : ℕ) (desk : Desk) (log : LogData) (past : List Entry) (t : TransferData) (s : ℕ)
     (place : Place) (digests : List (List ℕ)) (bytes : List ℕ) (held : BothFitBetweenEvents c me desk log past)
     → desk.transfer ≡ Some t
-    → authentic (members c) me bytes
+    → authentic (members c me) me bytes
     ≡ Some (record { sender = s; message = Meta t.number place.level place.index digests })
     → wanted t place ≡ Some (digest_of_children digests)
     → BothFitWithinEvent c me (start_at c me desk log past held (Got me bytes))
@@ -91,7 +91,7 @@ PagesEnter =
     (c : Configuration) (me : ℕ) (desk : Desk) (log : LogData) (past : List Entry) (t : TransferData) (s index : ℕ)
     (text bytes : List ℕ) (held : BothFitBetweenEvents c me desk log past)
     → desk.transfer ≡ Some t → t.asked ≡ page_place index
-    → authentic (members c) me bytes ≡ Some (record { sender = s; message = Page t.number index text })
+    → authentic (members c me) me bytes ≡ Some (record { sender = s; message = Page t.number index text })
     → length t.held ≡ PAGES → length t.fetched ≡ PAGES
     → BothFitWithinEvent c me (start_at c me desk log past held (Got me bytes)) desk log [] []
     × TransferMayAsk c me (with_page t index text) desk.state.number (Got me bytes ∷ past)
@@ -124,7 +124,7 @@ abbrev pub OtherDigestsOweNone : Type 0
 OtherDigestsOweNone =
     (c : Configuration) (me : ℕ) (desk : Desk) (log : LogData) (past : List Entry) (s k executed : ℕ) (place : Place)
     (digests : List (List ℕ)) (bytes : List ℕ) (outputs : List Entry) (held : BothFitBetweenEvents c me desk log past)
-    → authentic (members c) me bytes ≡ Some (record { sender = s; message = Meta k place.level place.index digests })
+    → authentic (members c me) me bytes ≡ Some (record { sender = s; message = Meta k place.level place.index digests })
     → ForSome desk.transfer (λ t. IsOther t k place (digest_of_children digests))
     → AnswersInput c me past (Got me bytes) outputs held.of_desk.point executed
 
@@ -132,7 +132,7 @@ abbrev pub OtherPagesOweNone : Type 0
 OtherPagesOweNone =
     (c : Configuration) (me : ℕ) (desk : Desk) (log : LogData) (past : List Entry) (s k index executed : ℕ)
     (text bytes : List ℕ) (outputs : List Entry) (held : BothFitBetweenEvents c me desk log past)
-    → authentic (members c) me bytes ≡ Some (record { sender = s; message = Page k index text })
+    → authentic (members c me) me bytes ≡ Some (record { sender = s; message = Page k index text })
     → ForSome desk.transfer (λ t. IsOther t k (page_place index) (sha256 text))
     → AnswersInput c me past (Got me bytes) outputs held.of_desk.point executed
 
@@ -141,7 +141,7 @@ abbrev pub FetchesSuffice : Type 0
 FetchesSuffice =
     (c : Configuration) (me : ℕ) (desk : Desk) (log : LogData) (past : List Entry) (t : TransferData) (body : Body)
     (bytes : List ℕ) (outputs : List Entry) (executed : ℕ) (held : BothFitBetweenEvents c me desk log past)
-    → desk.transfer ≡ Some t → authentic (members c) me bytes ≡ Some body → is_part body ≡ true
+    → desk.transfer ≡ Some t → authentic (members c me) me bytes ≡ Some body → is_part body ≡ true
     → Has (λ e. fetch_sent e ≡ t.number) outputs
     → AnswersInput c me past (Got me bytes) outputs held.of_desk.point executed
 
@@ -156,7 +156,7 @@ abbrev pub FetchedSuffice : Type 0
 FetchedSuffice =
     (c : Configuration) (me : ℕ) (desk : Desk) (log : LogData) (past : List Entry) (t new : TransferData) (body : Body)
     (bytes : List ℕ) (outputs : List Entry) (executed : ℕ) (held : BothFitBetweenEvents c me desk log past)
-    → desk.transfer ≡ Some t → authentic (members c) me bytes ≡ Some body → is_part body ≡ true
+    → desk.transfer ≡ Some t → authentic (members c me) me bytes ≡ Some body → is_part body ≡ true
     → new.number ≡ t.number → TransferMayAsk c me new desk.state.number (Got me bytes ∷ past)
     → RestsOnState new desk.state
     → length new.held ≡ PAGES → root_of_pages new.held ≡ new.root → TransferReachesState desk.state new executed

@@ -57,14 +57,14 @@ replies_again st said = option_map_or (asked_by st) said []
 -- How received bytes change desk and log, and which messages are due at once.
 pub record BytesEnter (c : Configuration) (me : ℕ) (bytes : List ℕ) (desk new : Desk) (log after : LogData)
     (due : List Message) : Type 0 where
-  pub takes : LogTakesBody c me (authentic (members c) me bytes) log after
+  pub takes : LogTakesBody c me (authentic (members c me) me bytes) log after
   pub state : new.state ≡ desk.state
   pub snapshots : new.snapshots ≡ desk.snapshots
   pub waiting : new.waiting ≡ waiting_after c me (point_of desk [] []) bytes
   pub transfer : new.transfer ≡ desk.transfer
   pub frames : (frame : List ℕ) → Has (λ x. x ≡ frame) new.frames
-      → Has (λ x. x ≡ frame) desk.frames ⊎ ((frame ≡ bytes) × (is_some (authentic (members c) me bytes) ≡ true))
-  pub due_is : due ≡ replies_again desk.state (authentic (members c) me bytes)
+      → Has (λ x. x ≡ frame) desk.frames ⊎ ((frame ≡ bytes) × (is_some (authentic (members c me) me bytes) ≡ true))
+  pub due_is : due ≡ replies_again desk.state (authentic (members c me) me bytes)
 
 -- Received bytes begin an event, if they bring no new view and move no mark.
 abbrev pub InputsFit : Type 0
@@ -89,7 +89,7 @@ abbrev pub CheckpointsEnter : Type 0
 CheckpointsEnter =
     (c : Configuration) (me : ℕ) (desk : Desk) (log : LogData) (past : List Entry) (s : ℕ) (entry : CheckpointEntry)
     (bytes : List ℕ) (held : BothFitBetweenEvents c me desk log past)
-    → authentic (members c) me bytes ≡ Some (record { sender = s; message = Checkpoint entry.number entry.digest })
+    → authentic (members c me) me bytes ≡ Some (record { sender = s; message = Checkpoint entry.number entry.digest })
     → checkpoint_fault log s entry.number entry.digest ≡ None
     → BothFitWithinEvent c me (start_at c me desk log past held (Got me bytes))
     (desk_from (checked_log log s entry).low desk)
@@ -113,37 +113,37 @@ abbrev pub BatchesCount : Type 0
 BatchesCount =
     (c : Configuration) (me : ℕ) (log : LogData) (past : List Entry) (point : Point) (s v i : ℕ) (batch bytes : List ℕ)
     → FitsLog c me log past
-    → authentic (members c) me bytes ≡ Some (record { sender = s; message = PrePrepare v i batch })
+    → authentic (members c me) me bytes ≡ Some (record { sender = s; message = PrePrepare v i batch })
     → preprepare_fault log s v i batch ≡ None → are_genuine c me batch ≡ true
     → Counts c me past point bytes s (PrePrepare v i batch)
-    × LogTakesBody c me (authentic (members c) me bytes) log (logs.with_batch log i batch)
+    × LogTakesBody c me (authentic (members c me) me bytes) log (logs.with_batch log i batch)
 
 abbrev pub PreparesAreCounted : Type 0
 PreparesAreCounted =
     (c : Configuration) (me : ℕ) (log : LogData) (past : List Entry) (point : Point) (s v i : ℕ)
     (digest bytes : List ℕ) (vote : Vote)
     → FitsLog c me log past
-    → authentic (members c) me bytes ≡ Some (record { sender = s; message = Prepare v i digest })
+    → authentic (members c me) me bytes ≡ Some (record { sender = s; message = Prepare v i digest })
     → prepare_fault log s v i digest ≡ None → vote.sender.0 ≡ s → vote.digest ≡ digest
     → Counts c me past point bytes s (Prepare v i digest)
-    × LogTakesBody c me (authentic (members c) me bytes) log (logs.with_prepare log i vote)
+    × LogTakesBody c me (authentic (members c me) me bytes) log (logs.with_prepare log i vote)
 
 abbrev pub CommitsAreCounted : Type 0
 CommitsAreCounted =
     (c : Configuration) (me : ℕ) (log : LogData) (past : List Entry) (point : Point) (s v i : ℕ)
     (digest bytes : List ℕ) (vote : Vote)
     → FitsLog c me log past
-    → authentic (members c) me bytes ≡ Some (record { sender = s; message = Commit v i digest })
+    → authentic (members c me) me bytes ≡ Some (record { sender = s; message = Commit v i digest })
     → commit_fault log s v i digest ≡ None → vote.sender.0 ≡ s → vote.digest ≡ digest
     → Counts c me past point bytes s (Commit v i digest)
-    × LogTakesBody c me (authentic (members c) me bytes) log (logs.with_commit log i vote)
+    × LogTakesBody c me (authentic (members c me) me bytes) log (logs.with_commit log i vote)
 
 -- A checkpoint without a fault counts, if it is one of its sender's latest then.
 abbrev pub CheckpointsCount : Type 0
 CheckpointsCount =
     (c : Configuration) (me : ℕ) (log : LogData) (past : List Entry) (point : Point) (s : ℕ) (entry : CheckpointEntry)
     (bytes : List ℕ) → FitsLog c me log past
-    → authentic (members c) me bytes ≡ Some (record { sender = s; message = Checkpoint entry.number entry.digest })
+    → authentic (members c me) me bytes ≡ Some (record { sender = s; message = Checkpoint entry.number entry.digest })
     → checkpoint_fault log s entry.number entry.digest ≡ None
     → lists_checkpoint entry (logs.checkpoints_of (logs.with_checkpoint_of log s entry) s) ≡ true
     → Counts c me past point bytes s (Checkpoint entry.number entry.digest)
@@ -165,40 +165,40 @@ abbrev pub BatchesDrop : Type 0
 BatchesDrop =
     (c : Configuration) (me : ℕ) (log : LogData) (past : List Entry) (s v i : ℕ) (batch bytes : List ℕ)
     → FitsLog c me log past
-    → authentic (members c) me bytes ≡ Some (record { sender = s; message = PrePrepare v i batch })
+    → authentic (members c me) me bytes ≡ Some (record { sender = s; message = PrePrepare v i batch })
     → ((fault : Dropped) × (preprepare_fault log s v i batch ≡ Some fault)) ⊎ (are_genuine c me batch ≡ false)
-    → LogTakesBody c me (authentic (members c) me bytes) log log
+    → LogTakesBody c me (authentic (members c me) me bytes) log log
 
 abbrev pub PreparesDrop : Type 0
 PreparesDrop =
     (c : Configuration) (me : ℕ) (log : LogData) (past : List Entry) (s v i : ℕ) (digest bytes : List ℕ)
     (fault : Dropped) → FitsLog c me log past
-    → authentic (members c) me bytes ≡ Some (record { sender = s; message = Prepare v i digest })
-    → prepare_fault log s v i digest ≡ Some fault → LogTakesBody c me (authentic (members c) me bytes) log log
+    → authentic (members c me) me bytes ≡ Some (record { sender = s; message = Prepare v i digest })
+    → prepare_fault log s v i digest ≡ Some fault → LogTakesBody c me (authentic (members c me) me bytes) log log
 
 abbrev pub CommitsDrop : Type 0
 CommitsDrop =
     (c : Configuration) (me : ℕ) (log : LogData) (past : List Entry) (s v i : ℕ) (digest bytes : List ℕ)
     (fault : Dropped) → FitsLog c me log past
-    → authentic (members c) me bytes ≡ Some (record { sender = s; message = Commit v i digest })
-    → commit_fault log s v i digest ≡ Some fault → LogTakesBody c me (authentic (members c) me bytes) log log
+    → authentic (members c me) me bytes ≡ Some (record { sender = s; message = Commit v i digest })
+    → commit_fault log s v i digest ≡ Some fault → LogTakesBody c me (authentic (members c me) me bytes) log log
 
 abbrev pub CheckpointsDrop : Type 0
 CheckpointsDrop =
     (c : Configuration) (me : ℕ) (log : LogData) (past : List Entry) (s : ℕ) (entry : CheckpointEntry) (bytes : List ℕ)
     (fault : Dropped) → FitsLog c me log past
-    → authentic (members c) me bytes ≡ Some (record { sender = s; message = Checkpoint entry.number entry.digest })
+    → authentic (members c me) me bytes ≡ Some (record { sender = s; message = Checkpoint entry.number entry.digest })
     → checkpoint_fault log s entry.number entry.digest ≡ Some fault
-    → LogTakesBody c me (authentic (members c) me bytes) log log
+    → LogTakesBody c me (authentic (members c me) me bytes) log log
 
 -- A checkpoint that isn't one of its sender's latest leaves the log as it is.
 abbrev pub EarlyCheckpointsDrop : Type 0
 EarlyCheckpointsDrop =
     (c : Configuration) (me : ℕ) (log : LogData) (past : List Entry) (s : ℕ) (entry : CheckpointEntry) (bytes : List ℕ)
     → FitsLog c me log past
-    → authentic (members c) me bytes ≡ Some (record { sender = s; message = Checkpoint entry.number entry.digest })
+    → authentic (members c me) me bytes ≡ Some (record { sender = s; message = Checkpoint entry.number entry.digest })
     → lists_checkpoint entry (logs.checkpoints_of (logs.with_checkpoint_of log s entry) s) ≡ false
-    → (logs.with_checkpoint_of log s entry ≡ log) × LogTakesBody c me (authentic (members c) me bytes) log log
+    → (logs.with_checkpoint_of log s entry ≡ log) × LogTakesBody c me (authentic (members c me) me bytes) log log
 
 -- the bytes are no authentic pre-prepare, prepare, commit or checkpoint
 abbrev pub IsBesideLog : Option Body → Type 0
@@ -215,7 +215,7 @@ IsBesideLog (Some body) = elim body.message [
 abbrev pub OthersDrop : Type 0
 OthersDrop =
     (c : Configuration) (me : ℕ) (log : LogData) (past : List Entry) (bytes : List ℕ) → FitsLog c me log past
-    → IsBesideLog (authentic (members c) me bytes) → LogTakesBody c me (authentic (members c) me bytes) log log
+    → IsBesideLog (authentic (members c me) me bytes) → LogTakesBody c me (authentic (members c me) me bytes) log log
 
 -- ---- inputs that pass
 

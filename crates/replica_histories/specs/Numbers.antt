@@ -210,7 +210,7 @@ RequestsFit =
 -- the same of received bytes, which may be a request
 abbrev pub entries_after : Configuration → ℕ → List AssignedCall → State → List Waiting → List ℕ → List Waiting
 entries_after c me assigned st entries bytes =
-    option_map_or (entries_with assigned st entries) (option_and_then (call_in c) (authentic (members c) me bytes))
+    option_map_or (entries_with assigned st entries) (option_and_then (call_in c) (authentic (members c me) me bytes))
     entries
 
 abbrev pub InputsKeepNumbers : Type 0

@@ -113,11 +113,11 @@ has_question body = option_map_or is_question body false
 
 -- an input of that kind; an input other than bytes may make the replica move
 abbrev pub brings_part : Configuration → ℕ → Entry → Bool
-brings_part c me (Got p bytes) = has_part (authentic (members c) me bytes)
+brings_part c me (Got p bytes) = has_part (authentic (members c me) me bytes)
 brings_part c me _ = false
 
 abbrev pub brings_question : Configuration → ℕ → Entry → Bool
-brings_question c me (Got p bytes) = has_question (authentic (members c) me bytes)
+brings_question c me (Got p bytes) = has_question (authentic (members c me) me bytes)
 brings_question c me _ = true
 
 -- ---- laws

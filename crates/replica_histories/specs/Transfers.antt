@@ -182,7 +182,7 @@ abbrev pub DigestsTaken : Type 0
 DigestsTaken =
     (c : Configuration) (me : ℕ) (t : TransferData) (past : List Entry) (bytes : List ℕ) (s n : ℕ) (place : Place)
     (digests : List (List ℕ))
-    → authentic (members c) me bytes
+    → authentic (members c me) me bytes
     ≡ Some (record { sender = s; message = Meta n place.level place.index digests })
     → wanted t place ≡ Some (digest_of_children digests)
     → TransferAims c me t past → TransferAims c me (with_digests t place digests) (Got me bytes ∷ past)
@@ -191,7 +191,7 @@ abbrev pub DigestsOpen : Type 0
 DigestsOpen =
     (c : Configuration) (me : ℕ) (t : TransferData) (number : ℕ) (past : List Entry) (bytes : List ℕ) (s n : ℕ)
     (place : Place) (digests : List (List ℕ))
-    → authentic (members c) me bytes
+    → authentic (members c me) me bytes
     ≡ Some (record { sender = s; message = Meta n place.level place.index digests })
     → wanted t place ≡ Some (digest_of_children digests)
     → FitsStateTransfer c me (Some t) number past
@@ -202,7 +202,7 @@ abbrev pub DigestsMayAsk : Type 0
 DigestsMayAsk =
     (c : Configuration) (me : ℕ) (t : TransferData) (number : ℕ) (past : List Entry) (bytes : List ℕ) (s n : ℕ)
     (place : Place) (digests : List (List ℕ))
-    → authentic (members c) me bytes
+    → authentic (members c me) me bytes
     ≡ Some (record { sender = s; message = Meta n place.level place.index digests })
     → wanted t place ≡ Some (digest_of_children digests)
     → FitsStateTransfer c me (Some t) number past
@@ -213,7 +213,7 @@ abbrev pub PagesMayAsk : Type 0
 PagesMayAsk =
     (c : Configuration) (me : ℕ) (t : TransferData) (number : ℕ) (past : List Entry) (bytes : List ℕ)
     (s index : ℕ) (text : List ℕ)
-    → authentic (members c) me bytes ≡ Some (record { sender = s; message = Page t.number index text })
+    → authentic (members c me) me bytes ≡ Some (record { sender = s; message = Page t.number index text })
     → t.asked ≡ page_place index → length t.held ≡ PAGES → length t.fetched ≡ PAGES
     → FitsStateTransfer c me (Some t) number past
     → TransferMayAsk c me (with_page t index text) number (Got me bytes ∷ past)

@@ -113,7 +113,7 @@ abbrev pub NewViewsEnter : Type 0
 NewViewsEnter =
     (c : Configuration) (me : ℕ) (desk : Desk) (log : LogData) (past : List Entry) (s : ℕ) (new : NewViewData)
     (bytes : List ℕ) (held : BothFitBetweenEvents c me desk log past)
-    → authentic (members c) me bytes ≡ Some (record { sender = s; message = NewView new })
+    → authentic (members c me) me bytes ≡ Some (record { sender = s; message = NewView new })
     → taken c past (Got me bytes) ≡ Some new
     → BothFitWithinEvent c me (start_at c me desk log past held (Got me bytes))
     (desk_from (entered_log log new).low desk) (entered_log log new) (start_due desk new) []
