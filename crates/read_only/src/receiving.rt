@@ -1,7 +1,8 @@
 //! Read-only requests, authenticated in the bytes of their frames.
 
-ghost use Rattle.std.specs.Prelude.{◌≡◌, ◌==◌, slice_index, true, IfSome, IsFalse, IsNone};
+ghost use Rattle.std.specs.Prelude.{◌≡◌, ◌==◌, ℕ, List, slice_index, true, IfSome, IsFalse, IsNone};
 ghost use Rattle.signing.specs.AuthenticBody.{authentic};
+ghost use Rattle.signing.specs.Publics.{knows};
 ghost use Rattle.wire.specs.Marks.{asks_read};
 ghost use Rattle.read_only.specs.Receiving.{NobodyReceivesRead, AuthenticatesRead};
 
@@ -38,16 +39,18 @@ fn has_read_only_mode(bytes: &[u8]) -> bool
 }
 
 /// The read-only request that the replica receives from bytes with these marks. They are judged in their place: nothing
-/// is decoded, and only the keys and requests that the ring keeps take memory.
+/// is decoded, and only the keys and requests that the ring keeps take memory. Which public keys the replica knows
+/// doesn't matter.
 pub fn authenticate_read<'b>(
     ring: &mut Ring,
     me: ReplicaId,
     bytes: &'b [u8],
 ) -> Option<ReadRequest<'b>>
     requires marks { asks_read bytes.now ≡ true }
-    ensures some { IfSome result
-        (λ r. AuthenticatesRead ring.old me.0 bytes.now r.client.number r.timestamp.0 r.op.now) }
-    ensures none { IsNone result → authentic ring.old me.0 bytes.now ≡ None }
+    ensures some { (publics : List (List ℕ)) → IfSome result (λ r.
+        AuthenticatesRead (knows ring.old publics) me.0 bytes.now r.client.number r.timestamp.0 r.op.now) }
+    ensures none { (publics : List (List ℕ))
+        → IsNone result → authentic (knows ring.old publics) me.0 bytes.now ≡ None }
     ensures same { ring.new ≡ ring.old }
 {
     let request = authenticate_request(ring, me, bytes)?;
