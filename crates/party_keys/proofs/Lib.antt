@@ -1,0 +1,6 @@
+pub mod Appending
+pub mod KnownKeys
+pub mod Listed
+pub mod Numbers
+pub mod Once
+pub mod Refusals
