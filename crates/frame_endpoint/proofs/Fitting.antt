@@ -8,6 +8,7 @@ use Rattle.wire_format.specs.Lists.{Each, each_spelling}
 use Rattle.wire_format.specs.Messages.{MacData, NewViewData, AuthenticatorData as Authenticator, macs, signature, BodyData, MessageData as Message, request, pre_prepare, prepare, commit, checkpoint, view_change, new_view, reply, fetch, meta, page}
 use Rattle.wire_format.specs.Spelling.{IsAuthenticator, IsBatch, IsCarried, IsDigest, IsMac, IsMessage, IsNewView, IsPlain, batches_spelling, is_view_change, pieces_spelling, authenticator_is_signed, authenticator_spelling, body_spelling, fields_spelling, frame_limit, is_ordered_request, is_signed, mac_spelling, mode_byte, level_byte, piece}
 use Rattle.tuple_codec.proofs.Lengths.{operation_short, outcome_short}
+use Rattle.authenticator.specs.Keys.{Keys}
 use Rattle.authenticator.specs.Sealing.{IsSealable, IsTooLong, sealed_for}
 use Rattle.authenticator.proofs.Sealing.{sealed-short}
 use Rattle.frame_endpoint.specs.Endpoint.{FitsFrame, SignedExceeds, says}
@@ -178,10 +179,10 @@ limit (view_change change) unsigned = absurd cc
 limit _ unsigned = refl
 
 -- with the MACs of the parties it isn't too long
-pub never_too_long : (seed : List ℕ) (body : BodyData) (parties : List ℕ) → IsSealable body parties → FitsFrame body.message → IsTooLong (sealed_for seed body parties) → ⊥
-never_too_long seed body parties can fits =
+pub never_too_long : (keys : Keys) (body : BodyData) (parties : List ℕ) → IsSealable body parties → FitsFrame body.message → IsTooLong (sealed_for keys body parties) → ⊥
+never_too_long keys body parties can fits =
     let n = body_length body in
     let l = fields_short body.message can.said.message can.unsigned fits in
     let most = limit body.message can.unsigned in
     let few = can.few in
-    sealed-short seed body parties (omega (arith, n, l, most, few))
+    sealed-short keys body parties (omega (arith, n, l, most, few))

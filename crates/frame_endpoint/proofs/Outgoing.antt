@@ -1,13 +1,15 @@
 -- Sealed and signed frames are sent.
-use Rattle.std.proofs.Common.{◌≡◌, ℕ, zero, suc, ◌+◌, ◌*◌, ◌<◌, ◌≤◌, ◌^◌, true, false, List, [], ◌∷◌, ◌++◌, Some, length, slice_get, length-append, arith, Result, Ok, Err, refl, sym, ap, ◌∙◌, subst}
+use Rattle.std.proofs.Common.{◌≡◌, ℕ, zero, suc, ◌+◌, ◌*◌, ◌<◌, ◌≤◌, ◌^◌, true, false, List, [], ◌∷◌, ◌++◌, Option, Some, length, slice_get, length-append, arith, Result, Ok, Err, refl, sym, ap, ◌∙◌, subst}
 use Rattle.std.specs.Prelude.{IfOk, Vec, option_and_then}
+use Rattle.std.specs.Option.{unwrap_or}
 use Rattle.std.specs.declared.alloc.Global.{Global}
 use Rattle.tuple_tree.specs.Values.{AreBytes}
 use Rattle.wire_format.specs.Messages.{BodyData, FrameData, MessageData as Message, signature}
 use Rattle.wire_format.specs.Spelling.{IsBody, IsMessage, authenticator_spelling, body_spelling, frame_limit, frame_spelling, is_signed, piece}
-use Rattle.authenticator.specs.Keys.{signing_seed}
+use Rattle.std.proofs.lemmas.Option.{unwrap_or-slice_get}
 use Rattle.authenticator.specs.Membership.{Membership}
 use Rattle.authenticator.specs.Sealing.{IsSealable}
+use Rattle.signing.specs.Publics.{public_of}
 use Rattle.signing.specs.Signatures.{Verifies, public_key, signature_of}
 use Rattle.wire_format.proofs.Saying.{reads_frames}
 use Rattle.signing.proofs.AuthenticBody.{verifies-Decides}
@@ -17,7 +19,7 @@ use Rattle.protocol.specs.Replica.RightReplica.{others}
 use Rattle.protocol.proofs.Words.Outgoing.{sealed_is_outgoing, signed_is_outgoing}
 use Rattle.events.specs.Outputs.{receivers_in}
 use Rattle.events.proofs.Meant.{signed_is_for}
-use Rattle.frame_endpoint.specs.Endpoint.{AreOutgoingBytes, other_replicas, others_below, says}
+use Rattle.frame_endpoint.specs.Endpoint.{AreOutgoingBytes, IsSignedUnder, other_replicas, others_below, says}
 use Rattle.frame_endpoint.specs.Frames.{SignedFits, SpellsSealed, SpellsSigned, signed_frame}
 use Rattle.frame_endpoint.proofs.Others.{others_ascend, others_few, others_some}
 
@@ -59,12 +61,12 @@ may_say me faults message known few said = let low : me < 2 ^ 16 = omega arith i
 
 -- ---- sealed frames
 
-pub sealed_is_sent : (m : Membership) (me : ℕ) (message : Message) (parties bytes : List ℕ) → SpellsSealed m.seed (says me message) parties bytes → AreOutgoingBytes m me message parties bytes
+pub sealed_is_sent : (m : Membership) (me : ℕ) (message : Message) (parties bytes : List ℕ) → SpellsSealed m.keys (says me message) parties bytes → AreOutgoingBytes m me message parties bytes
 sealed_is_sent m me message parties bytes spells c known =
-    sealed_is_outgoing c (says me message) parties bytes (subst (λ (x : Membership). SpellsSealed x.seed (says me message) parties bytes) (sym known) spells)
+    sealed_is_outgoing c (says me message) parties bytes (subst (λ (x : Membership). SpellsSealed x.keys (says me message) parties bytes) (sym known) spells)
 
 -- as the laws over histories ask for it
-pub outgoing_for_others : (m : Membership) (me : ℕ) (message : Message) (bytes : List ℕ) → AreOutgoingBytes m me message (other_replicas m me) bytes → (c : Configuration) → members c ≡ m
+pub outgoing_for_others : (m : Membership) (me : ℕ) (message : Message) (bytes : List ℕ) → AreOutgoingBytes m me message (other_replicas m me) bytes → (c : Configuration) → members c me ≡ m
     → IsOutgoing c me message (others c me) bytes
 outgoing_for_others m me message bytes sends_frame c known =
     subst (λ (x : Membership). IsOutgoing c me message (other_replicas x me) bytes) (sym known) (sends_frame c known)
@@ -93,18 +95,23 @@ spells_signed seed leaf body text s whole is kind short same verified spelled ar
       by_leaf = by;
     }
 
-pub signed_is_sent : (m : Membership) (me leaf : ℕ) (message : Message) (seed bytes : List ℕ) → seed ≡ signing_seed m.seed me → SpellsSigned seed leaf (says me message) bytes → AreOutgoingBytes m me message [] bytes
-signed_is_sent m me leaf message seed bytes own k c known =
-    let key : seed ≡ signing_seed c.seed me = own ∙ ap (λ (x : Membership). signing_seed x.seed me) (sym known) in
-    let v : Verifies (public_key (signing_seed c.seed me)) (body_spelling (says me message)) k.signed =
-    subst (λ (x : List ℕ). Verifies (public_key x) (body_spelling (says me message)) k.signed) key k.verifies in
-    signed_is_outgoing c (says me message) k.signed bytes k.spells ((verifies-Decides (public_key (signing_seed c.seed me)) (body_spelling (says me message)) k.signed).1 v)
+-- the key that is there
+key_there : (publics : List (List ℕ)) (me : ℕ) (key : List ℕ) → slice_get publics me ≡ Some key → public_of publics me ≡ key
+key_there publics me key there = sym (unwrap_or-slice_get publics me []) ∙ ap (λ (o : Option (List ℕ)). unwrap_or o []) there
+
+pub signed_is_sent : (publics : List (List ℕ)) (me leaf : ℕ) (message : Message) (seed bytes : List ℕ) → slice_get publics me ≡ Some (public_key seed)
+    → SpellsSigned seed leaf (says me message) bytes → IsSignedUnder publics me message bytes
+signed_is_sent publics me leaf message seed bytes own k c known =
+    let key : public_of c.publics me ≡ public_key seed = ap (λ (x : List (List ℕ)). public_of x me) known ∙ key_there publics me (public_key seed) own in
+    let v : Verifies (public_of c.publics me) (body_spelling (says me message)) k.signed =
+    subst (λ (x : List ℕ). Verifies x (body_spelling (says me message)) k.signed) (sym key) k.verifies in
+    signed_is_outgoing c (says me message) k.signed bytes k.spells ((verifies-Decides (public_of c.publics me) (body_spelling (says me message)) k.signed).1 v)
 
 -- of the endpoint's own seed
-pub signs_own : {E : Type 0} (r : Result (Vec ℕ Global) E) (m : Membership) (seed : List ℕ) (me leaf : ℕ) (message : Message) → IfOk r (λ bytes. SpellsSigned seed leaf (says me message) bytes.items)
-    → seed ≡ signing_seed m.seed me → IfOk r (λ bytes. AreOutgoingBytes m me message [] bytes.items)
-signs_own (Ok bytes) m seed me leaf message h own = signed_is_sent m me leaf message seed bytes.items own h
-signs_own (Err fault) m seed me leaf message h own = h
+pub signs_own : {E : Type 0} (r : Result (Vec ℕ Global) E) (publics : List (List ℕ)) (seed : List ℕ) (me leaf : ℕ) (message : Message)
+    → IfOk r (λ bytes. SpellsSigned seed leaf (says me message) bytes.items) → slice_get publics me ≡ Some (public_key seed) → IfOk r (λ bytes. IsSignedUnder publics me message bytes.items)
+signs_own (Ok bytes) publics seed me leaf message h own = signed_is_sent publics me leaf message seed bytes.items own h
+signs_own (Err fault) publics seed me leaf message h own = h
 
 -- ---- the leaf that signs
 
@@ -121,7 +128,7 @@ signs_by (Err fault) seed leaf body h = h
 -- ---- the receivers of a signed frame
 
 pub signed_goes : (m : Membership) (me faults : ℕ) (message : Message) (numbers bytes frame : List ℕ) → me < 3 * faults + 1 → faults ≡ m.faults → numbers ≡ other_replicas m me → frame ≡ bytes
-    → (c : Configuration) → members c ≡ m → IsOutgoing c me message [] bytes → numbers ≡ receivers_in c me frame
+    → (c : Configuration) → members c me ≡ m → IsOutgoing c me message [] bytes → numbers ≡ receivers_in c me frame
 signed_goes m me faults message numbers bytes frame below size goes same c known is_outgoing =
     let count : faults ≡ c.faults = size ∙ ap (λ (x : Membership). x.faults) (sym known) in
     goes ∙ ap (λ (x : Membership). other_replicas x me) (sym known)

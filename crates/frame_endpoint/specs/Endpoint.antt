@@ -1,6 +1,6 @@
 -- A replica's endpoint: which frames it accepts as authentic, and which it sends (Castro and Liskov, Practical
 -- Byzantine fault tolerance and proactive recovery, TOCS 2002, on the authentication of messages).
-use Rattle.std.specs.Prelude.{◌≡◌, ℕ, ◌+◌, ◌*◌, ◌<◌, ◌≤◌, ◌==◌, Bool, not, List, [], ◌∷◌, length, map, filter, Option, is_some, option_map, Vec, ⊤}
+use Rattle.std.specs.Prelude.{◌≡◌, ℕ, ◌+◌, ◌*◌, ◌<◌, ◌≤◌, ◌==◌, Bool, not, List, [], ◌∷◌, length, map, filter, Option, Some, is_some, option_map, slice_get, Vec, ⊤}
 use Rattle.std.specs.List.{list_all, range_with_len}
 use Rattle.std.specs.declared.alloc.Global.{Global}
 use Rattle.terms.specs.Parties.{party_number}
@@ -11,9 +11,9 @@ use Rattle.wire_format.specs.Messages.{BodyData, MessageData as Message, page}
 use Rattle.wire_format.specs.Spelling.{body_spelling, frame_limit, piece}
 use Rattle.wire_format.specs.Views.{body_data}
 use Rattle.wire_format.specs.Words.{requests_of}
-use Rattle.authenticator.specs.Keys.{signing_seed}
 use Rattle.authenticator.specs.Membership.{Membership, replicas}
 use Rattle.signing.specs.AuthenticBody.{authentic}
+use Rattle.signing.specs.Signatures.{public_key}
 use Rattle.protocol.specs.System.Configuration.{Configuration, members}
 use Rattle.protocol.specs.System.Frames.{IsOutgoing}
 use Rattle.protocol.specs.System.Trace.Entry.{Sent}
@@ -21,17 +21,17 @@ use Rattle.events.specs.declared.output.Output.{Output}
 use Rattle.events.specs.declared.output.Output.TheVariants as outputs
 use Rattle.events.specs.Outputs.{entry_of, IsSentAsMeant}
 
--- the members, the number of this replica, and how many of its 64 keys have signed
+-- what the replica knows of the members, its number, and how many of its 64 keys have signed
 pub record EndpointState : Type 0 where
   pub membership : Membership
   pub me : ℕ
   pub used : ℕ
 
--- A replica of these members is one of 4, 7 or 10, and its keys are of their seed.
-abbrev pub ReplicaIsOfMembers : Membership → ℕ → ℕ → List ℕ → List ℕ → Type 0
-ReplicaIsOfMembers m faults me publics seed =
-    (faults ≡ m.faults) × (1 ≤ faults) × (faults ≤ 3) × (me < 3 * faults + 1) × (publics ≡ m.seed)
-    × (seed ≡ signing_seed m.seed me)
+-- A replica of these members is one of 4, 7 or 10, and signs under its own public key.
+abbrev pub ReplicaIsOfMembers : Membership → ℕ → ℕ → List ℕ → Type 0
+ReplicaIsOfMembers m faults me seed =
+    (faults ≡ m.faults) × (1 ≤ faults) × (faults ≤ 3) × (me < 3 * faults + 1)
+    × (slice_get m.publics me ≡ Some (public_key seed))
 
 -- the parties' numbers
 abbrev pub numbers : List Party → List ℕ
@@ -68,11 +68,11 @@ FitsFrame _ = ⊤
 
 -- ---- sent frames
 
--- In each configuration of these members the bytes are the replica's frame with this message, sealed for these parties;
--- a signed one names none.
+-- In each configuration where the replica knows this, the bytes are its frame with this message, sealed for these
+-- parties; a signed one names none.
 abbrev pub AreOutgoingBytes : Membership → ℕ → Message → List ℕ → List ℕ → Type 0
 AreOutgoingBytes m me message sealed bytes =
-    (c : Configuration) → members c ≡ m → IsOutgoing c me message sealed bytes
+    (c : Configuration) → members c me ≡ m → IsOutgoing c me message sealed bytes
 
 -- the receivers of an output
 abbrev pub receivers : Output → List ℕ
@@ -81,9 +81,9 @@ receivers (outputs.Installed number root) = []
 receivers (outputs.Send parties frame) = numbers parties.items
 receivers (outputs.Accepted timestamp answer) = []
 
--- In each configuration of these members the output goes exactly to the parties for whom its frame is.
+-- In each configuration where the replica knows this, the output goes exactly to the parties for whom its frame is.
 abbrev pub GoesAsMeant : Membership → ℕ → Output → Type 0
-GoesAsMeant m me output = (c : Configuration) → members c ≡ m → IsSentAsMeant c me output
+GoesAsMeant m me output = (c : Configuration) → members c me ≡ m → IsSentAsMeant c me output
 
 -- The output is such a frame, and goes to these parties, for whom the frame is.
 pub record IsOutgoingFrame (m : Membership) (me : ℕ) (message : Message) (sealed parties : List ℕ)
@@ -135,9 +135,13 @@ SendsSignedToOthers e message output = SignsForOthers e.membership e.me message 
 abbrev pub says : ℕ → Message → BodyData
 says me message = record { sender = me; message = message }
 
--- the bytes are the replica's frame with this message, signed
+-- In each configuration of these public keys the bytes are the replica's frame with this message, signed.
+abbrev pub IsSignedUnder : List (List ℕ) → ℕ → Message → List ℕ → Type 0
+IsSignedUnder publics me message bytes =
+    (c : Configuration) → c.publics ≡ publics → IsOutgoing c me message [] bytes
+
 abbrev pub IsOwnSigned : EndpointState → Message → List ℕ → Type 0
-IsOwnSigned e message bytes = AreOutgoingBytes e.membership e.me message [] bytes
+IsOwnSigned e message bytes = IsSignedUnder e.membership.publics e.me message bytes
 
 abbrev pub SignsFrame : EndpointState → Message → Vec ℕ Global → Type 0
 SignsFrame e message bytes = IsOwnSigned e message bytes.items
@@ -155,7 +159,7 @@ IsTooLongToSign e message = (e.used < 64) × SignedExceeds (says e.me message)
 pub record SendsToOthers (e : EndpointState) (bytes : List ℕ) (output : Output) : Type 0 where
   pub sends : entry_of e.me output ≡ Sent e.me bytes
   pub goes : receivers output ≡ other_replicas e.membership e.me
-  pub meant : (c : Configuration) (message : Message) → members c ≡ e.membership
+  pub meant : (c : Configuration) (message : Message) → members c e.me ≡ e.membership
       → IsOutgoing c e.me message [] bytes → IsSentAsMeant c e.me output
 
 -- so whichever signed message the bytes have, the output sends it

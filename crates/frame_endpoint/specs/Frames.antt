@@ -1,5 +1,5 @@
 -- Words of the private functions that make frames.
-use Rattle.std.specs.Prelude.{◌≡◌, ℕ, ◌+◌, ◌≤◌, List, Some, length, map, slice_get, Vec}
+use Rattle.std.specs.Prelude.{◌≡◌, ℕ, ◌+◌, ◌≤◌, List, Option, Some, length, map, option_map, slice_get, Vec}
 use Rattle.std.specs.Borrow.{Bor}
 use Rattle.std.specs.declared.alloc.Global.{Global}
 use Rattle.terms.specs.declared.parties.Party.{Party}
@@ -8,8 +8,10 @@ use Rattle.wire_format.specs.declared.messages.Body.{Body}
 use Rattle.wire_format.specs.Messages.{BodyData, FrameData, MessageData as Message, signature}
 use Rattle.wire_format.specs.Spelling.{SpellsFrame, body_spelling, frame_limit, piece}
 use Rattle.wire_format.specs.Views.{body_data}
+use Rattle.authenticator.specs.Keys.{Keys}
 use Rattle.authenticator.specs.Membership.{Membership}
 use Rattle.authenticator.specs.Sealing.{sealed_for}
+use Rattle.signing.specs.AuthenticBody.{authentic}
 use Rattle.signing.specs.Signatures.{Verifies, public_key}
 use Rattle.frame_endpoint.specs.Endpoint.{numbers, says}
 
@@ -17,16 +19,22 @@ use Rattle.frame_endpoint.specs.Endpoint.{numbers, says}
 abbrev pub slice_texts : List (Bor (List ℕ)) → List (List ℕ)
 slice_texts frames = map (λ frame. frame.now) frames
 
+-- ---- received frames
+
+-- the body is that of the bytes, if they are authentic to the party
+abbrev pub AuthenticatesBytes : Membership → ℕ → List ℕ → Option Body → Type 0
+AuthenticatesBytes m me bytes body = authentic m me bytes ≡ option_map body_data body
+
 -- ---- with MACs
 
 -- the bytes are the body with its MACs for these parties
-abbrev pub SpellsSealed : List ℕ → BodyData → List ℕ → List ℕ → Type 0
-SpellsSealed seed body parties bytes = SpellsFrame bytes (sealed_for seed body parties)
+abbrev pub SpellsSealed : Keys → BodyData → List ℕ → List ℕ → Type 0
+SpellsSealed keys body parties bytes = SpellsFrame bytes (sealed_for keys body parties)
 
 -- the bytes are the party's message with its MACs for these parties
 abbrev pub SealsMessage : Membership → ReplicaId → Message → List Party → Vec ℕ Global → Type 0
 SealsMessage m me message parties bytes =
-    SpellsSealed m.seed (says me.0 message) (numbers parties) bytes.items
+    SpellsSealed m.keys (says me.0 message) (numbers parties) bytes.items
 
 -- ---- with a signature
 

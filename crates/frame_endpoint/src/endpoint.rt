@@ -1,13 +1,14 @@
 //! The endpoint of a replica.
 
-ghost use Rattle.std.specs.Prelude.{◌≡◌, ◌≢◌, ◌↔◌, ◌+◌, ◌*◌, ◌<◌, ◌≤◌, true, false, Some, IfOk, IfErr, IfSome, IsNone, OnOk};
+ghost use Rattle.std.specs.Prelude.{◌≡◌, ◌≢◌, ◌↔◌, ◌+◌, ◌*◌, ◌<◌, ◌≤◌, true, false, Some, IfOk, IfErr, IfSome, IsNone, OnOk, slice_get};
 ghost use Rattle.wire.specs.Marks.{has_type_of_requests};
 ghost use Rattle.wire_format.specs.Spelling.{IsBatch, IsMessage, is_signed};
 ghost use Rattle.wire_format.specs.Views.{message_data};
-ghost use Rattle.authenticator.specs.Keys.{signing_seed};
 ghost use Rattle.authenticator.specs.declared.sealed.SealFault.TheVariants as SealFault;
 ghost use Rattle.signing.specs.AuthenticBody.{authentic};
+ghost use Rattle.signing.specs.Publics.{knows};
 ghost use Rattle.signing.specs.Requests.{AuthenticatesRequest};
+ghost use Rattle.signing.specs.Signatures.{public_key};
 ghost use Rattle.protocol.specs.System.Frames.{leaf_of};
 ghost use Rattle.frame_endpoint.specs.Endpoint.{FitsFrame, AuthenticatesBody, IsTooLongToSign, SendsFrameToOthers, SendsMessageToOne, SendsMessageToOthers, SendsToOthers, SignsFrame, TellsGenuine};
 
@@ -36,17 +37,18 @@ pub struct Endpoint {
 
 impl Model for Endpoint {
     ghost use Rattle.frame_endpoint.specs.Endpoint.{EndpointState, ReplicaIsOfMembers};
+    ghost use Rattle.signing.specs.Publics.{knows};
 
     ghost Value = { EndpointState };
 
-    ghost view = { λ e. record { membership = e.ring; me = e.me.0; used = e.signer.used } };
+    ghost view = { λ e. record { membership = knows e.ring e.publics; me = e.me.0; used = e.signer.used } };
 
-    ghost invariant = { λ e. ReplicaIsOfMembers e.ring e.faults e.me.0 e.publics e.signer.seed };
+    ghost invariant = { λ e. ReplicaIsOfMembers (knows e.ring e.publics) e.faults e.me.0 e.signer.seed };
 }
 
 impl Endpoint {
-    /// The endpoint of the replica `me`. Up to `faults` replicas, 1 to 3, may be faulty; the ring, the public keys and
-    /// the signer are of one seed.
+    /// The endpoint of the replica `me`. Up to `faults` replicas, 1 to 3, may be faulty. The ring has the replica's
+    /// keys, and the signer is that of its public key.
     pub fn new(
         me: ReplicaId,
         faults: u8,
@@ -58,9 +60,8 @@ impl Endpoint {
         requires some { 1 ≤ faults }
         requires few { faults ≤ 3 }
         requires known { me.0 < 3 * faults + 1 }
-        requires keys { publics ≡ ring.seed }
-        requires signer { signer.seed ≡ signing_seed ring.seed me.0 }
-        ensures { result ≡ record { membership = ring; me = me.0; used = signer.used } }
+        requires signer { slice_get publics me.0 ≡ Some (public_key signer.seed) }
+        ensures { result ≡ record { membership = knows ring publics; me = me.0; used = signer.used } }
     {
         Endpoint {
             me,
@@ -171,7 +172,7 @@ impl Endpoint {
         ensures large { (result ≡ Err SendFault.TooLarge) ↔ IsTooLongToSign self.old (message_data message) }
     {
         let public = self.signer.public();
-        self.publics.keep(Party::Replica(self.me), public);
+        self.publics.keep(self.me, public);
         sign_message(&mut self.signer, alloc, self.me, message)
     }
 

@@ -7,7 +7,8 @@
 //! An [`Endpoint`] accepts exactly the frames that are authentic to the replica by the definitions, and tells whether
 //! each request of a batch is authentic. It sends an output with its receivers. The bytes are a frame of the replica's
 //! own with the message, and a MAC for each receiver, or a signature for a signed message: `IsOutgoing` of the
-//! protocol, in each configuration of these members. The output goes exactly to the parties for whom the frame is.
+//! protocol, in each configuration that gives the replica its keys, whoever is faulty there. The output goes exactly to
+//! the parties for whom the frame is.
 //!
 //! A frame is encoded once, however many receive it. A signed frame is returned as bytes, which may be sent any number
 //! of times. So a view change or new view spends one key, however often the replica sends it. The functions that make
@@ -15,7 +16,8 @@
 //!
 //! # How it is made
 //!
-//! - Contracts see an [`Endpoint`] as the members, the replica's number, and how many of its 64 keys have signed.
+//! - Contracts see an [`Endpoint`] as what the replica knows of the members, its number, and how many of its 64 keys
+//!   have signed. It has the keys of its ring, its own signer and the public keys.
 //! - A frame that it sends is `IsOutgoingFrame` (`specs/Endpoint.antt`), so the laws of `replica_histories` take it as
 //!   it is.
 #![tactic(auto)]

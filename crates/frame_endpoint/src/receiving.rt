@@ -1,10 +1,9 @@
 //! Received frames.
 
-ghost use Rattle.std.specs.Prelude.{◌≡◌, IfOk, option_map};
-ghost use Rattle.wire_format.specs.Views.{body_data};
-ghost use Rattle.signing.specs.AuthenticBody.{authentic};
+ghost use Rattle.std.specs.Prelude.{◌≡◌, IfOk};
+ghost use Rattle.signing.specs.Publics.{knows};
 ghost use Rattle.frame_endpoint.specs.Endpoint.{are_authentic};
-ghost use Rattle.frame_endpoint.specs.Frames.{slice_texts};
+ghost use Rattle.frame_endpoint.specs.Frames.{AuthenticatesBytes, slice_texts};
 
 use authenticator::Ring;
 use signing::{AuthenticFrame, AuthenticationFault, PublicKeys, authenticate, is_authentic_for};
@@ -20,8 +19,7 @@ pub(crate) fn authenticate_body(
     me: ReplicaId,
     bytes: &[u8],
 ) -> Result<Option<Body>, NoMemory>
-    requires keys { publics.now ≡ ring.old.seed }
-    ensures authentic { IfOk result (λ b. authentic ring.old me.0 bytes.now ≡ option_map body_data b) }
+    ensures authentic { IfOk result (AuthenticatesBytes (knows ring.old publics.now) me.0 bytes.now) }
     ensures same { ring.new ≡ ring.old }
 {
     match authenticate(alloc, ring, publics, bytes, Party::Replica(me)) {
@@ -43,8 +41,7 @@ pub(crate) fn are_all_authentic(
     me: ReplicaId,
     frames: &[&[u8]],
 ) -> bool
-    requires keys { publics.now ≡ ring.old.seed }
-    ensures authentic { result ≡ are_authentic ring.old me.0 (slice_texts frames.now) }
+    ensures authentic { result ≡ are_authentic (knows ring.old publics.now) me.0 (slice_texts frames.now) }
     ensures same { ring.new ≡ ring.old }
 {
     for frame in frames {

@@ -1,11 +1,12 @@
 //! Frames with MACs.
 
-ghost use Rattle.std.specs.Prelude.{◌≡◌, ◌≢◌, ◌+◌, ◌*◌, ◌<◌, ◌≤◌, false, IfOk};
+ghost use Rattle.std.specs.Prelude.{◌≡◌, ◌≢◌, ◌+◌, ◌*◌, ◌<◌, ◌≤◌, ℕ, List, false, IfOk};
 ghost use Rattle.wire_format.specs.Spelling.{IsMessage, is_signed};
 ghost use Rattle.wire_format.specs.Views.{body_data, message_data};
 ghost use Rattle.authenticator.specs.declared.sealed.SealFault.TheVariants as SealFault;
 ghost use Rattle.authenticator.specs.Results.{SealsBody};
 ghost use Rattle.authenticator.specs.Sealing.{IsSealable};
+ghost use Rattle.signing.specs.Publics.{knows};
 ghost use Rattle.frame_endpoint.specs.Endpoint.{FitsFrame, SealsFor, SealsForOne, SealsForOthers, numbers, says};
 ghost use Rattle.frame_endpoint.specs.Frames.{SealsMessage};
 
@@ -30,7 +31,8 @@ pub(crate) fn seal_for_others(
     requires known { me.0 < 3 * faults + 1 }
     requires said { IsMessage (message_data message) }
     requires unsigned { is_signed (message_data message) ≡ false }
-    ensures is_outgoing { IfOk result (SealsForOthers ring.old me.0 (message_data message)) }
+    ensures is_outgoing { (publics : List (List ℕ))
+        → IfOk result (SealsForOthers (knows ring.old publics) me.0 (message_data message)) }
     ensures fits { FitsFrame (message_data message) → result ≢ Err SealFault.TooLarge }
     ensures same { ring.new ≡ ring.old }
 {
@@ -39,7 +41,7 @@ pub(crate) fn seal_for_others(
 }
 
 /// The output of a message of the replica `me`, below 10, for one party, with only the keys of a ring. So a replica can
-/// answer clients while its endpoint is busy elsewhere.
+/// answer clients while its endpoint is busy elsewhere. Which public keys it knows doesn't matter.
 ///
 /// # Errors
 ///
@@ -55,7 +57,8 @@ pub fn seal_for_one(
     requires said { IsMessage (message_data message) }
     requires unsigned { is_signed (message_data message) ≡ false }
     requires known { me.0 < 10 }
-    ensures is_outgoing { IfOk result (SealsForOne ring.old me.0 (message_data message) receiver) }
+    ensures is_outgoing { (publics : List (List ℕ))
+        → IfOk result (SealsForOne (knows ring.old publics) me.0 (message_data message) receiver) }
     ensures fits { FitsFrame (message_data message) → result ≢ Err SealFault.TooLarge }
     ensures same { ring.new ≡ ring.old }
 {
@@ -72,7 +75,8 @@ fn seal_for(
     receivers: Vec<Party>,
 ) -> Result<Output, SealFault>
     requires { IsSealable (says me.0 (message_data message)) (numbers receivers.items) }
-    ensures is_outgoing { IfOk result (SealsFor ring.old me.0 (message_data message) receivers.items) }
+    ensures is_outgoing { (publics : List (List ℕ))
+        → IfOk result (SealsFor (knows ring.old publics) me.0 (message_data message) receivers.items) }
     ensures fits { FitsFrame (message_data message) → result ≢ Err SealFault.TooLarge }
     ensures same { ring.new ≡ ring.old }
 {
@@ -109,7 +113,7 @@ fn seal_body(
     receivers: &[Party],
 ) -> Result<Vec<u8>, SealFault>
     requires { IsSealable (body_data body.now) (numbers receivers.now) }
-    ensures sealed { IfOk result (SealsBody ring.old.seed body.now receivers.now) }
+    ensures sealed { IfOk result (SealsBody ring.old.keys body.now receivers.now) }
     ensures fits { FitsFrame (message_data body.now.message) → result ≢ Err SealFault.TooLarge }
     ensures same { ring.new ≡ ring.old }
 {

@@ -2,6 +2,7 @@ use Rattle.std.proofs.Common.{ℕ, List, map, subst}
 use Rattle.std.specs.Prelude.{IfOk}
 use Rattle.terms.specs.Parties.{party_number}
 use Rattle.wire_format.specs.Views.{message_data}
+use Rattle.signing.specs.Publics.{knows}
 use Rattle.frame_endpoint.specs.Endpoint.{IsSealedOutgoing}
 use Rattle.frame_endpoint.proofs.Outgoing.{one_sealable}
 use Rattle.frame_endpoint.proofs.sealing.seal_for_one.Goals as goal
@@ -12,5 +13,5 @@ seal_for-requires c =
     c.requires.known c.requires.said c.requires.unsigned c.in_ok-receivers.ensures
 
 pub returns-clause-is_outgoing : goal.returns-clause-is_outgoing
-returns-clause-is_outgoing c =
-    subst (λ (xs : List ℕ). IfOk c.seal_for.result (λ o. IsSealedOutgoing c.args.ring.now c.args.me.0 (message_data c.args.message) xs o)) c.in_ok-receivers.ensures c.seal_for.ensures.is_outgoing
+returns-clause-is_outgoing c publics =
+    subst (λ (xs : List ℕ). IfOk c.seal_for.result (λ o. IsSealedOutgoing (knows c.args.ring.now publics) c.args.me.0 (message_data c.args.message) xs o)) c.in_ok-receivers.ensures (c.seal_for.ensures.is_outgoing publics)

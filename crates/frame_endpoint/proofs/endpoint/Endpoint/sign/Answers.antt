@@ -10,8 +10,8 @@ sign_message-requires-clause-said c =
 pub returns-clause-frame : goal.returns-clause-frame
 returns-clause-frame c =
     rw (← c.self.view_is)
-    (signs_own c.sign_message.result c.self.inside.ring c.self.inside.signer.seed c.self.inside.me.0 c.self.inside.signer.used (message_data c.args.message)
-    (rw (← c.public-public.ensures.same) c.sign_message.ensures.spells) c.self.invariant.5)
+    (signs_own c.sign_message.result c.self.inside.publics c.self.inside.signer.seed c.self.inside.me.0 c.self.inside.signer.used (message_data c.args.message)
+    (rw (← c.public-public.ensures.same) c.sign_message.ensures.spells) c.self.invariant.4)
 
 pub returns-clause-leaf : goal.returns-clause-leaf
 returns-clause-leaf c =
