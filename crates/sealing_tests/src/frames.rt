@@ -16,14 +16,14 @@ use tuple_codec::{Bad, Op, decode_op};
 use tuple_tree::{AtomRef, ValueRef};
 use wire::{Authenticator, Body, Frame, Message, ReceiverMac, Request};
 
-const CLIENT: Party = Party::Client(ClientId { number: 0 });
+pub const CLIENT: Party = Party::Client(ClientId { number: 0 });
 
-const SECOND_CLIENT: Party = Party::Client(ClientId { number: 1 });
+pub const SECOND_CLIENT: Party = Party::Client(ClientId { number: 1 });
 
 // There are two.
 const THIRD_CLIENT: Party = Party::Client(ClientId { number: 2 });
 
-fn replica(number: u8) -> Party {
+pub fn replica(number: u8) -> Party {
     Party::Replica(ReplicaId(number))
 }
 
@@ -75,7 +75,7 @@ fn sealed_for(
 }
 
 // The frame of the first client's request for the four replicas.
-fn sealed_for_all(ring: &mut Ring, alloc: Global) -> Result<Vec<u8>, Fail> {
+pub fn sealed_for_all(ring: &mut Ring, alloc: Global) -> Result<Vec<u8>, Fail> {
     let body = request(alloc, CLIENT)?;
     let frame = ring.seal(alloc, &body, &replicas());
     drop(body);
@@ -145,12 +145,17 @@ fn each_direction_has_its_key(rt: HostRuntime) -> Result<(), Fail> {
     Ok(())
 }
 
-fn refusal(ring: &mut Ring, alloc: Global, bytes: &[u8], me: Party) -> Option<OpenFault> {
+pub fn refusal(ring: &mut Ring, alloc: Global, bytes: &[u8], me: Party) -> Option<OpenFault> {
     ring.open(alloc, bytes, me).err()
 }
 
 // Whether the party opens it. Out of memory is no answer, and is handed on.
-fn is_opened(ring: &mut Ring, alloc: Global, bytes: &[u8], me: Party) -> Result<bool, OpenFault> {
+pub fn is_opened(
+    ring: &mut Ring,
+    alloc: Global,
+    bytes: &[u8],
+    me: Party,
+) -> Result<bool, OpenFault> {
     match refusal(ring, alloc, bytes, me) {
         None => Ok(true),
         Some(OpenFault::NoMemory) => Err(OpenFault::NoMemory),
@@ -167,7 +172,7 @@ fn opens_for_all(ring: &mut Ring, alloc: Global, bytes: &[u8]) -> Result<bool, O
     Ok(true)
 }
 
-fn is_worked(frame: &[u8]) -> bool {
+pub fn is_worked(frame: &[u8]) -> bool {
     frame.len() == 165
         && frame.starts_with(b"\0\0\0\x17\x41")
         && is_code(Sha256::digest(frame), SEALED)

@@ -1,4 +1,5 @@
-//! Tests of the proofs of a message's sender: codes and sealed frames (`authenticator`), and signatures (`signing`).
+//! Tests of the proofs of a message's sender: codes, rows of keys and sealed frames (`authenticator`), and signatures
+//! (`signing`).
 #![tactic(auto)]
 
 #[cfg(test)]
@@ -7,5 +8,7 @@ mod codes;
 mod frames;
 #[cfg(test)]
 mod macs;
+#[cfg(test)]
+mod rows;
 #[cfg(test)]
 mod signatures;

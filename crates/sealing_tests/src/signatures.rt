@@ -3,6 +3,7 @@
 
 use crate::codes::is_code;
 use authenticator::signing_seed;
+use hex::FromHex;
 use sha2::{Digest, Sha256};
 use signing::{
     KeyTree, LEAVES, PublicKeys, SIGNATURE_LEN, SignFault, Signature, Signer, verify, verify_bytes,
@@ -10,7 +11,7 @@ use signing::{
 use std::alloc::{AllocError, Global};
 use std::test::Fail;
 use std::thread::join;
-use terms::{Party, ReplicaId};
+use terms::{ClientId, Party, ReplicaId};
 use test_bytes::seed;
 
 const PUBLIC: &str = "25e441d2b6f59c4bf7210fe82ef554ad9ab38cd474492b4ea132304f6118d5ee";
@@ -162,23 +163,39 @@ fn is_of_replica_2(keys: &PublicKeys, signature: &[u8]) -> bool {
         && !keys.verify(Party::Replica(ReplicaId(2)), b"texu", signature)
 }
 
+// Neither this replica nor a client has a key.
+fn has_no_key(keys: &PublicKeys, replica: u8) -> bool {
+    keys.public(Party::Replica(ReplicaId(replica))).is_none()
+        && keys.public(Party::Client(ClientId { number: 0 })).is_none()
+}
+
 #[test]
 fn public_keys_of_replicas(rt: HostRuntime) -> Result<(), Fail> {
     let mut signer = Signer::from_seed(&signing_seed(&seed(), Party::Replica(ReplicaId(2))));
     let signature = signer.sign(rt.alloc(), b"text")?;
-    let keys = PublicKeys::new(rt.alloc(), &seed())?;
-    assert!(rt; is_of_replica_2(&keys, signature.as_slice()));
+    let keys = PublicKeys::new(rt.alloc(), &seed(), 1)?;
+    assert!(rt; is_of_replica_2(&keys, signature.as_slice()) && has_no_key(&keys, 4));
+    let known = known_keys(rt.alloc())?;
+    assert!(rt; is_of_replica_2(&known, signature.as_slice()) && has_no_key(&known, 3));
     Ok(())
 }
 
+// Keys that no seed gives, but for that of replica 2.
+fn known_keys(alloc: Global) -> Result<PublicKeys, Fail> {
+    let key = <[u8; 32]>::from_hex(PUBLIC_OF_2)?;
+    let keys = vec![in alloc; [7; 32], [7; 32], key]?;
+    Ok(PublicKeys::of_replicas(alloc, keys)?)
+}
+
 fn is_key_of_2(keys: &PublicKeys) -> bool {
-    is_code(keys.public(Party::Replica(ReplicaId(2))), PUBLIC_OF_2)
+    keys.public(Party::Replica(ReplicaId(2)))
+        .is_some_and(|key| is_code(key, PUBLIC_OF_2))
 }
 
 // Two owners in two threads, and then one of them again, when the key is kept.
 #[test]
 fn threads_share_public_keys(rt: HostRuntime) -> Result<(), Fail> {
-    let keys = PublicKeys::new(rt.alloc(), &seed())?;
+    let keys = PublicKeys::new(rt.alloc(), &seed(), 1)?;
     let shared = keys.share()?;
     let (here, there) = join(&rt, || is_key_of_2(&keys), || is_key_of_2(&shared));
     assert!(rt; here && there && is_key_of_2(&shared));
