@@ -65,7 +65,7 @@ module _ (o : Part) where
   last_is : last_time (after c batch) 0 ≡ 1
   last_is = ap (λ (k : Option Kept). option_map_or (λ (x : Kept). x.timestamp) k 0) kept_is
 
-  receives : authentic (members c) me w.request ≡ Some (asks op)
+  receives : authentic (members c me) me w.request ≡ Some (asks op)
   receives = steps.hears_request o
 
   -- the request waits no more
@@ -101,7 +101,7 @@ module _ (o : Part) where
     abbrev IsOrdered : Body → Type 0
     IsOrdered body = elim body.message [ Request t mode o ↦ (body.sender ≡ 256) × (mode ≡ modes.Ordered) | _ ↦ ⊥ ]
 
-    is_ordered : (body : Body) → authentic (members c) me w.request ≡ Some body → IsOrdered body
+    is_ordered : (body : Body) → authentic (members c me) me w.request ≡ Some body → IsOrdered body
     is_ordered body h = subst IsOrdered (some_injective (asks op) body (sym receives ∙ h)) (refl, refl)
 
     -- ---- what the replica owes

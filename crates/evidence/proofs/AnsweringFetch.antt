@@ -41,7 +41,7 @@ module _ (clients : ℕ) (seed : List ℕ) (me other : ℕ) (fetch digests : Lis
   abbrev now : List Entry
   now = Sent me digests ∷ Got me fetch ∷ []
 
-  module _ (receives : authentic (members c) me fetch ≡ Some asked) (frame : Frame) (spells : frame_of digests ≡ Some frame) (a : IsAnswer c me other answer.message digests) where
+  module _ (receives : authentic (members c me) me fetch ≡ Some asked) (frame : Frame) (spells : frame_of digests ≡ Some frame) (a : IsAnswer c me other answer.message digests) where
     behind : Stage clients seed [] me (Got me fetch ∷ []) false none none
     behind = stage_fetch clients seed [] me [] (Got me fetch) other 0 0 levels.Root false none none (first_stage clients seed [] me) (got clients seed [] me [] fetch asked tt receives tt)
 
@@ -60,7 +60,7 @@ module _ (clients : ℕ) (seed : List ℕ) (me other : ℕ) (fetch digests : Lis
     abbrev IsFetch : Body → Type 0
     IsFetch body = elim body.message [ Fetch k level index ↦ (body.sender ≡ other) × (k ≡ 0) × (level ≡ levels.Root) × (index ≡ 0) | _ ↦ ⊥ ]
 
-    only_fetch : (body : Body) → authentic (members c) me fetch ≡ Some body → IsFetch body
+    only_fetch : (body : Body) → authentic (members c me) me fetch ≡ Some body → IsFetch body
     only_fetch body h = subst IsFetch (some_injective asked body (sym receives ∙ h)) (refl, refl, refl, refl)
 
     same_bytes : (bytes : List ℕ) → Got me fetch ≡ Got me bytes → fetch ≡ bytes
@@ -114,7 +114,7 @@ module _ (clients : ℕ) (seed : List ℕ) (me other : ℕ) (fetch digests : Lis
       fetches_again = λ n index level tick asked_for above. absurd tick;
       view_changes = λ vc bytes moves may within says. absurd (no_reason c me [] fetch [] vc.view (λ s x asks. only_fetch (record { sender = s; message = ViewChange x }) asks) moves);
       new_views = λ new can. absurd (let left = can.left in let sent = (still c me now stage.plain).target_is in omega (arith, left, sent));
-      dropped = λ bytes same drops. absurd (drops asked (subst (λ (bs : List ℕ). authentic (members c) me bs ≡ Some asked) (same_bytes bytes same) receives) (kept_at [] (low_at_first c me) (λ st. Rattle.std.specs.Prelude.⊤) tt));
+      dropped = λ bytes same drops. absurd (drops asked (subst (λ (bs : List ℕ). authentic (members c me) me bs ≡ Some asked) (same_bytes bytes same) receives) (kept_at [] (low_at_first c me) (λ st. Rattle.std.specs.Prelude.⊤) tt));
     }
 
     quiet : first_point ≡ record first_point { ran = []; waiting = waiting_after c me first_point fetch }

@@ -41,14 +41,14 @@ module _ (clients : ℕ) (seed : List ℕ) (me client timestamp : ℕ) (op : Ope
   abbrev now : List Entry
   now = Sent me reply ∷ Got me read ∷ []
 
-  module _ (receives : authentic (members c) me read ≡ Some asked) (is : is_read_only op ≡ true) (a : IsAnswer c me client answer.message reply) where
+  module _ (receives : authentic (members c me) me read ≡ Some asked) (is : is_read_only op ≡ true) (a : IsAnswer c me client answer.message reply) where
     behind : Stage clients seed [] me (Got me read ∷ []) false none none
     behind = stage_request clients seed [] me [] (Got me read) client timestamp modes.ReadOnly op false none none (first_stage clients seed [] me) (got clients seed [] me [] read asked tt receives tt)
 
     stage : Stage clients seed [] me now false none none
     stage = stage_reply clients seed [] me (Got me read ∷ []) (Sent me reply) me client timestamp 0 modes.ReadOnly (outcome no_tuples (client - 256) op) false none none behind (sent clients seed [] me (Got me read ∷ []) reply answer a.says tt)
 
-    heard_is : (other : Body) → authentic (members c) me read ≡ Some other → asked ≡ other
+    heard_is : (other : Body) → authentic (members c me) me read ≡ Some other → asked ≡ other
     heard_is other h = some_injective asked other (sym receives ∙ h)
 
     no_quorum : (checkpoint : CheckpointEntry) → is_quorum c (count_checkpoints c now checkpoint) ≡ true → ⊥
@@ -60,7 +60,7 @@ module _ (clients : ℕ) (seed : List ℕ) (me client timestamp : ℕ) (op : Ope
     abbrev IsRead : Body → Type 0
     IsRead body = elim body.message [ Request t mode o ↦ mode ≡ modes.ReadOnly | _ ↦ ⊥ ]
 
-    only_read : (other : Body) → authentic (members c) me read ≡ Some other → IsRead other
+    only_read : (other : Body) → authentic (members c me) me read ≡ Some other → IsRead other
     only_read other h = subst IsRead (heard_is other h) refl
 
     same_bytes : (bytes : List ℕ) → Got me read ≡ Got me bytes → read ≡ bytes
@@ -95,7 +95,7 @@ module _ (clients : ℕ) (seed : List ℕ) (me client timestamp : ℕ) (op : Ope
       fetches_again = λ n index level tick asked_for above. absurd tick;
       view_changes = λ vc bytes moves may within says. absurd (no_reason c me [] read [] vc.view (λ s x asks. only_read (record { sender = s; message = ViewChange x }) asks) moves);
       new_views = λ new can. absurd (let left = can.left in let sent = (still c me now stage.plain).target_is in omega (arith, left, sent));
-      dropped = λ bytes same drops. absurd (drops asked (subst (λ (bs : List ℕ). authentic (members c) me bs ≡ Some asked) (same_bytes bytes same) receives) is);
+      dropped = λ bytes same drops. absurd (drops asked (subst (λ (bs : List ℕ). authentic (members c me) me bs ≡ Some asked) (same_bytes bytes same) receives) is);
     }
 
     quiet : first_point ≡ record first_point { ran = []; waiting = waiting_after c me first_point read }

@@ -8,7 +8,7 @@ use Rattle.wire_format.specs.Messages.{BodyData as Body, NewViewData, Checkpoint
 use Rattle.wire_format.specs.Words.{said}
 use Rattle.wire.proofs.Skipping.{none_chosen}
 use Rattle.signing.specs.AuthenticBody.{signed_body}
-use Rattle.protocol.specs.System.Configuration.{Configuration, members}
+use Rattle.protocol.specs.System.Configuration.{Configuration, signers}
 use Rattle.protocol.specs.System.Frames.{leaf_of}
 use Rattle.protocol.specs.System.Trace.{Entry, Has}
 use Rattle.protocol.specs.System.Trace.Entry.{Got, Sent}
@@ -64,7 +64,7 @@ module _ (clients : ℕ) (seed root first second own new_view : List ℕ) (x : C
   second_other : ◌≢◌ {A = ℕ} 3 1
   second_other h = absurd (omega (arith, h))
 
-  module _ (selected : may_select c new ≡ true) (signed : signed_body (members c) new_view ≡ Some begins) (keys : leaf_of own ≢ leaf_of new_view) where
+  module _ (selected : may_select c new ≡ true) (signed : signed_body (signers c) new_view ≡ Some begins) (keys : leaf_of own ≢ leaf_of new_view) where
     says : said new_view ≡ Some begins
     says = signed_said c new_view begins signed
 

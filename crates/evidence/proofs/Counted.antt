@@ -36,7 +36,7 @@ other modes.ReadOnly modes.Ordered number answer earlier differ = refl
 -- a vote on another call, or of another replica or mode
 left : (c : Configuration) (me s timestamp : ℕ) (mode : Mode) (p : ℕ) (bytes : List ℕ) (past : List Entry) (earlier : Option Vote)
     → ((number : ℕ) (answer : Outcome) → Receives c me (record { sender = s; message = Reply me timestamp mode number answer }) past (Got p bytes) → ⊥)
-    → (o : Option Body) → authentic (members c) me bytes ≡ o → later_vote mode (option_and_then (reply_vote me timestamp s) o) earlier ≡ earlier
+    → (o : Option Body) → authentic (members c me) me bytes ≡ o → later_vote mode (option_and_then (reply_vote me timestamp s) o) earlier ≡ earlier
 left c me s timestamp mode p bytes past earlier never None receives = refl
 left c me s timestamp mode p bytes past earlier never (Some body) receives = go body.message refl
   where
@@ -57,7 +57,7 @@ left c me s timestamp mode p bytes past earlier never (Some body) receives = go 
 
 pub latest_stays : LatestStays
 unfolding latest
-latest_stays c me s timestamp mode (Got p bytes) past no_call never = left c me s timestamp mode p bytes past (latest c me past timestamp mode s) never (authentic (members c) me bytes) refl
+latest_stays c me s timestamp mode (Got p bytes) past no_call never = left c me s timestamp mode p bytes past (latest c me past timestamp mode s) never (authentic (members c me) me bytes) refl
 latest_stays c me s timestamp mode (Invoke k t op) past no_call never = absurd (no_call k t op refl)
 latest_stays c me s timestamp mode _ past no_call never = refl
 

@@ -133,7 +133,7 @@ module _ (clients : ℕ) (seed : List ℕ) (page : ℕ → List ℕ) (w : FetchF
   -- The facts before the replica receives a part that counts.
   pub record Ready (n : ℕ) (before : List Entry) (bytes : List ℕ) : Type 0 where
     pub body : Body
-    pub receives : authentic (members c) 0 bytes ≡ Some body
+    pub receives : authentic (members c 0) 0 bytes ≡ Some body
     pub given : IsGiven body.message
     pub of_16 : (m : ℕ) → IsPartOf m body.message → 16 ≡ m
     pub counts : Counts c 0 before first_point bytes body.sender body.message
@@ -254,7 +254,7 @@ module _ (clients : ℕ) (seed : List ℕ) (page : ℕ → List ℕ) (w : FetchF
       asks : IsFrameFrom c 0 (Fetch 16 levels.Inner (n / 32)) (others c 0) (w.fetch_inner (n / 32))
       asks = f.asks_inner (n / 32) low
 
-      receives : authentic (members c) 0 (w.below_inner (n / 32)) ≡ Some (inner_given (n / 32))
+      receives : authentic (members c 0) 0 (w.below_inner (n / 32)) ≡ Some (inner_given (n / 32))
       receives = (f.gives_inner (n / 32) low).is_authentic_to 0 (inl refl)
 
       stage : At past (Some (16, (levels.Inner, n / 32))) 16
@@ -265,7 +265,7 @@ module _ (clients : ℕ) (seed : List ℕ) (page : ℕ → List ℕ) (w : FetchF
       → Asks n (fetching_page w (Got 0 bytes ∷ before) n)
   asks n before bytes small differ r got = go (n % 32 == 0) refl
     where
-      receives : authentic (members c) 0 (w.below_inner (n / 32)) ≡ Some (inner_given (n / 32))
+      receives : authentic (members c 0) 0 (w.below_inner (n / 32)) ≡ Some (inner_given (n / 32))
       receives = (f.gives_inner (n / 32) (omega arith)).is_authentic_to 0 (inl refl)
 
       go : (b : Bool) → (n % 32 == 0) ≡ b
@@ -303,7 +303,7 @@ module _ (clients : ℕ) (seed : List ℕ) (page : ℕ → List ℕ) (w : FetchF
       place : 32 * (n / 32) + n % 32 ≡ n
       place = omega arith
 
-      receives : authentic (members c) 0 (w.page n) ≡ Some (page_given n)
+      receives : authentic (members c 0) 0 (w.page n) ≡ Some (page_given n)
       receives = (f.gives_page n small).is_authentic_to 0 (inl refl)
 
       go : (i : ℕ) (b : Bool) → (n == i) ≡ b → took c 0 (Some 16) (Got 0 (w.page n) ∷ past) i ≡ then_some (nat_lt i (suc n)) (page i)
@@ -338,16 +338,16 @@ module _ (clients : ℕ) (seed : List ℕ) (page : ℕ → List ℕ) (w : FetchF
   abbrev h4 : List Entry
   h4 = Sent 0 w.fetch_root ∷ h3
 
-  hears_1 : authentic (members c) 0 (w.checkpoint 1) ≡ Some (checkpoint_of 1)
+  hears_1 : authentic (members c 0) 0 (w.checkpoint 1) ≡ Some (checkpoint_of 1)
   hears_1 = (f.checkpoints 1 (omega arith) (omega arith)).is_authentic_to 0 (inl refl)
 
-  hears_2 : authentic (members c) 0 (w.checkpoint 2) ≡ Some (checkpoint_of 2)
+  hears_2 : authentic (members c 0) 0 (w.checkpoint 2) ≡ Some (checkpoint_of 2)
   hears_2 = (f.checkpoints 2 (omega arith) (omega arith)).is_authentic_to 0 (inl refl)
 
-  hears_3 : authentic (members c) 0 (w.checkpoint 3) ≡ Some (checkpoint_of 3)
+  hears_3 : authentic (members c 0) 0 (w.checkpoint 3) ≡ Some (checkpoint_of 3)
   hears_3 = (f.checkpoints 3 (omega arith) (omega arith)).is_authentic_to 0 (inl refl)
 
-  hears_root : authentic (members c) 0 w.below_root ≡ Some root_given
+  hears_root : authentic (members c 0) 0 w.below_root ≡ Some root_given
   hears_root = f.gives_root.is_authentic_to 0 (inl refl)
 
   s1 : Stage clients seed root h1 p1 None 0

@@ -1,5 +1,5 @@
 -- There are frames of a replica that fetches, whatever the pages, if each fits a frame.
-use Rattle.std.proofs.Common.{◌≡◌, ℕ, ◌*◌, ◌<◌, inl, inr, List, [], ◌∷◌, length, map, refl, sym, subst, arith, length-append}
+use Rattle.std.proofs.Common.{◌≡◌, ℕ, ◌*◌, ◌<◌, List, [], ◌∷◌, length, map, refl, sym, subst, arith, length-append}
 use Rattle.std.specs.List.{concat, range_with_len}
 use Rattle.std.proofs.lemmas.Bool.{lt-ltb}
 use Rattle.std.proofs.lemmas.List.FromFn.{length-map-range_with_len}
@@ -10,15 +10,15 @@ use Rattle.terms.specs.declared.state.Level.TheVariants as levels
 use Rattle.wire_format.specs.Lists.{Each, each_spelling}
 use Rattle.wire_format.specs.Messages.{BodyData as Body, MessageData as Message, checkpoint as Checkpoint, fetch as Fetch, meta as Meta, page as Page}
 use Rattle.wire_format.specs.Spelling.{IsDigest, body_spelling}
-use Rattle.protocol.specs.System.Configuration.{Configuration, replicas}
-use Rattle.protocol.specs.System.Trace.{Has}
+use Rattle.protocol.specs.System.Configuration.{Configuration}
 use Rattle.protocol.specs.Replica.State.{all_pages}
 use Rattle.protocol.specs.Replica.RightReplica.{others}
 use Rattle.protocol.specs.System.Schedule.{sealed_bytes}
 use Rattle.evidence.specs.Examples.{four}
 use Rattle.evidence.specs.Fetched.{FetchFrames, AreFetchFrames, FitFrames, FetchFramesExist}
 use Rattle.protocol.proofs.Words.Roots.{inner_is, pages_part}
-use Rattle.evidence.proofs.FirstFrames.{AreFew, is_digest, may_seal, others_few, never_own}
+use Rattle.evidence.proofs.FirstFrames.{AreFew, is_digest, may_seal, others_exchange, others_few}
+use Rattle.evidence.proofs.Knowing.{DoExchange}
 use Rattle.evidence.proofs.FirstFramesSealed.{MaySeal, sealed_is_authentic}
 
 -- ---- 32 digests
@@ -61,9 +61,8 @@ module _ (clients : ℕ) (seed : List ℕ) (page : ℕ → List ℕ) (fit : FitF
   one_few : AreFew (0 ∷ [])
   one_few = record { some = omega arith; few = omega arith; ascend = refl; parties = (omega arith, tt) }
 
-  not_1 : Has (λ (r : ℕ). r ≡ 1) (0 ∷ []) → ⊥
-  not_1 (inl e) = absurd (omega (arith, e))
-  not_1 (inr h) = h
+  one_exchanges : Each (DoExchange c 1) (0 ∷ [])
+  one_exchanges = ((refl, refl), tt)
 
   abbrev root_digests : List (List ℕ)
   root_digests = inner_digests (all_pages page)
@@ -74,35 +73,35 @@ module _ (clients : ℕ) (seed : List ℕ) (page : ℕ → List ℕ) (fit : FitF
   lists_checkpoint : (r : ℕ) → r < 4 → MaySeal c (by r (Checkpoint 16 root)) (others c r)
   lists_checkpoint r below =
       let l = length-sha256 (concat root_digests) in
-      may_seal c r (Checkpoint 16 root) (others c r) (omega arith) (lt-ltb r 4 below) (omega arith, is_digest (concat root_digests)) refl (others_few clients seed r below) (never_own r (range_with_len 0 (replicas c))) refl (omega arith)
+      may_seal c r (Checkpoint 16 root) (others c r) (omega arith) (lt-ltb r 4 below) (omega arith, is_digest (concat root_digests)) refl (others_few clients seed r below) (others_exchange clients seed r below) refl (omega arith)
 
   asks_root : MaySeal c (by 0 (Fetch 16 levels.Root 0)) (others c 0)
-  asks_root = may_seal c 0 (Fetch 16 levels.Root 0) (others c 0) (omega arith) refl (omega arith, omega arith) refl (others_few clients seed 0 (omega arith)) (never_own 0 (range_with_len 0 (replicas c))) refl (omega arith)
+  asks_root = may_seal c 0 (Fetch 16 levels.Root 0) (others c 0) (omega arith) refl (omega arith, omega arith) refl (others_few clients seed 0 (omega arith)) (others_exchange clients seed 0 (omega arith)) refl (omega arith)
 
   asks_inner : (j : ℕ) → j < 32 → MaySeal c (by 0 (Fetch 16 levels.Inner j)) (others c 0)
-  asks_inner j l = may_seal c 0 (Fetch 16 levels.Inner j) (others c 0) (omega arith) refl (omega arith, omega arith) refl (others_few clients seed 0 (omega arith)) (never_own 0 (range_with_len 0 (replicas c))) refl (omega arith)
+  asks_inner j l = may_seal c 0 (Fetch 16 levels.Inner j) (others c 0) (omega arith) refl (omega arith, omega arith) refl (others_few clients seed 0 (omega arith)) (others_exchange clients seed 0 (omega arith)) refl (omega arith)
 
   asks_page : (i : ℕ) → i < 1024 → MaySeal c (by 0 (Fetch 16 levels.Page i)) (others c 0)
-  asks_page i l = may_seal c 0 (Fetch 16 levels.Page i) (others c 0) (omega arith) refl (omega arith, omega arith) refl (others_few clients seed 0 (omega arith)) (never_own 0 (range_with_len 0 (replicas c))) refl (omega arith)
+  asks_page i l = may_seal c 0 (Fetch 16 levels.Page i) (others c 0) (omega arith) refl (omega arith, omega arith) refl (others_few clients seed 0 (omega arith)) (others_exchange clients seed 0 (omega arith)) refl (omega arith)
 
   gives_root : MaySeal c (by 1 (Meta 16 levels.Root 0 root_digests)) (0 ∷ [])
   gives_root =
       let are = subst AreDigests (sym (inner_is (all_pages page))) (are_digests (λ j. concat (page_digests (all_pages page) j)) 0) in
       let n = digests_length root_digests are.each in
       let count = are.count in
-      may_seal c 1 (Meta 16 levels.Root 0 root_digests) (0 ∷ []) (omega arith) refl (omega arith, refl, omega arith, are.count, are.each) refl one_few not_1 refl (omega arith)
+      may_seal c 1 (Meta 16 levels.Root 0 root_digests) (0 ∷ []) (omega arith) refl (omega arith, refl, omega arith, are.count, are.each) refl one_few one_exchanges refl (omega arith)
 
   gives_inner : (j : ℕ) → j < 32 → MaySeal c (by 1 (Meta 16 levels.Inner j (part_digests j))) (0 ∷ [])
   gives_inner j l =
       let are = subst AreDigests (sym (pages_part page j l)) (are_digests page (32 * j)) in
       let n = digests_length (part_digests j) are.each in
       let count = are.count in
-      may_seal c 1 (Meta 16 levels.Inner j (part_digests j)) (0 ∷ []) (omega arith) refl (omega arith, refl, omega arith, are.count, are.each) refl one_few not_1 refl (omega arith)
+      may_seal c 1 (Meta 16 levels.Inner j (part_digests j)) (0 ∷ []) (omega arith) refl (omega arith, refl, omega arith, are.count, are.each) refl one_few one_exchanges refl (omega arith)
 
   gives_page : (i : ℕ) → i < 1024 → MaySeal c (by 1 (Page 16 i (page i))) (0 ∷ [])
   gives_page i l =
       let short = (fit i l).1 in
-      may_seal c 1 (Page 16 i (page i)) (0 ∷ []) (omega arith) refl (omega arith, omega arith, (fit i l).0) refl one_few not_1 refl (omega arith)
+      may_seal c 1 (Page 16 i (page i)) (0 ∷ []) (omega arith) refl (omega arith, omega arith, (fit i l).0) refl one_few one_exchanges refl (omega arith)
 
   abbrev frames : FetchFrames
   frames = record {

@@ -117,10 +117,10 @@ module _ (clients : ℕ) (seed : List ℕ) (st : State) (w : FetchFrames) (n : �
 
   -- ---- what it owes
 
-  given_is : (other : Body) → authentic (members c) 0 (w.page n) ≡ Some other → IsGiven other.message
+  given_is : (other : Body) → authentic (members c 0) 0 (w.page n) ≡ Some other → IsGiven other.message
   given_is other h = subst (λ (x : Body). IsGiven x.message) (some_injective ready.body other (sym ready.receives ∙ h)) ready.given
 
-  of_16 : (k : ℕ) (other : Body) → authentic (members c) 0 (w.page n) ≡ Some other → IsPartOf k other.message → 16 ≡ k
+  of_16 : (k : ℕ) (other : Body) → authentic (members c 0) 0 (w.page n) ≡ Some other → IsPartOf k other.message → 16 ≡ k
   of_16 k other h part = ready.of_16 k (subst (λ (x : Body). IsPartOf k x.message) (some_injective other ready.body (sym h ∙ ready.receives)) part)
 
   no_execution : (k : ℕ) → Has (λ e. Executes k [] e) (installs ∷ []) → ⊥

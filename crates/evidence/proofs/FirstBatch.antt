@@ -140,8 +140,8 @@ module _ (clients : ℕ) (seed batch a b d e f g : List ℕ) (x : IsFirstBatch (
   abbrev emit : (Body → Option (List ℕ)) → List Entry → Entry → Option (List ℕ)
   emit vote past e = vote_in c 1 past e vote 0 1
 
-  vote_got : (vote : Body → Option (List ℕ)) (past : List Entry) (bytes : List ℕ) (body : Body) → AllPlain c past → authentic (members c) 1 bytes ≡ Some body → emit vote past (Got 1 bytes) ≡ vote body
-  vote_got vote past bytes body p h = ap (λ (t : Bool). cond t (option_and_then vote (authentic (members c) 1 bytes)) None) (counts past bytes p) ∙ ap (option_and_then vote) h
+  vote_got : (vote : Body → Option (List ℕ)) (past : List Entry) (bytes : List ℕ) (body : Body) → AllPlain c past → authentic (members c 1) 1 bytes ≡ Some body → emit vote past (Got 1 bytes) ≡ vote body
+  vote_got vote past bytes body p h = ap (λ (t : Bool). cond t (option_and_then vote (authentic (members c 1) 1 bytes)) None) (counts past bytes p) ∙ ap (option_and_then vote) h
 
   then : (vote : Body → Option (List ℕ)) (past : List Entry) (e : Entry) (o : Option (List ℕ)) → first_given (emit vote) past ≡ None → emit vote past e ≡ o → first_given (emit vote) (e ∷ past) ≡ o
   then vote past e o none here = ap (λ (u : Option (List ℕ)). or_else u (emit vote past e)) none ∙ here

@@ -51,7 +51,7 @@ module _ (clients : ℕ) (seed : List ℕ) (op : Operation) (batch : List ℕ) (
   abbrev three : List Entry
   three = Got 256 (w.reply 2) ∷ two
 
-  receives : (r : ℕ) → r < 4 → authentic (members c) 256 (w.reply r) ≡ Some (record { sender = r; message = Reply 256 1 modes.Ordered 1 (first_answer op) })
+  receives : (r : ℕ) → r < 4 → authentic (members c 256) 256 (w.reply r) ≡ Some (record { sender = r; message = Reply 256 1 modes.Ordered 1 (first_answer op) })
   receives r l = (x.replies r l).is_authentic_to 256 (inl refl)
 
   goes_ordered : went_ordered asked 1 ≡ true

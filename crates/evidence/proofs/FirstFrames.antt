@@ -1,8 +1,8 @@
 -- There are frames of the first operation.
-use Rattle.std.proofs.Common.{◌≡◌, ℕ, zero, suc, ◌+◌, ◌^◌, ◌<◌, ◌≤◌, inl, inr, Bool, true, false, cond, filter, List, [], ◌∷◌, length, refl, sym, subst, arith, length-append}
-use Rattle.std.specs.Prelude.{not, ◌||◌, ◌==◌, nat_lt, slice_index}
+use Rattle.std.proofs.Common.{◌≡◌, ℕ, zero, suc, ◌+◌, ◌^◌, ◌<◌, ◌≤◌, Bool, true, false, cond, List, [], ◌∷◌, length, refl, sym, subst, arith, length-append}
+use Rattle.std.specs.Prelude.{◌||◌, nat_lt, slice_index}
 use Rattle.std.specs.List.{range_with_len}
-use Rattle.std.proofs.lemmas.Bool.{lt-ltb, eqb-false}
+use Rattle.std.proofs.lemmas.Bool.{lt-ltb}
 use Rattle.sha2.specs.Sha256.{sha256, digest_bytes}
 use Rattle.sha2.proofs.Facts256.{length-sha256}
 use Rattle.std.proofs.Math.Seq.{take-nil}
@@ -17,16 +17,17 @@ use Rattle.wire_format.specs.Messages.{BodyData as Body, MessageData as Message,
 use Rattle.wire_format.specs.Spelling.{IsDigest, IsMessage, IsBatch, IsCarried, is_ordered_request, is_signed, piece, pieces_spelling, fields_spelling, body_spelling, frame_limit}
 use Rattle.tuple_codec.proofs.Lengths.{operation_short}
 use Rattle.wire_format.proofs.Telling.{reads_requests}
+use Rattle.authenticator.specs.Keys.{dealt}
 use Rattle.authenticator.specs.Membership.{sends}
 use Rattle.authenticator.specs.Sealing.{sealed_for}
-use Rattle.protocol.specs.System.Configuration.{Configuration, IsConfiguration, replicas, members}
+use Rattle.protocol.specs.System.Configuration.{Configuration, IsConfiguration, replicas, is_replica, is_client, signers}
 use Rattle.protocol.specs.Replica.RightReplica.{others}
 use Rattle.protocol.specs.System.Schedule.{sealed_bytes}
 use Rattle.evidence.specs.Examples.{four}
-use Rattle.protocol.specs.System.Trace.{Has}
 use Rattle.evidence.specs.FirstOperation.{FirstFrames, AreFirstFrames, first_answer, FirstFramesExist}
 use Rattle.tuple_tree.proofs.NumberBytes.{no_bytes}
 use Rattle.tuple_codec.proofs.SpelledBytes.{bytes_4}
+use Rattle.evidence.proofs.Knowing.{DoExchange, clients_exchange, exchange_back}
 use Rattle.evidence.proofs.FirstFramesSealed.{MaySeal, sealed_length, sealed_spells, sealed_is_authentic}
 
 -- the answer to an operation on the empty space
@@ -74,16 +75,16 @@ pub record AreFew (receivers : List ℕ) : Type 0 where
   pub ascend : ascends nat_lt receivers ≡ true
   pub parties : Each (λ p. p < 2 ^ 16) receivers
 
-pub may_seal : (c : Configuration) (sender : ℕ) (message : Message) (receivers : List ℕ) → sender < 2 ^ 16 → sends (members c) sender message ≡ true → IsMessage message
-    → is_signed message ≡ false → AreFew receivers → (Has (λ r. r ≡ sender) receivers → ⊥) → frame_limit message ≡ 4194304 → length (fields_spelling message) ≤ 4193900
+pub may_seal : (c : Configuration) (sender : ℕ) (message : Message) (receivers : List ℕ) → sender < 2 ^ 16 → sends (signers c) sender message ≡ true → IsMessage message
+    → is_signed message ≡ false → AreFew receivers → Each (DoExchange c sender) receivers → frame_limit message ≡ 4194304 → length (fields_spelling message) ≤ 4193900
     → MaySeal c (record { sender = sender; message = message }) receivers
-may_seal c sender message receivers small known right unsigned are others limit short =
+may_seal c sender message receivers small known right unsigned are peers limit short =
     let n = sealed_length c sender receivers (body_spelling (record { sender = sender; message = message })) in
     let few = are.few in
     record {
       can = record { said = record { sender = small; message = right }; unsigned = unsigned; some = are.some; few = are.few; ascend = are.ascend };
       known = known;
-      others = others;
+      peers = peers;
       parties = are.parties;
       short = omega (arith, n, few, limit, short);
     }
@@ -99,28 +100,13 @@ others_few clients seed (suc (suc zero)) l = record { some = omega arith; few = 
 others_few clients seed (suc (suc (suc zero))) l = record { some = omega arith; few = omega arith; ascend = refl; parties = (omega arith, (omega arith, (omega arith, tt))) }
 others_few clients seed (suc (suc (suc (suc r)))) l = absurd (omega arith)
 
--- a party is not among the others
-pub never_own : (me : ℕ) (xs : List ℕ) → Has (λ r. r ≡ me) (filter (λ r. not (r == me)) xs) → ⊥
-never_own me [] h = h
-never_own me (x ∷ xs) h = go (x == me) refl h (never_own me xs)
-  where
-    go : (b : Bool) → (x == me) ≡ b → Has (λ r. r ≡ me) (cond (not b) (x ∷ filter (λ r. not (r == me)) xs) (filter (λ r. not (r == me)) xs))
-        → (Has (λ r. r ≡ me) (filter (λ r. not (r == me)) xs) → ⊥) → ⊥
-    go true e h below = below h
-    go false e (inl is) below = eqb-false x me e is
-    go false e (inr h) below = below h
-
-elsewhere : (r : ℕ) → r < 4 → Has (λ (p : ℕ). p ≡ r) (256 ∷ []) → ⊥
-elsewhere r below (inl e) = absurd (omega (arith, e, below))
-elsewhere r below (inr h) = h
-
--- and no client among the replicas
-no_client : Has (λ (r : ℕ). r ≡ 256) (0 ∷ 1 ∷ 2 ∷ 3 ∷ []) → ⊥
-no_client (inl e) = absurd (omega (arith, e))
-no_client (inr (inl e)) = absurd (omega (arith, e))
-no_client (inr (inr (inl e))) = absurd (omega (arith, e))
-no_client (inr (inr (inr (inl e)))) = absurd (omega (arith, e))
-no_client (inr (inr (inr (inr h)))) = h
+-- each replica exchanges frames with the others
+pub others_exchange : (clients : ℕ) (seed : List ℕ) (r : ℕ) → r < 4 → Each (DoExchange (four clients seed) r) (others (four clients seed) r)
+others_exchange clients seed zero l = ((refl, refl), ((refl, refl), ((refl, refl), tt)))
+others_exchange clients seed (suc zero) l = ((refl, refl), ((refl, refl), ((refl, refl), tt)))
+others_exchange clients seed (suc (suc zero)) l = ((refl, refl), ((refl, refl), ((refl, refl), tt)))
+others_exchange clients seed (suc (suc (suc zero))) l = ((refl, refl), ((refl, refl), ((refl, refl), tt)))
+others_exchange clients seed (suc (suc (suc (suc r)))) l = absurd (omega arith)
 
 client_few : AreFew (256 ∷ [])
 client_few = record { some = omega arith; few = omega arith; ascend = refl; parties = (omega arith, tt) }
@@ -143,17 +129,22 @@ module _ (clients : ℕ) (seed : List ℕ) (op : Operation) (valid : IsConfigura
   abbrev request : List ℕ
   request = sealed_bytes c 256 to_all (body_spelling (by 256 asking))
 
+  is_first_client : is_client c 256 ≡ true
+  is_first_client = lt-ltb 256 (256 + clients) (let l = valid.some_clients in omega arith)
+
+  asked : (r : ℕ) → is_replica c r ≡ true → DoExchange c 256 r
+  asked r replica = clients_exchange c (omega arith) 256 r is_first_client replica
+
   asks : MaySeal c (by 256 asking) to_all
   asks =
-      let known : nat_lt 256 (256 + clients) ≡ true = lt-ltb 256 (256 + clients) (let l = valid.some_clients in omega arith) in
       let l = operation_short op right in
-      may_seal c 256 asking to_all (omega arith) known (omega arith, right) refl (all_few clients seed) no_client refl (omega arith)
+      may_seal c 256 asking to_all (omega arith) is_first_client (omega arith, right) refl (all_few clients seed) (asked 0 refl, (asked 1 refl, (asked 2 refl, (asked 3 refl, tt)))) refl (omega arith)
 
   is_carried : IsCarried is_ordered_request request
   is_carried =
       let s = sealed_spells c (by 256 asking) to_all asks in
       record {
-        frame = sealed_for seed (by 256 asking) to_all;
+        frame = sealed_for (dealt seed) (by 256 asking) to_all;
         spelled = record { valid = record { sender = s.valid.sender; message = s.valid.message; authenticator = s.valid.authenticator; proved = s.valid.proved; short = s.valid.short }; spelled = refl };
         sorted = refl;
       }
@@ -174,23 +165,22 @@ module _ (clients : ℕ) (seed : List ℕ) (op : Operation) (valid : IsConfigura
   proposes : MaySeal c (by 0 (PrePrepare 0 1 batch)) (others c 0)
   proposes =
       let l = batch_short in
-      may_seal c 0 (PrePrepare 0 1 batch) (others c 0) (omega arith) refl (omega arith, omega arith, is_batch request is_carried) refl (others_few clients seed 0 (omega arith)) (never_own 0 to_all) refl (omega arith)
+      may_seal c 0 (PrePrepare 0 1 batch) (others c 0) (omega arith) refl (omega arith, omega arith, is_batch request is_carried) refl (others_few clients seed 0 (omega arith)) (others_exchange clients seed 0 (omega arith)) refl (omega arith)
 
   prepares : (r : ℕ) → r < 4 → MaySeal c (by r (Prepare 0 1 (sha256 batch))) (others c r)
   prepares r below =
       let l = length-sha256 batch in
-      may_seal c r (Prepare 0 1 (sha256 batch)) (others c r) (omega arith) (known r below) (omega arith, omega arith, is_digest batch) refl (others_few clients seed r below) (never_own r to_all) refl (omega arith)
+      may_seal c r (Prepare 0 1 (sha256 batch)) (others c r) (omega arith) (known r below) (omega arith, omega arith, is_digest batch) refl (others_few clients seed r below) (others_exchange clients seed r below) refl (omega arith)
 
   commits : (r : ℕ) → r < 4 → MaySeal c (by r (Commit 0 1 (sha256 batch))) (others c r)
   commits r below =
       let l = length-sha256 batch in
-      may_seal c r (Commit 0 1 (sha256 batch)) (others c r) (omega arith) (known r below) (omega arith, omega arith, is_digest batch) refl (others_few clients seed r below) (never_own r to_all) refl (omega arith)
+      may_seal c r (Commit 0 1 (sha256 batch)) (others c r) (omega arith) (known r below) (omega arith, omega arith, is_digest batch) refl (others_few clients seed r below) (others_exchange clients seed r below) refl (omega arith)
 
   replies : (r : ℕ) → r < 4 → MaySeal c (by r (Reply 256 1 modes.Ordered 1 (first_answer op))) (256 ∷ [])
   replies r below =
       let a = answer_right op writes in
-      let not_own : Has (λ (p : ℕ). p ≡ r) (256 ∷ []) → ⊥ = elsewhere r below in
-      may_seal c r (Reply 256 1 modes.Ordered 1 (first_answer op)) (256 ∷ []) (omega arith) (known r below) (omega arith, omega arith, omega arith, omega arith, a.0) refl client_few not_own refl (omega (arith, a.1))
+      may_seal c r (Reply 256 1 modes.Ordered 1 (first_answer op)) (256 ∷ []) (omega arith) (known r below) (omega arith, omega arith, omega arith, omega arith, a.0) refl client_few (exchange_back c 256 r (asked r (known r below)), tt) refl (omega (arith, a.1))
 
   abbrev frames : FirstFrames
   frames = record {

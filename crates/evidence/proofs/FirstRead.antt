@@ -44,7 +44,7 @@ module _ (clients number : ℕ) (seed : List ℕ) (op : Operation) (answer : Out
   abbrev three : List Entry
   three = Got 256 (reply 2) ∷ two
 
-  receives : (r : ℕ) → r < 4 → authentic (members c) 256 (reply r) ≡ Some (record { sender = r; message = Reply 256 1 modes.ReadOnly number answer })
+  receives : (r : ℕ) → r < 4 → authentic (members c 256) 256 (reply r) ≡ Some (record { sender = r; message = Reply 256 1 modes.ReadOnly number answer })
   receives r l = (x.replies r l).is_authentic_to 256 (inl refl)
 
   -- ---- the latest replies

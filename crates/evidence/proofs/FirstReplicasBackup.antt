@@ -112,13 +112,13 @@ module _ (clients : ℕ) (seed : List ℕ) (op : Operation) (batch : List ℕ) (
   abbrev k4 : ℕ → Bool
   k4 = and_of k3 f
 
-  hears_request : authentic (members c) me w.request ≡ Some (asks op)
+  hears_request : authentic (members c me) me w.request ≡ Some (asks op)
   hears_request = steps.hears_request self
 
   genuine : are_genuine c me batch ≡ true
   genuine = steps.genuine self
 
-  hears_proposal : authentic (members c) me w.pre_prepare ≡ Some (proposes batch)
+  hears_proposal : authentic (members c me) me w.pre_prepare ≡ Some (proposes batch)
   hears_proposal = x.proposes.is_authentic_to me (is_among me (others c 0) order.gets)
 
   -- ---- the certificates

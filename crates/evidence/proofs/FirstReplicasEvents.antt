@@ -66,10 +66,10 @@ module _ (o : Part) where
   abbrev pub Numbers : List Entry → Point → Type 0
   Numbers now new = me ≡ 0 → (call : Call) → Has (λ y. y ≡ call) new.waiting → IsNumbered c me now 0 call.client call.timestamp
 
-  pub hears_prepare : (r : ℕ) → IsSender me r → authentic (members c) me (w.prepare r) ≡ Some (prepares batch r)
+  pub hears_prepare : (r : ℕ) → IsSender me r → authentic (members c me) me (w.prepare r) ≡ Some (prepares batch r)
   hears_prepare r s = (o.are_frames.prepares r s.within).is_authentic_to me (is_among me (others c r) s.gets)
 
-  pub hears_commit : (r : ℕ) → IsSender me r → authentic (members c) me (w.commit r) ≡ Some (commits batch r)
+  pub hears_commit : (r : ℕ) → IsSender me r → authentic (members c me) me (w.commit r) ≡ Some (commits batch r)
   hears_commit r s = (o.are_frames.commits r s.within).is_authentic_to me (is_among me (others c r) s.gets)
 
   pub active : (past : List Entry) → AllPlain c past → is_active_in c past 0 ≡ true
@@ -97,7 +97,7 @@ module _ (o : Part) where
 
   -- ---- the steps
 
-  pub step_quiet : (past : List Entry) (bytes : List ℕ) (body : Body) → authentic (members c) me bytes ≡ Some body → call_in c body ≡ None → IsStep c me past (waits op) (Got me bytes) (waits op)
+  pub step_quiet : (past : List Entry) (bytes : List ℕ) (body : Body) → authentic (members c me) me bytes ≡ Some body → call_in c body ≡ None → IsStep c me past (waits op) (Got me bytes) (waits op)
   step_quiet past bytes body h nothing = record { own = refl; may = tt; moves = moves_quiet o opening [] (the_call op ∷ []) bytes body h nothing }
 
   pub step_last : (past : List Entry) (r : ℕ) → IsSender me r → IsStep c me past (ran c op batch) (Got me (w.commit r)) (done c batch)
@@ -143,7 +143,7 @@ module _ (o : Part) where
   none_executed bytes n (inr h) = h
 
   -- nothing, at an input by which nothing becomes prepared or is left committed
-  pub due_nothing : (before now : List Entry) (bytes : List ℕ) (body : Body) (old new : Point) (p p' k' : ℕ → Bool) → authentic (members c) me bytes ≡ Some body → IsUnanswered old body.message
+  pub due_nothing : (before now : List Entry) (bytes : List ℕ) (body : Body) (old new : Point) (p p' k' : ℕ → Bool) → authentic (members c me) me bytes ≡ Some body → IsUnanswered old body.message
       → Numbers now new → new.ran ≡ [] → (ready true p ≡ true) ⊎ (ready true p' ≡ false) → (new.state.number ≡ 1) ⊎ (full k' ≡ false)
       → Owing before bytes [] now old new true true p p' k'
   due_nothing before now bytes body old new p p' k' h u numbers idle held next = record {

@@ -132,7 +132,7 @@ module _ (clients : ℕ) (seed batch : List ℕ) (me : ℕ) where
   -- p and p' say who prepared the batch at these times. k' says who committed the batch after the event.
   pub record Due (before : List Entry) (bytes : List ℕ) (outputs now : List Entry) (old new : Point) (l l' : Bool) (p p' k' : ℕ → Bool) : Type 0 where
     pub body : Body
-    pub receives : authentic (members c) me bytes ≡ Some body
+    pub receives : authentic (members c me) me bytes ≡ Some body
     pub unanswered : IsUnanswered old body.message
     pub numbers : me ≡ 0 → (call : Call) → Has (λ x. x ≡ call) new.waiting → IsNumbered c me now 0 call.client call.timestamp
     pub numbers_once : AtOutputs (NumbersOnce c me) (Got me bytes ∷ before) outputs
@@ -143,7 +143,7 @@ module _ (clients : ℕ) (seed batch : List ℕ) (me : ℕ) where
     pub checkpoints : (n : ℕ) → Has (λ e. Executes n [] e) outputs → n ≡ 1
     pub dropped : IsDropped c me before old bytes → outputs ≡ []
 
-  heard_is : (bytes : List ℕ) (body other : Body) → authentic (members c) me bytes ≡ Some body → authentic (members c) me bytes ≡ Some other → body ≡ other
+  heard_is : (bytes : List ℕ) (body other : Body) → authentic (members c me) me bytes ≡ Some body → authentic (members c me) me bytes ≡ Some other → body ≡ other
   heard_is bytes body other h k = some_injective body other (sym h ∙ k)
 
   pub owes : (before : List Entry) (bytes : List ℕ) (outputs now : List Entry) (old new : Point) (l l' : Bool) (p p' k k' : ℕ → Bool)

@@ -99,7 +99,7 @@ module _ (clients : ℕ) (seed : List ℕ) (op : Operation) (batch : List ℕ) (
   abbrev k4 : ℕ → Bool
   k4 = and_of k3 1
 
-  hears_request : authentic (members c) 0 w.request ≡ Some (asks op)
+  hears_request : authentic (members c 0) 0 w.request ≡ Some (asks op)
   hears_request = steps.hears_request self
 
   genuine : are_genuine c 0 batch ≡ true

@@ -104,7 +104,7 @@ module _ (clients : ℕ) (seed batch : List ℕ) (me : ℕ) where
       subst (λ (x : ℕ). (is_active_in c past x && is_in_marks c (low c me past) i) ≡ true) (sym w.0)
       (subst (λ (x : ℕ). (is_active_in c past 0 && is_in_marks c (low c me past) x) ≡ true) (sym w.1) (rw (s.view_is, s.target_is, s.low_is) refl))
 
-  pub got : (past : List Entry) (bytes : List ℕ) (body : Body) → AllPlain c past → authentic (members c) me bytes ≡ Some body → IsPlain body.message → Brings past (Got me bytes) body
+  pub got : (past : List Entry) (bytes : List ℕ) (body : Body) → AllPlain c past → authentic (members c me) me bytes ≡ Some body → IsPlain body.message → Brings past (Got me bytes) body
   got past bytes body q h o = record { plain = heard_plain c past me bytes body h o; brings = h; counts = active_here past q }
 
   pub sent : (past : List Entry) (bytes : List ℕ) (body : Body) → said bytes ≡ Some body → IsPlain body.message → Brings past (Sent me bytes) body

@@ -106,7 +106,7 @@ module _ (o : Part) where
   abbrev c : Configuration
   c = four clients seed
 
-  pub hears_request : authentic (members c) me o.frames.request ≡ Some (asks op)
+  pub hears_request : authentic (members c me) me o.frames.request ≡ Some (asks op)
   hears_request = o.are_frames.asks.is_authentic_to me (is_among me (range_with_len 0 4) o.member)
 
   pub genuine : are_genuine c me batch ≡ true
@@ -138,7 +138,7 @@ module _ (o : Part) where
       sym (ap (point_of opening []) (ap (λ (body : Option Body). option_map_or (with_waiting opening []) (option_and_then (call_in c) body) []) hears_request ∙ ap (λ (call : Option Call). option_map_or (with_waiting opening []) call []) calls))
 
   -- a message other than a request changes no waiting request
-  pub moves_quiet : (st : State) (rans : List Ran) (waiting : List Call) (bytes : List ℕ) (body : Body) → authentic (members c) me bytes ≡ Some body → call_in c body ≡ None
+  pub moves_quiet : (st : State) (rans : List Ran) (waiting : List Call) (bytes : List ℕ) (body : Body) → authentic (members c me) me bytes ≡ Some body → call_in c body ≡ None
       → point_of st [] waiting ≡ record (point_of st rans waiting) { ran = []; waiting = waiting_after c me (point_of st rans waiting) bytes }
   moves_quiet st rans waiting bytes body h none =
       sym (ap (point_of st []) (ap (λ (o : Option Body). option_map_or (with_waiting st waiting) (option_and_then (call_in c) o) waiting) h ∙ ap (λ (call : Option Call). option_map_or (with_waiting st waiting) call waiting) none))

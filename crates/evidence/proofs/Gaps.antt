@@ -57,7 +57,7 @@ entry_next : (c : Configuration) (me v i : ℕ) (batch : List ℕ) (e : Entry) (
 entry_next c me v i batch (Got p bytes) past point own party may h none =
     let t = entry_batch c me v i batch past (Got p bytes) h in
     let sender = proposer c me v i batch t.1.0.sender t.1.0.message t.1.2 in
-    absurd ((authentic_was_opened (members c) p bytes t.1.0 t.1.1).other (sender ∙ own ∙ sym party))
+    absurd ((authentic_was_opened (members c p) p bytes t.1.0 t.1.1).other (sender ∙ own ∙ sym party))
 entry_next c me v i batch (Sent p bytes) past point own party may h none =
     let t = entry_batch c me v i batch past (Sent p bytes) h in
     let m : MaySend c me past point (Sent p bytes) bytes = may in

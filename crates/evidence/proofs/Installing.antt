@@ -76,7 +76,7 @@ module _ (clients : ℕ) (seed : List ℕ) (w : InstallFrames) (differ : IsHeade
   abbrev inner_given : Body
   inner_given = record { sender = 1; message = Meta 16 levels.Inner 16 page_digests }
 
-  hears1 : authentic (members c) 0 (w.checkpoint 1) ≡ Some (checkpoint_of 1)
+  hears1 : authentic (members c 0) 0 (w.checkpoint 1) ≡ Some (checkpoint_of 1)
   hears1 = f.checkpoints 1 (omega arith) (omega arith)
 
   -- ---- whose checkpoints there are

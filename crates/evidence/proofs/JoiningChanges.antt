@@ -9,13 +9,12 @@ use Rattle.std.specs.Bool.{then_some}
 use Rattle.wire_format.specs.Messages.{BodyData as Body, FrameData as Frame, AuthenticatorData as Authenticator, ViewChangeData, NewViewData, macs, signature, pre_prepare as PrePrepare, view_change as ViewChange}
 use Rattle.wire_format.specs.Spelling.{body_spelling}
 use Rattle.wire_format.proofs.Saying.{reads_frames}
-use Rattle.authenticator.specs.Keys.{signing_seed}
 use Rattle.authenticator.specs.Authentic.{mac_of}
 use Rattle.authenticator.specs.Membership.{has_sender}
-use Rattle.signing.specs.Signatures.{public_key}
+use Rattle.signing.specs.Publics.{public_of}
 use Rattle.signing.specs.AuthenticBody.{signs, has_signature, authentic, signed_body}
-use Rattle.signing.proofs.AuthenticBody.{signed_is_authentic, signed_was_signed}
-use Rattle.protocol.specs.System.Configuration.{Configuration, primary, members}
+use Rattle.signing.proofs.AuthenticBody.{signed_was_signed}
+use Rattle.protocol.specs.System.Configuration.{Configuration, primary, members, signers}
 use Rattle.wire_format.specs.Words.{frame_of, said}
 use Rattle.protocol.specs.System.Frames.{IsSealed}
 use Rattle.protocol.specs.System.Trace.{Entry, Has}
@@ -27,6 +26,7 @@ use Rattle.protocol.specs.Replica.Owed.{Owes, HasToMove, IsReplica, NumbersOnce}
 use Rattle.evidence.specs.Examples.{four}
 use Rattle.evidence.specs.ExamplesOfChanges.{beginning_change, ChangesInBeginning, ViewChangesAreJoined}
 use Rattle.evidence.proofs.FirstBatch.{Still, still}
+use Rattle.evidence.proofs.Knowing.{signed_is_heard}
 use Rattle.protocol.proofs.Words.Linking.{signed_said}
 use Rattle.protocol.proofs.Words.Moving.{no_time}
 use Rattle.protocol.proofs.Words.Options.{some_injective}
@@ -38,20 +38,20 @@ use Rattle.protocol.proofs.Agreement.Checkpoints.{no_checkpoints}
 
 -- the condition on one authenticator of a sealed frame
 abbrev pub IsSealedBy : Configuration → Frame → Authenticator → Type 0
-IsSealedBy c frame (macs entries) = All (λ x. x.mac ≡ mac_of c.seed x.receiver frame.body) entries
-IsSealedBy c frame (signature s) = has_signature c.seed frame ≡ true
+IsSealedBy c frame (macs entries) = All (λ x. x.mac ≡ mac_of (members c frame.body.sender).keys x.receiver frame.body) entries
+IsSealedBy c frame (signature s) = has_signature c.publics frame ≡ true
 
-pub signed_is_sealed : (c : Configuration) (me : ℕ) (past : List Entry) (bytes : List ℕ) (body : Body) (frame : Frame) → signed_body (members c) bytes ≡ Some body → frame_of bytes ≡ Some frame
+pub signed_is_sealed : (c : Configuration) (me : ℕ) (past : List Entry) (bytes : List ℕ) (body : Body) (frame : Frame) → signed_body (signers c) bytes ≡ Some body → frame_of bytes ≡ Some frame
     → IsSealed c frame × IsAddressed c me past body.message frame.authenticator
 signed_is_sealed c me past bytes body frame h is = let r = by frame.authenticator own in (r.0, r.1)
   where
-    own : has_signature c.seed frame ≡ true
+    own : has_signature c.publics frame ≡ true
     own =
-        let signed = signed_was_signed (members c) bytes body h in
+        let signed = signed_was_signed (signers c) bytes body h in
         let same : signed.frame ≡ frame = some_injective signed.frame frame (sym ((reads_frames bytes signed.frame).1 signed.spelled) ∙ is) in
-        subst (λ (f : Frame). has_signature c.seed f ≡ true) same signed.signed
+        subst (λ (f : Frame). has_signature c.publics f ≡ true) same signed.signed
 
-    by : (authenticator : Authenticator) → signs (public_key (signing_seed c.seed frame.body.sender)) (body_spelling frame.body) authenticator ≡ true → IsSealedBy c frame authenticator × IsAddressed c me past body.message authenticator
+    by : (authenticator : Authenticator) → signs (public_of c.publics frame.body.sender) (body_spelling frame.body) authenticator ≡ true → IsSealedBy c frame authenticator × IsAddressed c me past body.message authenticator
     by (macs entries) h = absurd cc
     by (signature s) h = (own, tt)
 
@@ -86,8 +86,8 @@ module _ (clients : ℕ) (seed : List ℕ) (me one other : ℕ) (first second ow
   now = Sent me own ∷ h2
 
   module _ (differ : one ≢ other) (first_other : one ≢ me) (second_other : other ≢ me) (x : ChangesInBeginning c one first) (y : ChangesInBeginning c other second) (z : ChangesInBeginning c me own) where
-    pub receives : (s : ℕ) (bytes : List ℕ) → s ≢ me → ChangesInBeginning c s bytes → authentic (members c) me bytes ≡ Some (changing s)
-    receives s bytes other is = signed_is_authentic (members c) me bytes (changing s) is other
+    pub receives : (s : ℕ) (bytes : List ℕ) → s ≢ me → ChangesInBeginning c s bytes → authentic (members c me) me bytes ≡ Some (changing s)
+    receives s bytes other is = signed_is_heard c me bytes (changing s) is other
 
     pub says : said own ≡ Some (changing me)
     says = signed_said c own (changing me) z
@@ -176,8 +176,8 @@ module _ (clients : ℕ) (seed : List ℕ) (me one other : ℕ) (first second ow
 
     below : (s : ℕ) (bytes : List ℕ) → ChangesInBeginning c s bytes → s < 4
     below s bytes is =
-        let signed = signed_was_signed (members c) bytes (changing s) is in
-        ltb-true s 4 (subst (λ (b : Body). IsTrue (has_sender (members c) b)) signed.body_is signed.sender)
+        let signed = signed_was_signed (signers c) bytes (changing s) is in
+        ltb-true s 4 (subst (λ (b : Body). IsTrue (has_sender (signers c) b)) signed.body_is signed.sender)
 
     taken_of : (v s r : ℕ) (bytes : List ℕ) → ChangesInBeginning c r bytes → change_taken c v s bytes ≡ cond ((r == s) && nat_lt v 1 && is_within c beginning_change) 1 0
     taken_of v s r bytes is =

@@ -91,7 +91,7 @@ no_call c sender (NewView new) h = refl
 no_call c sender _ h = absurd h
 
 -- no request waits after a message of a view change
-pub moves_nothing : (c : Configuration) (me : ℕ) (bytes : List ℕ) (body : Body) → authentic (members c) me bytes ≡ Some body → IsOfChange body.message
+pub moves_nothing : (c : Configuration) (me : ℕ) (bytes : List ℕ) (body : Body) → authentic (members c me) me bytes ≡ Some body → IsOfChange body.message
     → first_point ≡ record first_point { ran = []; waiting = waiting_after c me first_point bytes }
 moves_nothing c me bytes body receives is =
     ap (λ (calls : List Call). let p : Point = record first_point { waiting = calls } in p)
@@ -103,7 +103,7 @@ moves_nothing c me bytes body receives is =
 -- The proof obligations of an event in which the replica executes nothing and keeps its first point.
 pub record Due (c : Configuration) (me : ℕ) (before : List Entry) (bytes : List ℕ) (outputs now : List Entry) : Type 0 where
   pub body : Body
-  pub receives : authentic (members c) me bytes ≡ Some body
+  pub receives : authentic (members c me) me bytes ≡ Some body
   pub of_change : IsOfChange body.message
   pub checkpoints_are : (s : ℕ) → checkpoints_of c now s ≡ []
   pub low_is : low c me now ≡ 0
@@ -150,7 +150,7 @@ module _ (clients : ℕ) (seed : List ℕ) (me : ℕ) where
   }
     where
       -- the message that the replica receives is of a view change
-      only : (other : Body) → authentic (members c) me bytes ≡ Some other → IsOfChange other.message
+      only : (other : Body) → authentic (members c me) me bytes ≡ Some other → IsOfChange other.message
       only other asks = subst (λ (b : Body). IsOfChange b.message) (some_injective due.body other (sym due.receives ∙ asks)) due.of_change
 
       same_bytes : (other : List ℕ) → Got me bytes ≡ Got me other → bytes ≡ other

@@ -1,3 +1,4 @@
+pub mod Knowing
 pub mod Certifying
 pub mod Gaps
 pub mod Installing

@@ -26,7 +26,7 @@ pages_same f g same = map_same f g (range_with_len 0 1024) same
 abbrev pub IsNoPage : Message → Type 0
 IsNoPage message = elim message [ Page k i text ↦ ⊥ | _ ↦ ⊤ ]
 
-pub others_take_none : (c : Configuration) (me k i : ℕ) (past : List Entry) (bytes : List ℕ) (body : Body) → authentic (members c) me bytes ≡ Some body → IsNoPage body.message → took c me (Some k) (Got me bytes ∷ past) i ≡ took c me None past i
+pub others_take_none : (c : Configuration) (me k i : ℕ) (past : List Entry) (bytes : List ℕ) (body : Body) → authentic (members c me) me bytes ≡ Some body → IsNoPage body.message → took c me (Some k) (Got me bytes ∷ past) i ≡ took c me None past i
 others_take_none c me k i past bytes body h none =
     Taken.others_are_left c me k i past bytes
     (λ sender text receives asked. subst IsNoPage (ap (λ (b : Body). b.message) (some_injective body (record { sender = sender; message = Page k i text }) (sym h ∙ receives))) none)

@@ -9,7 +9,7 @@ use Rattle.quorum.specs.Quorum.{member}
 use Rattle.tuple_codec.specs.Operations.{Operation, IsOperation}
 use Rattle.partition_tree.specs.Digests.{inner_digests, page_digests}
 use Rattle.wire_format.specs.Messages.{BodyData as Body, MessageData as Message, pre_prepare as PrePrepare, new_view as NewView, meta as Meta, page as Page}
-use Rattle.protocol.specs.System.Configuration.{Configuration, IsConfiguration, replicas, is_replica, is_client, is_faulty_replica, is_correct_replica, is_correct_client, is_correct, members}
+use Rattle.protocol.specs.System.Configuration.{Configuration, IsConfiguration, replicas, is_replica, is_client, is_faulty_replica, is_correct_replica, is_correct_client, is_correct, members, signers}
 use Rattle.signing.specs.AuthenticBody.{authentic, signed_body}
 use Rattle.protocol.specs.System.Trace.{Entry, party_of, is_output, history_of, Always, Has, Once, SendsBody, IsFromSender, frames_in}
 use Rattle.protocol.specs.System.Trace.Entry.{Invoke, Got, Tick, Executed, Installed, Sent}
@@ -38,6 +38,7 @@ widest_is_valid seed faulty_replicas faulty_clients long few replicas_are replic
   some_clients = omega arith;
   clients = omega arith;
   seed = long;
+  publics = refl;
   period = omega arith;
   period_most = omega arith;
   few = omega arith;
@@ -54,6 +55,7 @@ narrowest_is_valid seed long = record {
   some_clients = omega arith;
   clients = omega arith;
   seed = long;
+  publics = refl;
   period = omega arith;
   period_most = omega arith;
   few = omega arith;
@@ -231,8 +233,8 @@ taken_was_sent c past (Some other) h body is correct = subst (λ (b : Body). Onc
 
 is_from_sender : (c : Configuration) (me : ℕ) (past : List Entry) (bytes : List ℕ) → MayBeGot c me past bytes → IsFromSender c me past bytes
 is_from_sender c me past bytes h = record {
-  receives = taken_was_sent c past (authentic (members c) me bytes) h.0;
-  signed = taken_was_sent c past (signed_body (members c) bytes) h.1;
+  receives = taken_was_sent c past (authentic (members c me) me bytes) h.0;
+  signed = taken_was_sent c past (signed_body (signers c) bytes) h.1;
 }
 
 are_from_senders : (c : Configuration) (me : ℕ) (past : List Entry) (frames : List (List ℕ)) → Each (MayBeGot c me past) frames → Each (IsFromSender c me past) frames

@@ -1,7 +1,7 @@
 -- The definitions refuse what wrong bodies would do.
 use Rattle.std.specs.List.{list_all, range_with_len}
 use Rattle.std.proofs.Common.{drop, ◌≢◌, ◌^◌, ◌≡◌, ℕ, suc, not, filter, ◌+◌, ◌-◌, ◌*◌, ◌≤◌, ◌<◌, ◌⊎◌, inl, inr, Bool, true, false, cond, List, [], bytes_eq, None, ◌∷◌, ◌++◌, length, slice_get, refl, sym, ap, ◌∙◌, subst, arith, ◌&&◌, ◌||◌, Option, Some, eqb-true, eq-eqb}
-use Rattle.std.specs.Prelude.{◌==◌, nat_le, nat_lt, is_some, ⊤}
+use Rattle.std.specs.Prelude.{◌==◌, nat_le, nat_lt, is_some, ⊤, All}
 use Rattle.std.proofs.lemmas.Bool.{and_parts, or_cases, leb-true, ltb-true}
 use Rattle.std.proofs.lemmas.Slice.Eq.{bytes_eq-Decides}
 use Rattle.tuple_codec.specs.Operations.{Outcome}
@@ -12,6 +12,7 @@ use Rattle.protocol.specs.System.Configuration.{Configuration, replicas, span, i
 use Rattle.terms.specs.declared.order.Mode.{Mode}
 use Rattle.terms.specs.declared.order.Mode.TheVariants as modes
 use Rattle.wire_format.specs.Messages.{fetch as Fetch, BodyData as Body, FrameData as Frame, AuthenticatorData as Authenticator, MacData, macs, signature, ViewChangeData, NewViewData, BatchEntryData as BatchEntry, pre_prepare as PrePrepare, prepare as Prepare, commit as Commit, checkpoint as Checkpoint, view_change as ViewChange, new_view as NewView, reply as Reply, meta as Meta, page as Page}
+use Rattle.authenticator.specs.Authentic.{mac_of}
 use Rattle.signing.specs.AuthenticBody.{authentic}
 use Rattle.protocol.specs.System.Trace.{Entry, Once, Always, Has, AreOutputs, Receives}
 use Rattle.protocol.specs.System.Trace.Entry.{Invoke, Got, Tick, Executed, Installed, Sent, Accepted}
@@ -47,6 +48,7 @@ use Rattle.protocol.proofs.Words.Elements.{has_of_any, every_has, has_some}
 use Rattle.protocol.proofs.Words.Outgoing.{leaf_by}
 use Rattle.protocol.specs.System.Frames.{leaf_in}
 use Rattle.evidence.proofs.JoiningChanges.{IsSealedBy}
+use Rattle.evidence.proofs.Knowing.{body_of_frame}
 use Rattle.evidence.proofs.RefusingRuns.{in_range, says_may}
 
 -- ---- before anything is executed
@@ -200,7 +202,7 @@ installs_with_header c me k root past right = go (is_own_or_got c me k 512 past 
 pub proposes_authentic : ProposesAuthentic
 proposes_authentic c me v i batch bytes request past says right has =
     let m : MayPrePrepare c me past right.1.0 (Sent me bytes) v i batch = says_may c me bytes (record { sender = me; message = PrePrepare v i batch }) past right says in
-    there (authentic (members c) me request) (every_has (λ (x : List ℕ). is_some (authentic (members c) me x)) (requests_of batch) request m.genuine has)
+    there (authentic (members c me) me request) (every_has (λ (x : List ℕ). is_some (authentic (members c me) me x)) (requests_of batch) request m.genuine has)
   where
     there : (o : Option Body) → is_some o ≡ true → (body : Body) × (o ≡ Some body)
     there None h = absurd cc
@@ -312,7 +314,7 @@ owed_here c me bytes later past (inl h) = record { old = _; new = _; now = _; ow
 owed_here c me bytes later past (inr h) = absurd h.1
 
 -- if the replica gives an output, it has not dropped the input
-not_dropped : (c : Configuration) (me : ℕ) (bytes later : List ℕ) (past : List Entry) (body : Body) → authentic (members c) me bytes ≡ Some body → IsReplica c me (Sent me later ∷ Got me bytes ∷ past)
+not_dropped : (c : Configuration) (me : ℕ) (bytes later : List ℕ) (past : List Entry) (body : Body) → authentic (members c me) me bytes ≡ Some body → IsReplica c me (Sent me later ∷ Got me bytes ∷ past)
     → ((point : Point) → Counts c me past point bytes body.sender body.message → ⊥) → ⊥
 not_dropped c me bytes later past body receives h never =
     let o = owed_here c me bytes later past h in
@@ -336,7 +338,7 @@ pub drops_own_frames : DropsOwnFrames
 drops_own_frames c me body bytes later past says own h =
     let none : Sent me later ∷ [] ≡ [] = (owed_here c me bytes later past h).owes.dropped bytes refl (λ other receives counts.
     let same : other ≡ body = some_injective other body (sym (heard_said c me bytes other receives) ∙ says) in
-    absurd ((authentic_was_opened (members c) me bytes other receives).other (ap (λ (b : Body). b.sender) same ∙ own))) in
+    absurd ((authentic_was_opened (members c me) me bytes other receives).other (ap (λ (b : Body). b.sender) same ∙ own))) in
     absurd cc
 
 pub fetches_what_is_wanted : FetchesWhatIsWanted
@@ -373,7 +375,11 @@ sealed c me bytes frame authenticator past is authenticator_is right =
     subst (λ (p : Authenticator). IsSealedBy c frame p) authenticator_is (right.1.2.may.is_sealed frame is).0
 
 pub seals_well : SealsWell
-seals_well c me bytes frame entries past is authenticator right = sealed c me bytes frame (macs entries) past is authenticator right
+seals_well c me bytes frame entries past is authenticator right =
+    let may : MaySend c me past right.1.0 (Sent me bytes) bytes = right.1.2.may in
+    let own : frame.body.sender ≡ me = ap (λ (b : Body). b.sender) (body_of_frame bytes frame may.body is may.says) ∙ may.own in
+    subst (λ (p : ℕ). All (λ x. x.mac ≡ mac_of (members c p).keys x.receiver frame.body) entries) own
+    (sealed c me bytes frame (macs entries) past is authenticator right)
 
 pub signs_well : SignsWell
 signs_well c me bytes s frame past is authenticator right = sealed c me bytes frame (signature s) past is authenticator right

@@ -106,10 +106,10 @@ record Given (c : Configuration) (me : ℕ) (past : List Entry) (v i : ℕ) (bod
   gives : emit body ≡ Some given
 
 given_at : (c : Configuration) (me : ℕ) (past : List Entry) (v i : ℕ) (bytes : List ℕ) (body : Body) (emit : Body → Option (List ℕ)) (given : List ℕ)
-    → authentic (members c) me bytes ≡ Some body → vote_in c me past (Got me bytes) emit v i ≡ Some given → Given c me past v i body emit given
+    → authentic (members c me) me bytes ≡ Some body → vote_in c me past (Got me bytes) emit v i ≡ Some given → Given c me past v i body emit given
 given_at c me past v i bytes body emit given receives h = go (is_active_in c past v) (is_in_marks c (low c me past) i) refl refl h
   where
-    go : (b d : Bool) → is_active_in c past v ≡ b → is_in_marks c (low c me past) i ≡ d → cond (b && d) (option_and_then emit (authentic (members c) me bytes)) None ≡ Some given
+    go : (b d : Bool) → is_active_in c past v ≡ b → is_in_marks c (low c me past) i ≡ d → cond (b && d) (option_and_then emit (authentic (members c me) me bytes)) None ≡ Some given
         → Given c me past v i body emit given
     go true true e f k = record { active = e; in_marks = f; gives = sym (ap (option_and_then emit) receives) ∙ k }
     go true false e f k = absurd cc

@@ -112,7 +112,7 @@ over_request st waiting call new h = go (nat_lt (last_time st new.client) new.ti
 pub waits_over_frames : WaitsOverFrames
 waits_over_frames c me call bytes past waits point leaves =
     subst (λ (calls : List Call). Has (WaitsOrNewer call) calls) (sym (ap (λ (q : Point). q.waiting) leaves.2.moves))
-    (go (option_and_then (call_in c) (authentic (members c) me bytes)) (waits leaves.0 leaves.1))
+    (go (option_and_then (call_in c) (authentic (members c me) me bytes)) (waits leaves.0 leaves.1))
   where
     go : (o : Option Call) → Has (λ x. x ≡ call) leaves.0.waiting → Has (WaitsOrNewer call) (option_map_or (with_waiting leaves.0.state leaves.0.waiting) o leaves.0.waiting)
     go None h = has_weaker (λ x. x ≡ call) (WaitsOrNewer call) (λ x same. inl same) leaves.0.waiting h
@@ -168,7 +168,7 @@ waits_no_longer c me (e ∷ past) point leaves = go e leaves.2.may leaves.2.move
     got (Some call) h = with_new leaves.0.state leaves.0.waiting call h
 
     go : (e : Entry) → May c me past leaves.0 e → MovesPoint c me past leaves.0 e point → AllNew leaves.0.state leaves.0.waiting → AllNew point.state point.waiting
-    go (Got p bytes) may move was = subst (λ (q : Point). AllNew q.state q.waiting) (sym move) (got (option_and_then (call_in c) (authentic (members c) me bytes)) was)
+    go (Got p bytes) may move was = subst (λ (q : Point). AllNew q.state q.waiting) (sym move) (got (option_and_then (call_in c) (authentic (members c me) me bytes)) was)
     go (Tick p) may move was = subst (λ (q : Point). AllNew q.state q.waiting) (sym move) was
     go (Sent p bytes) may move was = subst (λ (q : Point). AllNew q.state q.waiting) (sym move) was
     go (Executed p k batch) may move was = subst (λ (q : Point). AllNew q.state q.waiting) (sym move) (still_new (execute c leaves.0.state batch) leaves.0.waiting)

@@ -68,7 +68,7 @@ lists_what_is_called c items trace item client covers has is correct =
 
 is_asked : (c : Configuration) (item : Item) (past : List Entry) (e : Entry) → EntryAsks c item.client item.timestamp item.op past e → IsAskedAt c item e
 is_asked c item past (Got p bytes) h =
-    let r = has_some (λ (frame : List ℕ). authentic (members c) p frame ≡ Some (record { sender = item.client; message = Request item.timestamp modes.Ordered item.op })) (frames_in bytes) h.1 in
+    let r = has_some (λ (frame : List ℕ). authentic (members c p) p frame ≡ Some (record { sender = item.client; message = Request item.timestamp modes.Ordered item.op })) (frames_in bytes) h.1 in
     (p, bytes, r.0, refl, h.0, r.1, r.2)
 is_asked c item past (Invoke k t o) h = absurd h
 is_asked c item past _ h = absurd h

@@ -4,7 +4,7 @@ use Rattle.std.proofs.Common.{◌≡◌, ℕ, zero, suc, ◌+◌, ◌*◌, ◌�
 use Rattle.std.specs.Prelude.{◌==◌, nat_le, nat_lt}
 use Rattle.std.proofs.lemmas.Bool.{and_parts, leb-true, ltb-true}
 use Rattle.std.proofs.lemmas.Slice.Eq.{bytes_eq-Decides}
-use Rattle.protocol.specs.System.Configuration.{Configuration, members}
+use Rattle.protocol.specs.System.Configuration.{Configuration, signers}
 use Rattle.wire_format.specs.Messages.{BodyData as Body, MessageData as Message, ViewChangeData, NewViewData, CheckpointEntryData as CheckpointEntry, view_change as ViewChange}
 use Rattle.signing.specs.AuthenticBody.{signed_body}
 use Rattle.protocol.specs.System.Trace.{Has}
@@ -29,7 +29,7 @@ change_is sender _ x h = absurd cc
 
 pub spelled : (c : Configuration) (bytes : List ℕ) (x : ℕ × ViewChangeData) → signed_change c bytes ≡ Some x → SpellsChange c bytes x.0 x.1
 spelled c bytes x h =
-    let r = and_then_some change_in (signed_body (members c) bytes) x h in
+    let r = and_then_some change_in (signed_body (signers c) bytes) x h in
     r.1 ∙ ap Some (change_is r.0.sender r.0.message x r.2)
 
 -- as many as were carried: each of these is one

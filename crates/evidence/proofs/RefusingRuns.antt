@@ -72,7 +72,7 @@ asks_only c me call r outputs is h =
 abbrev pub vote_in : Mode → ℕ → Outcome → Vote
 vote_in mode number answer = record { mode = mode; number = number; answer = answer }
 
-pub brings : (c : Configuration) (me s t number : ℕ) (mode : Mode) (answer : Outcome) (bytes : List ℕ) (past : List Entry) → authentic (members c) me bytes ≡ Some (record { sender = s; message = Reply me t mode number answer })
+pub brings : (c : Configuration) (me s t number : ℕ) (mode : Mode) (answer : Outcome) (bytes : List ℕ) (past : List Entry) → authentic (members c me) me bytes ≡ Some (record { sender = s; message = Reply me t mode number answer })
     → newest_vote c me (Got me bytes ∷ past) t ≡ Some (vote_in mode number answer)
 brings c me s t number mode answer bytes past receives = rw receives (rw (eq-eqb s s refl, eq-eqb me me refl, eq-eqb t t refl) refl)
 

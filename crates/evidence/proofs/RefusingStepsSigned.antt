@@ -14,16 +14,18 @@ use Rattle.authenticator.proofs.Digests.{hmac_of-digest}
 use Rattle.signing.specs.Joined.{end_to_end}
 use Rattle.signing.specs.Lamport.{secret, public_hash, leaf_digest, bit_of}
 use Rattle.signing.specs.Merkle.{node}
-use Rattle.signing.specs.Signatures.{public_key, signed_bit, sibling_digest, signature_of}
+use Rattle.signing.specs.Publics.{public_of}
+use Rattle.signing.specs.Signatures.{public_key, signed_bit, sibling_digest, signature_of, verifies as verifies_text}
 use Rattle.signing.proofs.Signed.{signature_of-verifies}
-use Rattle.signing.proofs.AuthenticBody.{verifies-Decides, signed_is_authentic, signer_is_authentic}
+use Rattle.signing.proofs.AuthenticBody.{verifies-Decides, signer_is_authentic}
 use Rattle.signing.specs.AuthenticBody.{signed_body}
-use Rattle.protocol.specs.System.Configuration.{Configuration, replicas, is_replica, members}
+use Rattle.protocol.specs.System.Configuration.{Configuration, replicas, is_replica, signers}
 use Rattle.protocol.specs.System.Schedule.{signed_bytes}
 use Rattle.evidence.specs.RefusedSteps.{SignedFramesAreAuthentic}
 use Rattle.tuple_tree.proofs.NumberBytes.{no_bytes, bytes_more}
 use Rattle.wire_format.proofs.Saying.{reads_frames, reads_said}
 use Rattle.evidence.proofs.FirstFrames.{is_digest}
+use Rattle.evidence.proofs.Knowing.{own_public, signed_is_heard}
 
 -- ---- a signature is of bytes
 
@@ -85,7 +87,7 @@ without me start (suc k) n (suc total) e t =
 
 -- ---- the law
 
-known : (c : Configuration) (replica : ℕ) (m : Message) → is_signed m ≡ true → is_replica c replica ≡ true → sends (members c) replica m ≡ true
+known : (c : Configuration) (replica : ℕ) (m : Message) → is_signed m ≡ true → is_replica c replica ≡ true → sends (signers c) replica m ≡ true
 known c replica (Request t mode op) s h = absurd cc
 known c replica _ s h = h
 
@@ -107,17 +109,20 @@ signed_frames_are_authentic c replica leaf message valid right within may kind s
       };
       spelled = refl;
     } in
-    let told : signed_body (members c) bytes ≡ Some body = signer_is_authentic (members c) bytes body leaf within (known c replica message kind right) spelled in
+    let own : public_of c.publics replica ≡ public_key seed = own_public c valid replica right in
+    let told : signed_body (signers c) bytes ≡ Some body = signer_is_authentic (signers c) seed bytes body leaf within own (known c replica message kind right) spelled in
     record {
       frame = frame;
       made = signature_of seed leaf text;
       spells = (reads_frames bytes frame).1 spelled;
       says = reads_said bytes frame spelled;
       has_signature = refl;
-      is_sealed = (verifies-Decides (public_key seed) text (signature_of seed leaf text)).1 verifies;
+      is_sealed =
+          ap (λ (public : List ℕ). verifies_text public text (signature_of seed leaf text)) own
+          ∙ (verifies-Decides (public_key seed) text (signature_of seed leaf text)).1 verifies;
       is_for =
           let l : replica < replicas c = ltb-true replica (replicas c) right in
           sym (without replica 0 replica (replicas c - suc replica) (replicas c) (omega arith) (omega arith));
-      is_authentic_to = λ p other. signed_is_authentic (members c) p bytes body told other;
+      is_authentic_to = λ p other. signed_is_heard c p bytes body told other;
       is_told = told;
     }

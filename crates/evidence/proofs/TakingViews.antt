@@ -10,7 +10,7 @@ use Rattle.std.specs.Bool.{then_some}
 use Rattle.quorum.specs.Votes.{or_else, has_digest}
 use Rattle.quorum.proofs.Counting.{count_mono, count_members}
 use Rattle.wire_format.specs.Messages.{BodyData as Body, AuthenticatorData as Authenticator, NewViewData, CheckpointEntryData as CheckpointEntry, macs, signature, pre_prepare as PrePrepare, prepare as Prepare, new_view as NewView, view_change as ViewChange}
-use Rattle.protocol.specs.System.Configuration.{Configuration, primary, members}
+use Rattle.protocol.specs.System.Configuration.{Configuration, primary, members, signers}
 use Rattle.signing.specs.AuthenticBody.{authentic, signed_body}
 use Rattle.wire_format.specs.Words.{receivers_of}
 use Rattle.wire.proofs.Skipping.{none_chosen}
@@ -22,10 +22,10 @@ use Rattle.protocol.specs.Replica.RightReplica.{first_point, others, IsAddressed
 use Rattle.protocol.specs.Replica.Owed.{Owes, IsReplica, NumbersOnce, SendsMessage}
 use Rattle.evidence.specs.Examples.{four}
 use Rattle.evidence.specs.ExamplesOfChanges.{holding_view, IsForOthers, NewViewsAreTaken}
-use Rattle.signing.proofs.AuthenticBody.{signed_is_authentic}
 use Rattle.protocol.proofs.Words.Moving.{no_reason}
 use Rattle.protocol.proofs.Words.Options.{some_injective}
 use Rattle.protocol.proofs.Words.Plain.{low_same}
+use Rattle.evidence.proofs.Knowing.{signed_is_heard}
 use Rattle.evidence.proofs.Selecting.{prepared_is_selected}
 use Rattle.evidence.proofs.JoiningChangesOwing.{Due, owes, none_logged, brings_no_checkpoint, same_checkpoints, logs_assigned, logs_nothing, moves_nothing}
 use Rattle.protocol.proofs.Words.Outgoing.{unsigned_have_no_leaf}
@@ -66,9 +66,9 @@ module _ (clients : ℕ) (seed : List ℕ) (me : ℕ) (batch root a b d new_view
   abbrev now : List Entry
   now = Sent me prepare ∷ h1
 
-  module _ (backup : me ≢ 1) (selected : may_select c new ≡ true) (signed : signed_body (members c) new_view ≡ Some begins) (x : IsForOthers c me prepares.message prepare) where
-    receives : authentic (members c) me new_view ≡ Some begins
-    receives = signed_is_authentic (members c) me new_view begins signed (λ is. backup (sym is))
+  module _ (backup : me ≢ 1) (selected : may_select c new ≡ true) (signed : signed_body (signers c) new_view ≡ Some begins) (x : IsForOthers c me prepares.message prepare) where
+    receives : authentic (members c me) me new_view ≡ Some begins
+    receives = signed_is_heard c me new_view begins signed (λ is. backup (sym is))
 
     -- ---- the new view is taken
 
@@ -137,7 +137,7 @@ module _ (clients : ℕ) (seed : List ℕ) (me : ℕ) (batch root a b d new_view
         ∙ ap (option_and_then (prepare_from c s v i)) x.says
       where
         no_vote : vote_in c me [] (Got me new_view) (prepare_from c s v i) v i ≡ None
-        no_vote = none_chosen (counts_at c me [] (Got me new_view) v i) (option_and_then (prepare_from c s v i) (authentic (members c) me new_view)) (ap (option_and_then (prepare_from c s v i)) receives)
+        no_vote = none_chosen (counts_at c me [] (Got me new_view) v i) (option_and_then (prepare_from c s v i) (authentic (members c me) me new_view)) (ap (option_and_then (prepare_from c s v i)) receives)
 
         before : prepare_of c me h1 v i s ≡ None
         before =

@@ -69,22 +69,22 @@ module _ (clients : ℕ) (seed : List ℕ) (x : Parts) (w : TransferFrames) (dif
   abbrev page_given : Body
   page_given = record { sender = 1; message = Page 16 0 x.text }
 
-  hears1 : authentic (members c) 0 (w.checkpoint 1) ≡ Some (checkpoint_of 1)
+  hears1 : authentic (members c 0) 0 (w.checkpoint 1) ≡ Some (checkpoint_of 1)
   hears1 = (f.checkpoints 1 (omega arith) (omega arith)).is_authentic_to 0 (inl refl)
 
-  hears2 : authentic (members c) 0 (w.checkpoint 2) ≡ Some (checkpoint_of 2)
+  hears2 : authentic (members c 0) 0 (w.checkpoint 2) ≡ Some (checkpoint_of 2)
   hears2 = (f.checkpoints 2 (omega arith) (omega arith)).is_authentic_to 0 (inl refl)
 
-  hears3 : authentic (members c) 0 (w.checkpoint 3) ≡ Some (checkpoint_of 3)
+  hears3 : authentic (members c 0) 0 (w.checkpoint 3) ≡ Some (checkpoint_of 3)
   hears3 = (f.checkpoints 3 (omega arith) (omega arith)).is_authentic_to 0 (inl refl)
 
-  hears_root : authentic (members c) 0 w.below_root ≡ Some root_given
+  hears_root : authentic (members c 0) 0 w.below_root ≡ Some root_given
   hears_root = f.gives_root.is_authentic_to 0 (inl refl)
 
-  hears_inner : authentic (members c) 0 w.below_inner ≡ Some inner_given
+  hears_inner : authentic (members c 0) 0 w.below_inner ≡ Some inner_given
   hears_inner = f.gives_inner.is_authentic_to 0 (inl refl)
 
-  hears_page : authentic (members c) 0 w.page ≡ Some page_given
+  hears_page : authentic (members c 0) 0 w.page ≡ Some page_given
   hears_page = f.gives_page.is_authentic_to 0 (inl refl)
 
   -- ---- whose checkpoints there are

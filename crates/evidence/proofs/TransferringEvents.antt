@@ -54,7 +54,7 @@ module _ (clients : ℕ) (seed root : List ℕ) where
   -- a message that the replica receives, and the proof obligations of its event
   record Due (before : List Entry) (bytes : List ℕ) (outputs now : List Entry) : Type 0 where
     pub body : Body
-    pub receives : authentic (members c) 0 bytes ≡ Some body
+    pub receives : authentic (members c 0) 0 bytes ≡ Some body
     pub given : IsGiven body.message
     pub numbers_once : AtOutputs (NumbersOnce c 0) (Got 0 bytes ∷ before) outputs
     pub none_executed : (n : ℕ) → Has (λ e. Executes n [] e) outputs → ⊥
@@ -87,17 +87,17 @@ module _ (clients : ℕ) (seed root : List ℕ) where
     dropped = λ other is drops. due.dropped (subst (λ (bs : List ℕ). IsDropped c 0 before first_point bs) (sym (same_bytes other is)) drops);
   }
     where
-      given_is : (other : Body) → authentic (members c) 0 bytes ≡ Some other → IsGiven other.message
+      given_is : (other : Body) → authentic (members c 0) 0 bytes ≡ Some other → IsGiven other.message
       given_is other h = subst (λ (x : Body). IsGiven x.message) (some_injective due.body other (sym due.receives ∙ h)) due.given
 
-      part_is : (n : ℕ) (other : Body) → authentic (members c) 0 bytes ≡ Some other → IsPartOf n other.message → IsPartOf n due.body.message
+      part_is : (n : ℕ) (other : Body) → authentic (members c 0) 0 bytes ≡ Some other → IsPartOf n other.message → IsPartOf n due.body.message
       part_is n other h part = subst (λ (x : Body). IsPartOf n x.message) (some_injective other due.body (sym h ∙ due.receives)) part
 
       same_bytes : (other : List ℕ) → Got 0 bytes ≡ Got 0 other → bytes ≡ other
       same_bytes other is = cc
 
   -- a message other than a request leaves the point as it is
-  pub gets : (before : List Entry) (bytes : List ℕ) (body : Body) → authentic (members c) 0 bytes ≡ Some body → IsGiven body.message → IsStep c 0 before first_point (Got 0 bytes) first_point
+  pub gets : (before : List Entry) (bytes : List ℕ) (body : Body) → authentic (members c 0) 0 bytes ≡ Some body → IsGiven body.message → IsStep c 0 before first_point (Got 0 bytes) first_point
   gets before bytes body h given = record { own = refl; may = tt; moves = quiet }
     where
       quiet : first_point ≡ record first_point { ran = []; waiting = waiting_after c 0 first_point bytes }
@@ -128,7 +128,7 @@ module _ (clients : ℕ) (seed root : List ℕ) where
       }
 
   -- a checkpoint of no quorum, after which nothing is sent
-  pub goes_quiet : (before : List Entry) (bytes : List ℕ) (body : Body) (p : ℕ → Bool) (asked : Option (ℕ × (Level × ℕ))) (k : ℕ) → authentic (members c) 0 bytes ≡ Some body → IsGiven body.message
+  pub goes_quiet : (before : List Entry) (bytes : List ℕ) (body : Body) (p : ℕ → Bool) (asked : Option (ℕ × (Level × ℕ))) (k : ℕ) → authentic (members c 0) 0 bytes ≡ Some body → IsGiven body.message
       → ((n : ℕ) → IsPartOf n body.message → ⊥) → At (Got 0 bytes ∷ before) p asked k → nat_le 3 (count_below p 4) ≡ false → Proceeding before → Proceeding (Got 0 bytes ∷ before)
   goes_quiet before bytes body p asked k h given no_part st few was = (first_point, gets before bytes body h given, (owes before bytes [] (Got 0 bytes ∷ before) p asked k st due, was))
     where
@@ -147,7 +147,7 @@ module _ (clients : ℕ) (seed root : List ℕ) where
       }
 
   -- the replica answers a message that counts by one fetch, of the root if no transfer of 16 is open yet
-  pub goes_on : (before : List Entry) (bytes sent : List ℕ) (body : Body) (index : ℕ) (level : Level) (p : ℕ → Bool) → authentic (members c) 0 bytes ≡ Some body → IsGiven body.message
+  pub goes_on : (before : List Entry) (bytes sent : List ℕ) (body : Body) (index : ℕ) (level : Level) (p : ℕ → Bool) → authentic (members c 0) 0 bytes ≡ Some body → IsGiven body.message
       → ((n : ℕ) → IsPartOf n body.message → 16 ≡ n) → IsFrameFrom c 0 (Fetch 16 level index) (others c 0) sent → At (Sent 0 sent ∷ Got 0 bytes ∷ before) p (Some (16, (level, index))) 16
       → MayFetch c 0 (Got 0 bytes ∷ before) first_point 16 level index → (fetching before ≡ 16) ⊎ ((level ≡ levels.Root) × (index ≡ 0)) → Counts c 0 before first_point bytes body.sender body.message
       → Proceeding before → Proceeding (Sent 0 sent ∷ Got 0 bytes ∷ before)

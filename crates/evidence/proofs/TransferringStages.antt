@@ -87,7 +87,7 @@ module _ (clients : ℕ) (seed root : List ℕ) where
     pub installs : installed_at e ≡ 0
     pub part : IsPart body.message
 
-  got : (bytes : List ℕ) (body : Body) → authentic (members c) 0 bytes ≡ Some body → IsPart body.message → Brings (Got 0 bytes) body
+  got : (bytes : List ℕ) (body : Body) → authentic (members c 0) 0 bytes ≡ Some body → IsPart body.message → Brings (Got 0 bytes) body
   got bytes body h part = record { brings = h; no_view = ap (option_and_then (new_view_from c)) h ∙ none_begins c body.sender body.message part; no_change = refl; installs = refl; part = part }
 
   sent : (bytes : List ℕ) (body : Body) → said bytes ≡ Some body → IsPart body.message → Brings (Sent 0 bytes) body
@@ -153,7 +153,7 @@ module _ (clients : ℕ) (seed root : List ℕ) where
 
   -- a checkpoint of another counts as its
   pub stage_checkpoint : (past : List Entry) (bytes : List ℕ) (r : ℕ) (p : ℕ → Bool) (asked : Option (ℕ × (Level × ℕ))) (k : ℕ) → Stage past p asked k → and_one p r 0 ≡ false
-      → authentic (members c) 0 bytes ≡ Some (record { sender = r; message = Checkpoint 16 root }) → Stage (Got 0 bytes ∷ past) (and_one p r) asked k
+      → authentic (members c 0) 0 bytes ≡ Some (record { sender = r; message = Checkpoint 16 root }) → Stage (Got 0 bytes ∷ past) (and_one p r) asked k
   stage_checkpoint past bytes r p asked k st own h =
       let body : Body = record { sender = r; message = Checkpoint 16 root } in
       next past (Got 0 bytes) body p (and_one p r) asked asked k k st (got bytes body h tt) own (λ s. one_more (p s) (r == s)) st.asked_is (let was = st.fetching_is in omega arith)
@@ -166,13 +166,13 @@ module _ (clients : ℕ) (seed root : List ℕ) where
 
   -- a received part leaves the stage as it is
   pub stage_meta : (past : List Entry) (bytes : List ℕ) (sender number index : ℕ) (level : Level) (digests : List (List ℕ)) (p : ℕ → Bool) (asked : Option (ℕ × (Level × ℕ))) (k : ℕ)
-      → Stage past p asked k → p 0 ≡ false → authentic (members c) 0 bytes ≡ Some (record { sender = sender; message = Meta number level index digests }) → Stage (Got 0 bytes ∷ past) p asked k
+      → Stage past p asked k → p 0 ≡ false → authentic (members c 0) 0 bytes ≡ Some (record { sender = sender; message = Meta number level index digests }) → Stage (Got 0 bytes ∷ past) p asked k
   stage_meta past bytes sender number index level digests p asked k st own h =
       let body : Body = record { sender = sender; message = Meta number level index digests } in
       next past (Got 0 bytes) body p p asked asked k k st (got bytes body h tt) own (λ s. refl) st.asked_is (let was = st.fetching_is in omega arith)
 
   pub stage_page : (past : List Entry) (bytes : List ℕ) (sender number index : ℕ) (text : List ℕ) (p : ℕ → Bool) (asked : Option (ℕ × (Level × ℕ))) (k : ℕ)
-      → Stage past p asked k → p 0 ≡ false → authentic (members c) 0 bytes ≡ Some (record { sender = sender; message = Page number index text }) → Stage (Got 0 bytes ∷ past) p asked k
+      → Stage past p asked k → p 0 ≡ false → authentic (members c 0) 0 bytes ≡ Some (record { sender = sender; message = Page number index text }) → Stage (Got 0 bytes ∷ past) p asked k
   stage_page past bytes sender number index text p asked k st own h =
       let body : Body = record { sender = sender; message = Page number index text } in
       next past (Got 0 bytes) body p p asked asked k k st (got bytes body h tt) own (λ s. refl) st.asked_is (let was = st.fetching_is in omega arith)

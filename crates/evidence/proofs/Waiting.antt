@@ -32,7 +32,7 @@ nothing_only c me r outputs is h =
 
 -- a client falls back at it, if at all
 reply_falls : (c : Configuration) (me s number : ℕ) (call : OpenCall) (mode : Mode) (answer : Outcome) (bytes : List ℕ) (past : List Entry)
-    → open_call past ≡ Some call → authentic (members c) me bytes ≡ Some (record { sender = s; message = Reply me call.timestamp mode number answer })
+    → open_call past ≡ Some call → authentic (members c me) me bytes ≡ Some (record { sender = s; message = Reply me call.timestamp mode number answer })
     → count_alike c me (Got me bytes ∷ past) call.timestamp (vote_in mode number answer) ≤ 2 * c.faults
     → reaction c me (Got me bytes ∷ past) ≡ fallback c me (Got me bytes ∷ past) call
 reply_falls c me s number call mode answer bytes past opened receives few =
@@ -132,25 +132,25 @@ falls_back_once c me s number call mode answer bytes later outputs past opened r
 -- ---- a message other than a reply to the open call, and a client without an open call
 
 module _ (c : Configuration) (me timestamp : ℕ) (bytes : List ℕ) (past : List Entry)
-    (never : (s number : ℕ) (mode : Mode) (answer : Outcome) → authentic (members c) me bytes ≡ Some (record { sender = s; message = Reply me timestamp mode number answer }) → ⊥) where
+    (never : (s number : ℕ) (mode : Mode) (answer : Outcome) → authentic (members c me) me bytes ≡ Some (record { sender = s; message = Reply me timestamp mode number answer }) → ⊥) where
   no_vote : newest_vote c me (Got me bytes ∷ past) timestamp ≡ None
-  no_vote = go (authentic (members c) me bytes) refl
+  no_vote = go (authentic (members c me) me bytes) refl
     where
-      reply : (s client t number : ℕ) (mode : Mode) (answer : Outcome) → authentic (members c) me bytes ≡ Some (record { sender = s; message = Reply client t mode number answer })
+      reply : (s client t number : ℕ) (mode : Mode) (answer : Outcome) → authentic (members c me) me bytes ≡ Some (record { sender = s; message = Reply client t mode number answer })
           → (b : Bool) → ((s == s) && (client == me) && (t == timestamp)) ≡ b → then_some b (vote_in mode number answer) ≡ None
       reply s client t number mode answer is false e = refl
       reply s client t number mode answer is true e =
           let k = and_parts ((s == s) && (client == me)) (t == timestamp) e in
           let l = and_parts (s == s) (client == me) k.0 in
           absurd (never s number mode answer
-          (subst (λ (n : ℕ). authentic (members c) me bytes ≡ Some (record { sender = s; message = Reply me n mode number answer })) (eqb-true t timestamp k.1)
-          (subst (λ (n : ℕ). authentic (members c) me bytes ≡ Some (record { sender = s; message = Reply n t mode number answer })) (eqb-true client me l.1) is)))
+          (subst (λ (n : ℕ). authentic (members c me) me bytes ≡ Some (record { sender = s; message = Reply me n mode number answer })) (eqb-true t timestamp k.1)
+          (subst (λ (n : ℕ). authentic (members c me) me bytes ≡ Some (record { sender = s; message = Reply n t mode number answer })) (eqb-true client me l.1) is)))
 
-      message : (s : ℕ) (m : Message) → authentic (members c) me bytes ≡ Some (record { sender = s; message = m }) → reply_vote me timestamp s (record { sender = s; message = m }) ≡ None
+      message : (s : ℕ) (m : Message) → authentic (members c me) me bytes ≡ Some (record { sender = s; message = m }) → reply_vote me timestamp s (record { sender = s; message = m }) ≡ None
       message s (Reply client t mode number answer) is = reply s client t number mode answer is ((s == s) && (client == me) && (t == timestamp)) refl
       message s _ is = refl
 
-      go : (o : Option Body) → authentic (members c) me bytes ≡ o → option_and_then (λ (body : Body). reply_vote me timestamp body.sender body) o ≡ None
+      go : (o : Option Body) → authentic (members c me) me bytes ≡ o → option_and_then (λ (body : Body). reply_vote me timestamp body.sender body) o ≡ None
       go None is = refl
       go (Some body) is = message body.sender body.message is
 

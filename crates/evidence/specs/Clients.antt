@@ -18,7 +18,7 @@ abbrev pub ReceivedIsLatest : Type 0
 ReceivedIsLatest =
     (c : Configuration) (me s timestamp number : ℕ) (mode : Mode) (answer : Outcome) (bytes : List ℕ)
     (past : List Entry)
-    → authentic (members c) me bytes ≡ Some (record { sender = s; message = Reply me timestamp mode number answer })
+    → authentic (members c me) me bytes ≡ Some (record { sender = s; message = Reply me timestamp mode number answer })
     → latest c me (Got me bytes ∷ past) timestamp mode s
     ≡ Some (record { mode = mode; number = number; answer = answer })
 
@@ -46,7 +46,7 @@ WaitsForAnswers =
     (c : Configuration) (me s r number : ℕ) (call : OpenCall) (mode : Mode) (answer : Outcome) (bytes later : List ℕ)
     (outputs past : List Entry)
     → open_call past ≡ Some call
-    → authentic (members c) me bytes
+    → authentic (members c me) me bytes
     ≡ Some (record { sender = s; message = Reply me call.timestamp mode number answer })
     → count_alike c me (Got me bytes ∷ past) call.timestamp
     (record { mode = mode; number = number; answer = answer }) ≤ 2 * c.faults
@@ -59,7 +59,7 @@ FallsBackOnce =
     (c : Configuration) (me s number : ℕ) (call : OpenCall) (mode : Mode) (answer : Outcome) (bytes later : List ℕ)
     (outputs past : List Entry)
     → open_call past ≡ Some call
-    → authentic (members c) me bytes
+    → authentic (members c me) me bytes
     ≡ Some (record { sender = s; message = Reply me call.timestamp mode number answer })
     → count_alike c me (Got me bytes ∷ past) call.timestamp
     (record { mode = mode; number = number; answer = answer }) ≤ 2 * c.faults
@@ -72,7 +72,7 @@ IgnoresOthers =
     (c : Configuration) (me : ℕ) (call : OpenCall) (bytes later : List ℕ) (outputs past : List Entry)
     → open_call past ≡ Some call
     → ((s number : ℕ) (mode : Mode) (answer : Outcome)
-    → authentic (members c) me bytes
+    → authentic (members c me) me bytes
     ≢ Some (record { sender = s; message = Reply me call.timestamp mode number answer }))
     → AreOutputs outputs → IsClient c me (going_on me later outputs (Got me bytes) past) → outputs ≡ []
 

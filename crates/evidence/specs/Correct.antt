@@ -5,7 +5,7 @@ use Rattle.terms.specs.declared.order.Mode.{Mode}
 use Rattle.terms.specs.declared.order.Mode.TheVariants as modes
 use Rattle.wire_format.specs.Messages.{FrameData as Frame, MacData, macs, request as Request}
 use Rattle.authenticator.specs.Authentic.{mac_of}
-use Rattle.protocol.specs.System.Configuration.{Configuration}
+use Rattle.protocol.specs.System.Configuration.{Configuration, members}
 use Rattle.wire_format.specs.Words.{frame_of, said}
 use Rattle.protocol.specs.System.Trace.{Entry, party_of, Always}
 use Rattle.protocol.specs.System.Trace.Entry.{Sent}
@@ -29,7 +29,7 @@ abbrev pub SealsRequests : Type 0
 SealsRequests =
     (c : Configuration) (me : ℕ) (bytes : List ℕ) (frame : Frame) (entries : List MacData) (past : List Entry)
     → frame_of bytes ≡ Some frame → frame.authenticator ≡ macs entries → IsClient c me (Sent me bytes ∷ past)
-    → All (λ x. x.mac ≡ mac_of c.seed x.receiver frame.body) entries
+    → All (λ x. x.mac ≡ mac_of (members c me).keys x.receiver frame.body) entries
 
 -- A safe client's frame is its request for the open call, read-only for a read alone.
 abbrev pub AsksItsCall : Type 0

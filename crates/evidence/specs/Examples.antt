@@ -7,6 +7,7 @@ use Rattle.tuple_codec.specs.Operations.{Operation, IsOperation}
 use Rattle.protocol.specs.System.Configuration.{Configuration, IsConfiguration, is_correct_client, members}
 use Rattle.wire_format.specs.Messages.{FrameData as Frame, ViewChangeData, pre_prepare as PrePrepare, prepare as Prepare, commit as Commit}
 use Rattle.signing.specs.AuthenticBody.{authentic}
+use Rattle.signing.specs.Publics.{derived_publics}
 use Rattle.wire_format.specs.Words.{frame_of, said, receivers_of}
 use Rattle.protocol.specs.System.Frames.{IsSealed}
 use Rattle.protocol.specs.System.Trace.{Entry}
@@ -20,21 +21,29 @@ use Rattle.protocol.specs.System.Run.{IsRun}
 -- four replicas, none of them faulty
 abbrev pub four : ℕ → List ℕ → Configuration
 four clients seed =
-    record { faults = 1; clients = clients; seed = seed; period = 16; faulty_replicas = []; faulty_clients = [] }
+    record {
+      faults = 1;
+      clients = clients;
+      seed = seed;
+      publics = derived_publics seed 1;
+      period = 16;
+      faulty_replicas = [];
+      faulty_clients = [];
+    }
 
 -- What replica 1 gets and sends for the first batch in view 0: the primary's pre-prepare, prepares of 1 and 2, and
 -- commits of 1, 0 and 2.
 pub record IsFirstBatch (c : Configuration)
     (batch pre_prepare own_prepare other_prepare own_commit first_commit second_commit : List ℕ) : Type 0 where
-  pub proposed : authentic (members c) 1 pre_prepare ≡ Some (record { sender = 0; message = PrePrepare 0 1 batch })
+  pub proposed : authentic (members c 1) 1 pre_prepare ≡ Some (record { sender = 0; message = PrePrepare 0 1 batch })
   pub genuine : are_genuine c 1 batch ≡ true
   pub prepares : said own_prepare ≡ Some (record { sender = 1; message = Prepare 0 1 (sha256 batch) })
-  pub other_prepares : authentic (members c) 1 other_prepare
+  pub other_prepares : authentic (members c 1) 1 other_prepare
       ≡ Some (record { sender = 2; message = Prepare 0 1 (sha256 batch) })
   pub commits : said own_commit ≡ Some (record { sender = 1; message = Commit 0 1 (sha256 batch) })
-  pub first_commits : authentic (members c) 1 first_commit
+  pub first_commits : authentic (members c 1) 1 first_commit
       ≡ Some (record { sender = 0; message = Commit 0 1 (sha256 batch) })
-  pub second_commits : authentic (members c) 1 second_commit
+  pub second_commits : authentic (members c 1) 1 second_commit
       ≡ Some (record { sender = 2; message = Commit 0 1 (sha256 batch) })
   pub prepare_sealed : (frame : Frame) → frame_of own_prepare ≡ Some frame
       → IsSealed c frame × (receivers_of frame.authenticator ≡ others c 1)

@@ -27,7 +27,7 @@ pub record IsAnswer (c : Configuration) (sender receiver : ℕ) (message : Messa
 abbrev pub FirstReadIsAnswered : Type 0
 FirstReadIsAnswered =
     (clients : ℕ) (seed : List ℕ) (me client timestamp : ℕ) (op : Operation) (read reply : List ℕ)
-    → authentic (members (four clients seed)) me read
+    → authentic (members (four clients seed) me) me read
     ≡ Some (record { sender = client; message = Request timestamp modes.ReadOnly op }) → is_read_only op ≡ true
     → IsAnswer (four clients seed) me client
     (Reply client timestamp modes.ReadOnly 0 (outcome no_tuples (client_number client) op)) reply
@@ -37,7 +37,7 @@ FirstReadIsAnswered =
 abbrev pub FirstFetchIsAnswered : Type 0
 FirstFetchIsAnswered =
     (clients : ℕ) (seed : List ℕ) (me other : ℕ) (fetch digests : List ℕ) (frame : Frame)
-    → authentic (members (four clients seed)) me fetch
+    → authentic (members (four clients seed) me) me fetch
     ≡ Some (record { sender = other; message = Fetch 0 levels.Root 0 })
     → frame_of digests ≡ Some frame
     → IsAnswer (four clients seed) me other (Meta 0 levels.Root 0 (digests_at opening levels.Root 0)) digests

@@ -3,7 +3,7 @@
 use Rattle.std.specs.Prelude.{◌≡◌, ◌≢◌, ℕ, List, [], ◌∷◌, Some}
 use Rattle.sha2.specs.Sha256.{sha256}
 use Rattle.wire_format.specs.Messages.{FrameData as Frame, MessageData as Message, ViewChangeData, NewViewData, prepare as Prepare, view_change as ViewChange, new_view as NewView}
-use Rattle.protocol.specs.System.Configuration.{Configuration, members}
+use Rattle.protocol.specs.System.Configuration.{Configuration, signers}
 use Rattle.signing.specs.AuthenticBody.{signed_body}
 use Rattle.wire_format.specs.Words.{frame_of, said, receivers_of}
 use Rattle.protocol.specs.System.Frames.{IsSealed, leaf_of}
@@ -23,7 +23,7 @@ beginning_change =
 -- The bytes are this view change, signed by the sender.
 abbrev pub ChangesInBeginning : Configuration → ℕ → List ℕ → Type 0
 ChangesInBeginning c sender bytes =
-    signed_body (members c) bytes ≡ Some (record { sender = sender; message = ViewChange beginning_change })
+    signed_body (signers c) bytes ≡ Some (record { sender = sender; message = ViewChange beginning_change })
 
 -- A replica that gets the view changes of two different replicas for view 1 in the beginning, and sends its own at the
 -- second, is a right one, unless it is the primary of view 1, which has a new view to send then.
@@ -47,7 +47,7 @@ ItsViewBegins =
     (clients : ℕ) (seed first second own new_view : List ℕ)
     → ChangesInBeginning (four clients seed) 2 first → ChangesInBeginning (four clients seed) 3 second
     → ChangesInBeginning (four clients seed) 1 own
-    → signed_body (members (four clients seed)) new_view
+    → signed_body (signers (four clients seed)) new_view
     ≡ Some (record { sender = 1; message = NewView (beginning_view (root_of opening) own first second) })
     → leaf_of own ≢ leaf_of new_view
     → IsReplica (four clients seed) 1 (Sent 1 new_view ∷ Sent 1 own ∷ Got 1 second ∷ Got 1 first ∷ [])
@@ -71,7 +71,7 @@ NewViewsAreTaken =
     → signed_change (four clients seed) a ≡ Some (1, holding batch root)
     → signed_change (four clients seed) b ≡ Some (2, holding batch root)
     → signed_change (four clients seed) d ≡ Some (3, holding batch root)
-    → signed_body (members (four clients seed)) new_view
+    → signed_body (signers (four clients seed)) new_view
     ≡ Some (record { sender = 1; message = NewView (holding_view batch root a b d) })
     → IsForOthers (four clients seed) me (Prepare 1 1 (sha256 batch)) prepare
     → IsReplica (four clients seed) me (Sent me prepare ∷ Got me new_view ∷ [])

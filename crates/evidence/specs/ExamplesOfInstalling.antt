@@ -34,16 +34,16 @@ pub record InstallFrames : Type 0 where
 -- The replicas 1 to 3 have checkpoints with its root, replica 0 asks, and replica 1 answers.
 pub record AreInstallFrames (c : Configuration) (w : InstallFrames) : Type 0 where
   pub checkpoints : (r : ℕ) → 0 < r → r < replicas c
-      → authentic (members c) 0 (w.checkpoint r)
+      → authentic (members c 0) 0 (w.checkpoint r)
       ≡ Some (record { sender = r; message = Checkpoint 16 (root_of later_state) })
   pub asks_root : IsFrameFrom c 0 (Fetch 16 levels.Root 0) (others c 0) w.fetch_root
-  pub gives_root : authentic (members c) 0 w.below_root
+  pub gives_root : authentic (members c 0) 0 w.below_root
       ≡ Some (record { sender = 1; message = Meta 16 levels.Root 0 (digests_at later_state levels.Root 0) })
   pub asks_inner : IsFrameFrom c 0 (Fetch 16 levels.Inner 16) (others c 0) w.fetch_inner
-  pub gives_inner : authentic (members c) 0 w.below_inner
+  pub gives_inner : authentic (members c 0) 0 w.below_inner
       ≡ Some (record { sender = 1; message = Meta 16 levels.Inner 16 (digests_at later_state levels.Inner 16) })
   pub asks_header : IsFrameFrom c 0 (Fetch 16 levels.Page 512) (others c 0) w.fetch_header
-  pub gives_header : authentic (members c) 0 w.header
+  pub gives_header : authentic (members c 0) 0 w.header
       ≡ Some (record { sender = 1; message = Page 16 512 (header_text later_state.space 16) })
 
 -- The digests differ where the pages do: first that of inner part 16, and in it that of the header.

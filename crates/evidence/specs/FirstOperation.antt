@@ -1,6 +1,6 @@
 -- The first operation of a client at four replicas, whole: each frame that a right party sends, and the trace that they
 -- make when each frame is delivered in turn.
-use Rattle.std.specs.Prelude.{◌≡◌, ℕ, ◌<◌, ◌≤◌, true, false, List, [], ◌∷◌, length, reverse, Some}
+use Rattle.std.specs.Prelude.{◌≡◌, ℕ, ◌<◌, ◌≤◌, true, false, List, [], ◌∷◌, length, reverse, Some, All}
 use Rattle.sha2.specs.Sha256.{sha256}
 use Rattle.tuple_codec.specs.Operations.{Operation, Outcome, IsOperation}
 use Rattle.space.specs.Applying.{outcome, is_read_only}
@@ -8,8 +8,9 @@ use Rattle.terms.specs.declared.order.Mode.TheVariants as modes
 use Rattle.wire_format.specs.Messages.{FrameData as Frame, MessageData as Message, MacData, macs, request as Request, pre_prepare as PrePrepare, prepare as Prepare, commit as Commit, reply as Reply}
 use Rattle.wire_format.specs.Spelling.{IsMessage, is_signed, frame_limit, body_spelling}
 use Rattle.wire_format.specs.Words.{requests_of, frame_of, said, receivers_of}
+use Rattle.authenticator.specs.Laws.{is_peer}
 use Rattle.authenticator.specs.Membership.{sends}
-use Rattle.protocol.specs.System.Configuration.{Configuration, IsConfiguration, replicas, members}
+use Rattle.protocol.specs.System.Configuration.{Configuration, IsConfiguration, replicas, members, signers}
 use Rattle.signing.specs.AuthenticBody.{authentic}
 use Rattle.protocol.specs.System.Frames.{IsSealed}
 use Rattle.protocol.specs.System.Trace.{Entry, history_of, Has, Unforged}
@@ -42,7 +43,7 @@ pub record IsFrameFrom (c : Configuration) (sender : ℕ) (message : Message) (r
   pub is_sealed : IsSealed c frame
   pub is_for : receivers_of frame.authenticator ≡ receivers
   pub is_authentic_to : (p : ℕ) → Has (λ r. r ≡ p) receivers
-      → authentic (members c) p bytes ≡ Some (record { sender = sender; message = message })
+      → authentic (members c p) p bytes ≡ Some (record { sender = sender; message = message })
 
 -- client 0's answer
 abbrev pub first_answer : Operation → Outcome
@@ -134,13 +135,13 @@ FirstFramesExist =
     → is_read_only op ≡ false
     → (batch : List ℕ) × (w : FirstFrames) × AreFirstFrames (four clients seed) op batch w
 
--- If a party of the right sort seals a message for others, it is authentic to each of them. The message must be one
--- that may be sent and goes with MACs, and the frame must not be too long.
+-- If a party of the right sort seals a message for parties that it exchanges frames with, it is authentic to each of
+-- them. The message must be one that may be sent and goes with MACs, and the frame must not be too long.
 abbrev pub SealedFramesAreAuthentic : Type 0
 SealedFramesAreAuthentic =
     (c : Configuration) → IsConfiguration c → (sender : ℕ) (message : Message) (receivers : List ℕ)
-    → sends (members c) sender message ≡ true → IsMessage message → is_signed message ≡ false → AreReceivers c receivers
-    → (Has (λ r. r ≡ sender) receivers → ⊥)
+    → sends (signers c) sender message ≡ true → IsMessage message → is_signed message ≡ false → AreReceivers c receivers
+    → All (λ p. is_peer c.faults c.clients sender p ≡ true) receivers
     → length (sealed_bytes c sender receivers
     (body_spelling (record { sender = sender; message = message }))) ≤ frame_limit message
     → IsFrameFrom c sender message receivers

@@ -23,7 +23,7 @@ pub record ReadCall : Type 0 where
 -- Each reply is read-only, with the number 1, and the client receives it.
 abbrev pub IsReadOf : Configuration → ℕ → ReadCall → Type 0
 IsReadOf c k read =
-    (r : ℕ) → r < 4 → authentic (members c) (client_party k) (read.reply r)
+    (r : ℕ) → r < 4 → authentic (members c (client_party k)) (client_party k) (read.reply r)
     ≡ Some (record { sender = r; message = Reply (client_party k) 1 modes.ReadOnly 1 read.answer })
 
 -- the client calls its read and asks for it

@@ -8,9 +8,10 @@ use Rattle.terms.specs.declared.parties.TheConstants.{MAX_CLIENTS}
 use Rattle.tuple_codec.specs.Operations.{Operation, IsOperation}
 use Rattle.partition_tree.specs.Digests.{inner_digests, page_digests}
 use Rattle.wire_format.specs.Messages.{BodyData as Body, MessageData as Message, pre_prepare as PrePrepare, new_view as NewView, meta as Meta, page as Page}
-use Rattle.protocol.specs.System.Configuration.{Configuration, IsConfiguration, replicas, is_correct_replica, is_correct_client, is_correct, primary, members}
+use Rattle.protocol.specs.System.Configuration.{Configuration, IsConfiguration, replicas, is_correct_replica, is_correct_client, is_correct, primary, members, signers}
 use Rattle.wire_format.specs.Words.{said}
 use Rattle.signing.specs.AuthenticBody.{authentic, signed_body}
+use Rattle.signing.specs.Publics.{derived_publics}
 use Rattle.protocol.specs.System.Trace.{Entry, history_of, Once, Always, Has, frames_in, SendsBody, Unforged}
 use Rattle.protocol.specs.System.Trace.Entry.{Invoke, Got, Tick, Executed, Installed, Sent}
 use Rattle.protocol.specs.Replica.Selection.{null_batch}
@@ -31,6 +32,7 @@ widest seed faulty_replicas faulty_clients =
       faults = 3;
       clients = 256;
       seed = seed;
+      publics = derived_publics seed 3;
       period = 16;
       faulty_replicas = faulty_replicas;
       faulty_clients = faulty_clients;
@@ -45,7 +47,16 @@ WidestIsValid =
 
 -- Four replicas and one client, none of them faulty, and the shortest period.
 abbrev pub narrowest : List ℕ → Configuration
-narrowest seed = record { faults = 1; clients = 1; seed = seed; period = 1; faulty_replicas = []; faulty_clients = [] }
+narrowest seed =
+    record {
+      faults = 1;
+      clients = 1;
+      seed = seed;
+      publics = derived_publics seed 1;
+      period = 1;
+      faulty_replicas = [];
+      faulty_clients = [];
+    }
 
 abbrev pub NarrowestIsValid : Type 0
 NarrowestIsValid = (seed : List ℕ) → length seed ≡ 32 → IsConfiguration (narrowest seed)
@@ -131,7 +142,7 @@ MayBeTaken c past (Some body) = (is_correct c body.sender ≡ false) ⊎ Once (S
 -- Each body that the party receives from the frame, or that the frame carries signed, is such.
 abbrev pub MayBeGot : Configuration → ℕ → List Entry → List ℕ → Type 0
 MayBeGot c me past bytes =
-    MayBeTaken c past (authentic (members c) me bytes) × MayBeTaken c past (signed_body (members c) bytes)
+    MayBeTaken c past (authentic (members c me) me bytes) × MayBeTaken c past (signed_body (signers c) bytes)
 
 -- Frames of which each may be got, any party may get,
 abbrev pub FramesMayBeGot : Type 0

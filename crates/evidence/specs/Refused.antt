@@ -95,7 +95,7 @@ ProposesAuthentic =
     (c : Configuration) (me v i : ℕ) (batch bytes request : List ℕ) (past : List Entry)
     → said bytes ≡ Some (record { sender = me; message = PrePrepare v i batch })
     → SafeReplica c me (Sent me bytes ∷ past)
-    → Has (λ x. x ≡ request) (requests_of batch) → (body : Body) × (authentic (members c) me request ≡ Some body)
+    → Has (λ x. x ≡ request) (requests_of batch) → (body : Body) × (authentic (members c me) me request ≡ Some body)
 
 -- A pre-prepare by another than the view's primary, for a number outside the marks, or of a view after a view change
 -- above it.
@@ -346,13 +346,13 @@ abbrev pub SealsWell : Type 0
 SealsWell =
     (c : Configuration) (me : ℕ) (bytes : List ℕ) (frame : Frame) (entries : List MacData) (past : List Entry)
     → frame_of bytes ≡ Some frame → frame.authenticator ≡ macs entries → SafeReplica c me (Sent me bytes ∷ past)
-    → All (λ x. x.mac ≡ mac_of c.seed x.receiver frame.body) entries
+    → All (λ x. x.mac ≡ mac_of (members c me).keys x.receiver frame.body) entries
 
 abbrev pub SignsWell : Type 0
 SignsWell =
     (c : Configuration) (me : ℕ) (bytes s : List ℕ) (frame : Frame) (past : List Entry)
     → frame_of bytes ≡ Some frame → frame.authenticator ≡ signature s → SafeReplica c me (Sent me bytes ∷ past)
-    → has_signature c.seed frame ≡ true
+    → has_signature c.publics frame ≡ true
 
 -- Two frames of different bytes, signed by one leaf, the first byte of their signatures.
 abbrev pub SignsOnceByLeaf : Type 0
@@ -375,14 +375,14 @@ abbrev pub DropsUnaskedDigests : Type 0
 DropsUnaskedDigests =
     (c : Configuration) (me s k index : ℕ) (level : Level) (digests : List (List ℕ)) (bytes later : List ℕ)
     (past : List Entry)
-    → authentic (members c) me bytes ≡ Some (record { sender = s; message = Meta k level index digests })
+    → authentic (members c me) me bytes ≡ Some (record { sender = s; message = Meta k level index digests })
     → asked_last past ≢ Some (k, (level, index))
     → IsReplica c me (Sent me later ∷ Got me bytes ∷ past) → ⊥
 
 abbrev pub DropsUnaskedPages : Type 0
 DropsUnaskedPages =
     (c : Configuration) (me s k index : ℕ) (text bytes later : List ℕ) (past : List Entry)
-    → authentic (members c) me bytes ≡ Some (record { sender = s; message = Page k index text })
+    → authentic (members c me) me bytes ≡ Some (record { sender = s; message = Page k index text })
     → asked_last past ≢ Some (k, (levels.Page, index))
     → IsReplica c me (Sent me later ∷ Got me bytes ∷ past) → ⊥
 
@@ -391,7 +391,7 @@ abbrev pub DropsReplies : Type 0
 DropsReplies =
     (c : Configuration) (me s client timestamp number : ℕ) (mode : Mode) (answer : Outcome) (bytes later : List ℕ)
     (past : List Entry)
-    → authentic (members c) me bytes ≡ Some (record { sender = s; message = Reply client timestamp mode number answer })
+    → authentic (members c me) me bytes ≡ Some (record { sender = s; message = Reply client timestamp mode number answer })
     → IsReplica c me (Sent me later ∷ Got me bytes ∷ past) → ⊥
 
 -- A frame that answers one in the replica's own name.
@@ -475,7 +475,7 @@ abbrev pub AnswersReads : Type 0
 AnswersReads =
     (c : Configuration) (me client timestamp : ℕ) (op : Operation) (answer : Outcome) (bytes : List ℕ)
     (outputs past : List Entry)
-    → authentic (members c) me bytes ≡ Some (record { sender = client; message = Request timestamp modes.ReadOnly op })
+    → authentic (members c me) me bytes ≡ Some (record { sender = client; message = Request timestamp modes.ReadOnly op })
     → is_read_only op ≡ true
     → AtEachPoint c me past (λ point. outcome (tuples point.state) (client_number client) op ≡ answer)
     → ReplicaGoesOn c me outputs (Got me bytes) past
@@ -485,7 +485,7 @@ AnswersReads =
 abbrev pub AnswersDigestFetches : Type 0
 AnswersDigestFetches =
     (c : Configuration) (me s index : ℕ) (level : Level) (st : State) (bytes : List ℕ) (outputs past : List Entry)
-    → authentic (members c) me bytes ≡ Some (record { sender = s; message = Fetch st.number level index })
+    → authentic (members c me) me bytes ≡ Some (record { sender = s; message = Fetch st.number level index })
     → has_children level ≡ true
     → AtEachPoint c me past (λ point. Has (λ x. x ≡ st) (kept_states (low c me past) point.snapshots))
     → ReplicaGoesOn c me outputs (Got me bytes) past
@@ -494,7 +494,7 @@ AnswersDigestFetches =
 abbrev pub AnswersPageFetches : Type 0
 AnswersPageFetches =
     (c : Configuration) (me s index : ℕ) (st : State) (bytes : List ℕ) (outputs past : List Entry)
-    → authentic (members c) me bytes ≡ Some (record { sender = s; message = Fetch st.number levels.Page index })
+    → authentic (members c me) me bytes ≡ Some (record { sender = s; message = Fetch st.number levels.Page index })
     → AtEachPoint c me past (λ point. Has (λ x. x ≡ st) (kept_states (low c me past) point.snapshots))
     → ReplicaGoesOn c me outputs (Got me bytes) past
     → SendsMessageTo me s (Page st.number index (page_text st index)) outputs
@@ -504,7 +504,7 @@ AnswersPageFetches =
 abbrev pub AsksOn : Type 0
 AsksOn =
     (c : Configuration) (me s k : ℕ) (digests : List (List ℕ)) (bytes : List ℕ) (outputs past : List Entry)
-    → authentic (members c) me bytes ≡ Some (record { sender = s; message = Meta k levels.Root 0 digests })
+    → authentic (members c me) me bytes ≡ Some (record { sender = s; message = Meta k levels.Root 0 digests })
     → asked_last past ≡ Some (k, (levels.Root, 0)) → newest_number past < k
     → IsRootWanted c past k (digest_of_children digests)
     → ((other : List ℕ) → IsRootWanted c (Got me bytes ∷ past) k other → other ≡ digest_of_children digests)
@@ -517,7 +517,7 @@ AsksOn =
 abbrev pub InstallsFetched : Type 0
 InstallsFetched =
     (c : Configuration) (me s k index : ℕ) (text bytes : List ℕ) (outputs past : List Entry)
-    → authentic (members c) me bytes ≡ Some (record { sender = s; message = Page k index text })
+    → authentic (members c me) me bytes ≡ Some (record { sender = s; message = Page k index text })
     → asked_last past ≡ Some (k, (levels.Page, index)) → newest_number past < k
     → IsPageWanted c me past k index (sha256 text)
     → ((other : List ℕ) → IsPageWanted c me past k index other → other ≡ sha256 text)
@@ -532,7 +532,7 @@ InstallsFetched =
 abbrev pub AnswersAgain : Type 0
 AnswersAgain =
     (c : Configuration) (me k : ℕ) (op : Operation) (kept : Kept) (bytes : List ℕ) (outputs past : List Entry)
-    → authentic (members c) me bytes
+    → authentic (members c me) me bytes
     ≡ Some (record { sender = client_party k; message = Request kept.timestamp modes.Ordered op })
     → AtEachPoint c me past (λ point. kept_of point.state k ≡ Some kept)
     → ReplicaGoesOn c me outputs (Got me bytes) past

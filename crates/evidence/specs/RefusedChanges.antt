@@ -155,7 +155,7 @@ CallsOperations =
 -- The input, of this sender and message, is answered by a frame.
 pub record FrameAnswersInput (c : Configuration) (me s : ℕ) (message : Message) (bytes : List ℕ)
     (past : List Entry) : Type 0 where
-  pub receives : authentic (members c) me bytes ≡ Some (record { sender = s; message = message })
+  pub receives : authentic (members c me) me bytes ≡ Some (record { sender = s; message = message })
   pub later : List ℕ
   pub is_replica : IsReplica c me (Sent me later ∷ Got me bytes ∷ past)
 
@@ -350,7 +350,7 @@ DropsOtherPages =
 abbrev pub WaitsOnceGot : Type 0
 WaitsOnceGot =
     (c : Configuration) (me k timestamp : ℕ) (op : Operation) (bytes : List ℕ) (past : List Entry)
-    → authentic (members c) me bytes
+    → authentic (members c me) me bytes
     ≡ Some (record { sender = client_party k; message = Request timestamp modes.Ordered op })
     → k < c.clients
     → AtEachPoint c me past

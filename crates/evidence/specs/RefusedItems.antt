@@ -51,7 +51,7 @@ abbrev pub IsAskedAt : Configuration → Item → Entry → Type 0
 IsAskedAt c item e =
     (p : ℕ) × (bytes frame : List ℕ) × (e ≡ Got p bytes) × (is_correct_replica c p ≡ true)
     × Has (λ x. x ≡ frame) (frames_in bytes)
-    × (authentic (members c) p frame
+    × (authentic (members c p) p frame
     ≡ Some (record { sender = item.client; message = Request item.timestamp modes.Ordered item.op }))
 
 -- A list with an item of a faulty client for which no correct replica had been asked by its position.

@@ -1,7 +1,7 @@
 -- Small histories that the definitions of a new view's view changes, of the low mark and of checkpoints refuse.
 use Rattle.std.specs.Prelude.{◌≡◌, ℕ, ◌+◌, ◌*◌, ◌^◌, ◌≤◌, ◌<◌, ◌⊎◌, true, Bool, List, [], ◌∷◌, length, slice_get, Some}
 use Rattle.quorum.specs.Quorum.{count_below}
-use Rattle.protocol.specs.System.Configuration.{Configuration, replicas, members}
+use Rattle.protocol.specs.System.Configuration.{Configuration, replicas, members, signers}
 use Rattle.wire_format.specs.Messages.{ViewChangeData, NewViewData, CheckpointEntryData as CheckpointEntry, checkpoint as Checkpoint, view_change as ViewChange}
 use Rattle.signing.specs.AuthenticBody.{authentic, signed_body}
 use Rattle.wire_format.specs.Words.{said}
@@ -16,7 +16,7 @@ use Rattle.protocol.specs.Laws.Bounds.{IsBounded}
 
 -- the bytes spell a signed view change
 abbrev pub SpellsChange : Configuration → List ℕ → ℕ → ViewChangeData → Type 0
-SpellsChange c bytes s vc = signed_body (members c) bytes ≡ Some (record { sender = s; message = ViewChange vc })
+SpellsChange c bytes s vc = signed_body (signers c) bytes ≡ Some (record { sender = s; message = ViewChange vc })
 
 -- With bytes that are no signed view change, a sender twice or out of order, a view change for another view or
 -- beyond its bounds, a start below the low mark of all but 2f, or one that only f list: such a new view is not
@@ -84,7 +84,7 @@ LowIsMarked =
 -- the entry brings a checkpoint of the replica: the replica receives it, or sends it
 abbrev pub BringsCheckpoint : Configuration → ℕ → ℕ → List ℕ → Entry → Type 0
 BringsCheckpoint c s k root (Got p bytes) =
-    authentic (members c) p bytes ≡ Some (record { sender = s; message = Checkpoint k root })
+    authentic (members c p) p bytes ≡ Some (record { sender = s; message = Checkpoint k root })
 BringsCheckpoint c s k root (Sent p bytes) = said bytes ≡ Some (record { sender = s; message = Checkpoint k root })
 BringsCheckpoint c s k root _ = ⊥
 

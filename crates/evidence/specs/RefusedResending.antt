@@ -15,7 +15,7 @@ use Rattle.evidence.specs.Refused.{AtEachPoint, ReplicaGoesOn}
 -- The bytes are a request that waits already, and a correct replica that goes on gives these outputs to them.
 pub record GetsAgain (c : Configuration) (me : ℕ) (bytes : List ℕ) (outputs past : List Entry) : Type 0 where
   pub call : Call
-  pub receives : authentic (members c) me bytes
+  pub receives : authentic (members c me) me bytes
       ≡ Some (record { sender = client_party call.client; message = Request call.timestamp modes.Ordered call.op })
   pub waits : AtEachPoint c me past (λ point. Has (λ x. x ≡ call) point.waiting)
   pub goes : ReplicaGoesOn c me outputs (Got me bytes) past

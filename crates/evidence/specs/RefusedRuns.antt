@@ -37,7 +37,7 @@ AcceptsAlike =
     (c : Configuration) (me s number : ℕ) (call : OpenCall) (mode : Mode) (answer : Outcome) (bytes later : List ℕ)
     (from : ℕ → Bool) (outputs past : List Entry)
     → open_call past ≡ Some call
-    → authentic (members c) me bytes
+    → authentic (members c me) me bytes
     ≡ Some (record { sender = s; message = Reply me call.timestamp mode number answer })
     → 2 * c.faults + 1 ≤ count_below from (replicas c)
     → ((r : ℕ) → from r ≡ true
@@ -59,7 +59,7 @@ FallsBack =
     (c : Configuration) (me s number : ℕ) (call : OpenCall) (answer : Outcome) (bytes later : List ℕ)
     (outputs past : List Entry)
     → open_call past ≡ Some call
-    → authentic (members c) me bytes
+    → authentic (members c me) me bytes
     ≡ Some (record { sender = s; message = Reply me call.timestamp modes.ReadOnly number answer })
     → ((r : ℕ) → r < replicas c → latest c me (Got me bytes ∷ past) call.timestamp modes.ReadOnly r ≢ None)
     → count_alike c me (Got me bytes ∷ past) call.timestamp

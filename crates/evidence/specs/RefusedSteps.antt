@@ -4,7 +4,7 @@ use Rattle.terms.specs.Parties.{client_party}
 use Rattle.tuple_codec.specs.Operations.{Operation, IsOperation}
 use Rattle.wire_format.specs.Messages.{BodyData as Body, MessageData as Message, FrameData as Frame, signature}
 use Rattle.wire_format.specs.Spelling.{IsMessage, is_signed, frame_limit, body_spelling}
-use Rattle.protocol.specs.System.Configuration.{Configuration, IsConfiguration, is_replica, is_client, is_correct, is_correct_client, members}
+use Rattle.protocol.specs.System.Configuration.{Configuration, IsConfiguration, is_replica, is_client, is_correct, is_correct_client, members, signers}
 use Rattle.signing.specs.AuthenticBody.{authentic, signed_body}
 use Rattle.wire_format.specs.Words.{frame_of, said}
 use Rattle.protocol.specs.System.Frames.{IsSealed}
@@ -180,8 +180,8 @@ pub record IsSignedFrom (c : Configuration) (body : Body) (bytes : List ℕ) : T
   pub has_signature : frame.authenticator ≡ signature made
   pub is_sealed : IsSealed c frame
   pub is_for : meant_for c body.sender frame.authenticator ≡ others c body.sender
-  pub is_authentic_to : (p : ℕ) → body.sender ≢ p → authentic (members c) p bytes ≡ Some body
-  pub is_told : signed_body (members c) bytes ≡ Some body
+  pub is_authentic_to : (p : ℕ) → body.sender ≢ p → authentic (members c p) p bytes ≡ Some body
+  pub is_told : signed_body (signers c) bytes ≡ Some body
 
 -- If a replica signs a message with one of its 64 leaves, it is authentic to each other party. The message must be one
 -- that may be sent and goes with a signature, and the frame must not be too long.

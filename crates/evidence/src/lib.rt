@@ -34,7 +34,8 @@ pub mod selected;
 ghost use Rattle.evidence.specs.FirstOperation.{SealedFramesAreAuthentic};
 ghost use Rattle.evidence.specs.RefusedSteps.{SignedFramesAreAuthentic};
 
-/// If a party of the configuration seals a frame for others, it is authentic to each of them.
+/// If a party of the configuration seals a frame for others that it exchanges frames with, it is authentic to each of
+/// them.
 pub fn sealed_frames_are_authentic()
     ensures authentic { SealedFramesAreAuthentic }
 {}
