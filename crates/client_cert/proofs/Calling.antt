@@ -15,7 +15,7 @@ use Rattle.client_cert.specs.State.{CallState, ClientState, me_of, called, went}
 use Rattle.client_cert.specs.Fits.{FitsRunningClient, Fits}
 use Rattle.client_cert.specs.Steps.{HistoryStaysRight, CallWeighsBytes, ChangesOnlyCall, KeepsWhetherOpen, SendsRequest}
 use Rattle.client_cert.proofs.Holding.{holds_invoked, holds_sent}
-use Rattle.client_cert.proofs.Fitting.{gives_request, true_not}
+use Rattle.client_cert.proofs.Fitting.{gives_request, knows_still, true_not}
 use Rattle.client_cert.proofs.Stepping.{fits_moved, nothing_given, request_given, answer_given, got_unasked, tick_unasked, tick_asked, stops_got, stops_tick}
 
 -- after one output
@@ -95,7 +95,7 @@ call_leads old mid new op mode outs is none runs e kind a c history f = go (subs
         refl refl (may_call c old history op f none is) (ap (λ b. asks b (record { timestamp = suc old.calls; op = op })) (sym kind)) request (f.running runs).gave in
         one_output c new (map (entry_of (me_of old)) outs) (Sent (me_of old) x.text) (Invoke old.number (suc old.calls) op ∷ history) x.given
         (fits_moved c old.number (suc old.calls) (Some (went mode (first_call op))) new (Sent (me_of old) x.text ∷ Invoke old.number (suc old.calls) op ∷ history)
-        (f.members_are ∙ sym x.becomes.membership) x.becomes.number x.becomes.calls (x.becomes.call_is ∙ ap (λ k. Some (went mode k)) (sym same)) h gave)
+        (knows_still c old new x.becomes.number x.becomes.membership f.members_are) x.becomes.number x.becomes.calls (x.becomes.call_is ∙ ap (λ k. Some (went mode k)) (sym same)) h gave)
 
 -- a call of a client that has stopped, or stops
 pub record Ends (old new : ClientState) : Type 0 where
@@ -108,7 +108,7 @@ pub record Ends (old new : ClientState) : Type 0 where
 call_stops : (old new : ClientState) (op : Operation) → IsOperation op → is_some old.call ≡ false → Ends old new → HistoryStaysRight old (Invoke old.number (suc old.calls) op) [] new
 call_stops old new op is none e c history f =
     record {
-      members_are = f.members_are ∙ sym e.membership;
+      members_are = knows_still c old new e.number e.membership f.members_are;
       last_is = sym e.calls;
       open_is = sym e.is_open;
       right = subst (λ n. IsClient c (256 + n) (Invoke old.number (suc old.calls) op ∷ history)) (sym e.number) (inr (refl, may_call c old history op f none is, f.right));

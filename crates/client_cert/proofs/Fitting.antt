@@ -42,7 +42,7 @@ opened_is c me t history None h = ap is_some h
 opened_is c me t history (Some call) h = ap is_some h.open_is
 
 -- between events, of a client that hasn't stopped
-pub fits_run : (c : Configuration) (client : ClientState) (history : List Entry) → members c ≡ client.membership
+pub fits_run : (c : Configuration) (client : ClientState) (history : List Entry) → members c (me_of client) ≡ client.membership
     → FitsWithinEvents c (me_of client) history client.calls client.call → Reacts c (me_of client) (reaction c (me_of client)) [] history → Fits c client history
 fits_run c client history known h gave =
     record {
@@ -53,9 +53,13 @@ fits_run c client history known h gave =
       running = λ e. record { holds = h; gave = gave };
     }
 
-pub fits_new : (c : Configuration) (client : ClientState) → members c ≡ client.membership → client.calls ≡ 0 → client.call ≡ None → Fits c client []
+pub fits_new : (c : Configuration) (client : ClientState) → members c (me_of client) ≡ client.membership → client.calls ≡ 0 → client.call ≡ None → Fits c client []
 fits_new c client known calls call =
     fits_run c client [] known (record { last_is = sym calls; call_is = subst (λ o. FitsOpenCall c (me_of client) [] client.calls o) (sym call) refl }) refl
+
+-- a client of the same number that knows the same
+pub knows_still : (c : Configuration) (old new : ClientState) → new.number ≡ old.number → new.membership ≡ old.membership → members c (me_of old) ≡ old.membership → members c (me_of new) ≡ new.membership
+knows_still c old new number same known = ap (λ (n : ℕ). members c (256 + n)) number ∙ known ∙ sym same
 
 -- a client that stopped, after an input without outputs
 pub record Stops (old new : ClientState) : Type 0 where
@@ -77,7 +81,7 @@ module _ (c : Configuration) (old new : ClientState) (history : List Entry) (s :
   pub fits_stop_got : (p : ℕ) (bytes : List ℕ) → p ≡ me_of old → Fits c old history → Fits c new (Got p bytes ∷ history)
   fits_stop_got p bytes at f =
       record {
-        members_are = f.members_are ∙ sym s.membership;
+        members_are = knows_still c old new s.number s.membership f.members_are;
         last_is = f.last_is ∙ sym s.calls;
         open_is = f.open_is ∙ sym s.is_open;
         right = stopped_right (Got p bytes) at tt f;
@@ -87,7 +91,7 @@ module _ (c : Configuration) (old new : ClientState) (history : List Entry) (s :
   pub fits_stop_tick : (p : ℕ) → p ≡ me_of old → Fits c old history → Fits c new (Tick p ∷ history)
   fits_stop_tick p at f =
       record {
-        members_are = f.members_are ∙ sym s.membership;
+        members_are = knows_still c old new s.number s.membership f.members_are;
         last_is = f.last_is ∙ sym s.calls;
         open_is = f.open_is ∙ sym s.is_open;
         right = stopped_right (Tick p) at tt f;

@@ -41,7 +41,7 @@ pub holds_closed : (c : Configuration) (me p t : ℕ) (bytes : List ℕ) (histor
 holds_closed c me p t bytes history h = record { last_is = h.last_is; call_is = h.call_is }
 
 pub holds_got : (c : Configuration) (me p t : ℕ) (bytes : List ℕ) (history : List Entry) (call : CallState)
-    → ((s : ℕ) → option_and_then (reply_vote me t s) (authentic (members c) me bytes) ≡ None) → FitsWithinEvents c me history t (Some call) → FitsWithinEvents c me (Got p bytes ∷ history) t (Some call)
+    → ((s : ℕ) → option_and_then (reply_vote me t s) (authentic (members c me) me bytes) ≡ None) → FitsWithinEvents c me history t (Some call) → FitsWithinEvents c me (Got p bytes ∷ history) t (Some call)
 unfolding latest
 holds_got c me p t bytes history call none h =
     record {
@@ -80,7 +80,7 @@ vote_heard me t s sender mode number answer =
 
 pub holds_noted : (c : Configuration) (me p t : ℕ) (bytes : List ℕ) (history : List Entry) (call more : CallState)
     (sender : ℕ) (mode : Mode) (number : ℕ) (answer : Outcome)
-    → authentic (members c) me bytes ≡ Some (record { sender = sender; message = Reply me t mode number answer })
+    → authentic (members c me) me bytes ≡ Some (record { sender = sender; message = Reply me t mode number answer })
     → TakesReply call mode sender (ballot_of (record { mode = mode; number = number; answer = answer })) more
     → FitsWithinEvents c me history t (Some call) → FitsWithinEvents c me (Got p bytes ∷ history) t (Some more)
 unfolding latest

@@ -197,7 +197,7 @@ module _ (me t : ℕ) (bytes : List ℕ) (header : HeaderData) (has : HasHeader 
     hears_reply =
         let r = the_reply in
         let plain : authenticator_is_signed frame.authenticator ≡ false = has.1.valid.proved ∙ ap is_signed r.is in
-        let holds : signature_holds m.seed header ≡ true = ap (signature_holds m.seed) has.2 ∙ macs_hold m.seed (body_spelling frame.body) frame.body.sender frame.authenticator plain in
+        let holds : signature_holds m.publics header ≡ true = ap (signature_holds m.publics) has.2 ∙ macs_hold m.publics (body_spelling frame.body) frame.body.sender frame.authenticator plain in
         let from : h.sender ≡ frame.body.sender = sender ∙ ap (λ (x : HeaderData). x.sender) has.2 in
         let kind : h.mode ≡ r.kind = mode ∙ mode_is bytes frame has.1 r header.text text_of in
         let state : h.number.0 ≡ r.number = number ∙ number_is bytes frame has.1 r header.text text_of in

@@ -16,8 +16,10 @@ use Rattle.wire_format.specs.Lists.{ascends, leads}
 use Rattle.wire_format.specs.Messages.{BodyData as Body, request as Request}
 use Rattle.wire_format.specs.Spelling.{SpellsFrame, body_spelling, fields_spelling, mode_byte}
 use Rattle.tuple_codec.proofs.Lengths.{operation_short}
+use Rattle.authenticator.specs.Keys.{Keys}
 use Rattle.authenticator.specs.Membership.{Membership}
 use Rattle.authenticator.specs.Sealing.{sealed_for, IsSealable, IsTooLong}
+use Rattle.signing.specs.Publics.{knows}
 use Rattle.protocol.specs.System.Configuration.{Configuration, members, replicas}
 use Rattle.protocol.proofs.Words.Outgoing.{sealed_is_outgoing}
 use Rattle.events.specs.Outputs.{receivers_in}
@@ -29,11 +31,11 @@ abbrev request_body : ℕ → ℕ → Mode → Operation → Body
 request_body me t mode op = record { sender = me; message = Request t mode op }
 
 abbrev SpellsSealed : Membership → Body → List ℕ → Type 0
-SpellsSealed m body bytes = SpellsFrame bytes (sealed_for m.seed body (range_with_len 0 (3 * m.faults + 1)))
+SpellsSealed m body bytes = SpellsFrame bytes (sealed_for m.keys body (range_with_len 0 (3 * m.faults + 1)))
 
 asks_with : (m : Membership) (me t : ℕ) (mode : Mode) (op : Operation) (bytes : List ℕ) → SpellsSealed m (request_body me t mode op) bytes → AsksWith m me mode t op bytes
 asks_with m me t mode op bytes spells c known =
-    let here : SpellsSealed (members c) (request_body me t mode op) bytes = subst (λ (x : Membership). SpellsSealed x (request_body me t mode op) bytes) (sym known) spells in
+    let here : SpellsSealed (members c me) (request_body me t mode op) bytes = subst (λ (x : Membership). SpellsSealed x (request_body me t mode op) bytes) (sym known) spells in
     sealed_is_outgoing c (request_body me t mode op) (range_with_len 0 (3 * c.faults + 1)) bytes here
 
 -- ---- such a request may be sealed
@@ -71,8 +73,8 @@ request_is_short me t mode op is =
     omega (arith, whole, behind, rest, l)
 
 -- no receiver among ten makes it too long
-pub never_too_long : (seed : List ℕ) (body : Body) (receivers : List ℕ) → IsShort body → length receivers ≤ 10 → IsTooLong (sealed_for seed body receivers) → ⊥
-never_too_long seed body receivers short few long = let l = short in sealed-short seed body receivers (omega (arith, l, few)) long
+pub never_too_long : (keys : Keys) (body : Body) (receivers : List ℕ) → IsShort body → length receivers ≤ 10 → IsTooLong (sealed_for keys body receivers) → ⊥
+never_too_long keys body receivers short few long = let l = short in sealed-short keys body receivers (omega (arith, l, few)) long
 
 -- ---- the frame that the program makes
 
@@ -91,18 +93,18 @@ pub replicas_more : (ps : List Party) (r : ReplicaId) → map party_number ps �
 replicas_more ps r e = appended ps (parties.Replica r) ∙ ap (λ (xs : List ℕ). xs ++ r.0 ∷ []) e ∙ sym (range_more 0 r.0 ∙ ap (λ (x : ℕ). range_with_len 0 r.0 ++ x ∷ []) (let e : 0 + r.0 ≡ r.0 = omega arith in e))
 
 pub sealed_asks : {V E : Type 0} (r : Result V E) (items : V → List ℕ) (m : Membership) (me t faults : ℕ) (mode : Mode) (op : Operation) → faults ≡ m.faults
-    → IfOk r (λ v. SpellsFrame (items v) (sealed_for m.seed (record { sender = me; message = Request t mode op }) (range_with_len 0 (3 * faults + 1))))
-    → IfOk r (λ v. AsksWith m me mode t op (items v))
+    → IfOk r (λ v. SpellsFrame (items v) (sealed_for m.keys (record { sender = me; message = Request t mode op }) (range_with_len 0 (3 * faults + 1))))
+    → IfOk r (λ v. (publics : List (List ℕ)) → AsksWith (knows m publics) me mode t op (items v))
 sealed_asks (Ok v) items m me t faults mode op e h =
-    asks_with m me t mode op (items v)
-    (subst (λ (f : ℕ). SpellsFrame (items v) (sealed_for m.seed (request_body me t mode op) (range_with_len 0 (3 * f + 1)))) e h)
+    λ publics. asks_with (knows m publics) me t mode op (items v)
+    (subst (λ (f : ℕ). SpellsFrame (items v) (sealed_for m.keys (request_body me t mode op) (range_with_len 0 (3 * f + 1)))) e h)
 sealed_asks (Err x) items m me t faults mode op e h = h
 
 -- ---- for whom a request is
 
 -- A request that goes to all replicas goes to those for whom it is.
 pub request_goes : (m : Membership) (me t faults : ℕ) (mode : Mode) (op : Operation) (numbers text : List ℕ) → faults ≡ m.faults → numbers ≡ range_with_len 0 (3 * faults + 1) → AsksWith m me mode t op text
-    → (c : Configuration) → members c ≡ m → numbers ≡ receivers_in c me text
+    → (c : Configuration) → members c me ≡ m → numbers ≡ receivers_in c me text
 request_goes m me t faults mode op numbers text size goes asks c known =
     let count : faults ≡ c.faults = size ∙ ap (λ (x : Membership). x.faults) (sym known) in
     let n : length (range_with_len 0 (3 * c.faults + 1)) ≡ 3 * c.faults + 1 = length-range_with_len 0 (3 * c.faults + 1) in

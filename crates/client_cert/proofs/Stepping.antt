@@ -24,13 +24,13 @@ use Rattle.client_cert.specs.Asking.{AsksWith}
 use Rattle.client_cert.specs.Steps.{CallWeighsBytes, ChangesOnlyCall, KeepsWhetherOpen}
 use Rattle.client_cert.proofs.Holding.{holds_got, holds_noted, holds_tick, holds_closed, holds_sent, holds_accepted}
 use Rattle.client_cert.proofs.Turning.{turns, reaction_is, no_reaction, no_call_reaction, tick_reaction, no_tick_reaction}
-use Rattle.client_cert.proofs.Fitting.{gives_none, gives_request, gives_answer, fits_run, Stops, fits_stop_got, fits_stop_tick}
+use Rattle.client_cert.proofs.Fitting.{gives_none, gives_request, gives_answer, fits_run, knows_still, Stops, fits_stop_got, fits_stop_tick}
 
 -- ---- an open call after bytes
 
 pub weigh_none : (m : Membership) (me t : ℕ) (call : CallState) (bytes : List ℕ) → ReceivesVote me t (authentic m me bytes) None → CallWeighsBytes m me t call bytes call nothing
 weigh_none m me t call bytes receives c history known h =
-    let here : ReceivesVote me t (authentic (members c) me bytes) None = subst (λ (x : Membership). ReceivesVote me t (authentic x me bytes) None) (sym known) receives in
+    let here : ReceivesVote me t (authentic (members c me) me bytes) None = subst (λ (x : Membership). ReceivesVote me t (authentic x me bytes) None) (sym known) receives in
     (holds_got c me me t bytes history call here h, no_reaction c me me t bytes history call here h)
 
 -- the key of the sender's own reply
@@ -50,7 +50,7 @@ pub weigh_reply : (m : Membership) (me t faults : ℕ) (call more : CallState) (
     → turn_of faults more x.mode x.sender ≡ turn
     → CallWeighsBytes m me t call bytes more (turns turn t more.op v.answer)
 weigh_reply m me t faults call more bytes x ballot turn v size kept takes turned c history known h =
-    let here : authentic (members c) me bytes ≡ Some (reply_body me t x v.answer) = ap (λ (k : Membership). authentic k me bytes) known ∙ v.heard_is in
+    let here : authentic (members c me) me bytes ≡ Some (reply_body me t x v.answer) = ap (λ (k : Membership). authentic k me bytes) known ∙ v.heard_is in
     let is : ballot ≡ ballot_of (record { mode = x.mode; number = x.number.0; answer = v.answer }) =
     kept ∙ ap (λ text. let b : Ballot = record { number = x.number.0; text = text } in b) v.spelled.spelled in
     let now : FitsWithinEvents c me (Got me bytes ∷ history) t (Some more) =
@@ -77,7 +77,7 @@ weigh_accepts m me t faults call more bytes x ballot v size kept takes turned an
     (w.0, w.1 ∙ ap (accepts t) (sym (said v.answer v.spelled)))
 
 -- a history that fits the parts of the old client fits the new one
-pub fits_moved : (c : Configuration) (number t : ℕ) (call : Option CallState) (new : ClientState) (now : List Entry) → members c ≡ new.membership
+pub fits_moved : (c : Configuration) (number t : ℕ) (call : Option CallState) (new : ClientState) (now : List Entry) → members c (me_of new) ≡ new.membership
     → new.number ≡ number → new.calls ≡ t → new.call ≡ call
     → FitsWithinEvents c (256 + number) now t call → Reacts c (256 + number) (reaction c (256 + number)) [] now → Fits c new now
 fits_moved c number t call new now known same calls is h gave = fits_run c new now known (rw (same, calls, is) h) (rw same gave)
@@ -89,7 +89,7 @@ module _ (c : Configuration) (old new : ClientState) (history : List Entry) (f :
   -- a history that fits the old client's number and timestamp fits the new one
   goes_on : (call : Option CallState) (now : List Entry) → ChangesOnlyCall old new call → FitsWithinEvents c (me_of old) now old.calls call → Reacts c (me_of old) (reaction c (me_of old)) [] now → Fits c new now
   goes_on call now b h gave =
-      fits_run c new now (f.members_are ∙ sym b.membership)
+      fits_run c new now (knows_still c old new b.number b.membership f.members_are)
       (rw (b.number, b.calls, b.call_is) h)
       (rw b.number gave)
 

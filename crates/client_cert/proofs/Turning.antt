@@ -75,7 +75,7 @@ module _ (c : Configuration) (me t : ℕ) (now : List Entry) (call : CallState) 
       ∙ ap (λ o. turn_by c.faults o (count_votes c me now t vote) (count_below (λ s. is_some (latest c me now t modes.ReadOnly s)) (replicas c))) (sym h.ordered_is)))
 
 newest_is : (c : Configuration) (me p t : ℕ) (bytes : List ℕ) (history : List Entry) (sender : ℕ) (mode : Mode) (number : ℕ) (answer : Outcome)
-    → authentic (members c) me bytes ≡ Some (record { sender = sender; message = Reply me t mode number answer })
+    → authentic (members c me) me bytes ≡ Some (record { sender = sender; message = Reply me t mode number answer })
     → newest_vote c me (Got p bytes ∷ history) t ≡ Some (record { mode = mode; number = number; answer = answer })
 newest_is c me p t bytes history sender mode number answer is =
     ap (option_and_then (λ body. reply_vote me t body.sender body)) is ∙ vote_heard me t sender sender mode number answer
@@ -83,7 +83,7 @@ newest_is c me p t bytes history sender mode number answer is =
 
 -- a reply to the call, once it is kept
 pub reaction_is : (c : Configuration) (me p t : ℕ) (bytes : List ℕ) (history : List Entry) (call : CallState) (sender : ℕ) (mode : Mode) (number : ℕ) (answer : Outcome)
-    → authentic (members c) me bytes ≡ Some (record { sender = sender; message = Reply me t mode number answer })
+    → authentic (members c me) me bytes ≡ Some (record { sender = sender; message = Reply me t mode number answer })
     → FitsWithinEvents c me (Got p bytes ∷ history) t (Some call)
     → held (ballots_of mode call) sender ≡ Some (ballot_of (record { mode = mode; number = number; answer = answer }))
     → reaction c me (Got p bytes ∷ history) ≡ turns (turn_of c.faults call mode sender) t call.op answer
@@ -94,10 +94,10 @@ reaction_is c me p t bytes history call sender mode number answer is h kept =
 
 -- anything else
 pub no_reaction : (c : Configuration) (me p t : ℕ) (bytes : List ℕ) (history : List Entry) (call : CallState)
-    → ((s : ℕ) → option_and_then (reply_vote me t s) (authentic (members c) me bytes) ≡ None) → FitsWithinEvents c me history t (Some call) → reaction c me (Got p bytes ∷ history) ≡ nothing
+    → ((s : ℕ) → option_and_then (reply_vote me t s) (authentic (members c me) me bytes) ≡ None) → FitsWithinEvents c me history t (Some call) → reaction c me (Got p bytes ∷ history) ≡ nothing
 no_reaction c me p t bytes history call unheard h =
     ap (λ o. option_map_or (on_got c me (Got p bytes ∷ history)) o nothing) h.call_is.open_is
-    ∙ ap (λ v. option_map_or (on_reply c me (Got p bytes ∷ history) (record { timestamp = t; op = call.op })) v nothing) (none (authentic (members c) me bytes) unheard)
+    ∙ ap (λ v. option_map_or (on_reply c me (Got p bytes ∷ history) (record { timestamp = t; op = call.op })) v nothing) (none (authentic (members c me) me bytes) unheard)
   where
     none : (o : Option Body) → ((s : ℕ) → option_and_then (reply_vote me t s) o ≡ None) → option_and_then (λ body. reply_vote me t body.sender body) o ≡ None
     none None unheard = refl

@@ -31,7 +31,7 @@ pub record FitsRunningClient (c : Configuration) (me : ℕ) (client : ClientStat
 
 -- Between events. A client that stopped still knows its last call, and whether it is open.
 pub record Fits (c : Configuration) (client : ClientState) (history : List Entry) : Type 0 where
-  pub members_are : members c ≡ client.membership
+  pub members_are : members c (me_of client) ≡ client.membership
   pub last_is : last_call history ≡ client.calls
   pub open_is : is_some (open_call history) ≡ is_some client.call
   pub right : IsClient c (me_of client) history

@@ -13,6 +13,7 @@ use Rattle.tuple_codec.specs.Spelling.{SpellsOutcome}
 use Rattle.wire_format.specs.Messages.{BodyData as Body, reply as says}
 use Rattle.authenticator.specs.Membership.{Membership}
 use Rattle.signing.specs.AuthenticBody.{authentic}
+use Rattle.signing.specs.Publics.{knows}
 use Rattle.protocol.specs.Client.RightClient.{reply_vote}
 use Rattle.client_cert.specs.State.{Ballot}
 use Rattle.client_cert.specs.declared.receiving.ReceivedReply.{ReceivedReply}
@@ -47,12 +48,13 @@ SpellsAnswer text = (answer : Outcome) × SpellsOutcome text answer
 abbrev pub IsAnswerIn : List ℕ → Answer Global → Type 0
 IsAnswerIn text answer = (said : Outcome) → SpellsOutcome text said → outcome_of answer ≡ said
 
--- ---- of the client with this number, for Rust values
+-- ---- of the client with this number and these keys, for Rust values
 
--- the client receives this reply to its call from the bytes, or none
+-- whichever public keys it knows, the client receives this reply to its call from the bytes, or none
 abbrev pub AuthenticatesReply : Membership → ClientId → Timestamp → List ℕ → Option ReceivedReply → Type 0
-AuthenticatesReply m client timestamp bytes h =
-    ReceivesVote (client_party client.number) timestamp.0 (authentic m (client_party client.number) bytes) h
+AuthenticatesReply ring client timestamp bytes h =
+    (publics : List (List ℕ)) → ReceivesVote (client_party client.number) timestamp.0
+    (authentic (knows ring publics) (client_party client.number) bytes) h
 
 -- the ballot that is kept of a reply
 abbrev pub IsBallotOf : Number → List ℕ → Ballot → Type 0

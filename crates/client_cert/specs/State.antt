@@ -1,14 +1,17 @@
 -- The state of a client as plain data, and its changes by entries.
-use Rattle.std.specs.Prelude.{◌≡◌, ℕ, ◌+◌, ◌*◌, ◌^◌, ◌≤◌, Bool, true, false, ◌&&◌, ◌||◌, not, List, [], Option, Some, is_some, nat_le, ◌==◌, bytes_eq, cond, if◌then◌else◌, refl}
+use Rattle.std.specs.Prelude.{◌≡◌, ℕ, ◌+◌, ◌*◌, ◌^◌, ◌≤◌, Bool, true, false, ◌&&◌, ◌||◌, not, List, [], Option, Some, is_some, nat_le, ◌==◌, bytes_eq, cond, if◌then◌else◌, refl, ◌⊎◌}
 use Rattle.std.specs.Option.{option_map_or}
 use Rattle.std.specs.Map.{lookup}
-use Rattle.std.specs.Coded.{Coded, code_by, coded×, coded_list, coded_option, coded_ℕ, coded_bool}
+use Rattle.std.proofs.Common.{inl, inr}
+use Rattle.std.specs.Coded.{Coded, code_by, coded×, coded⊎, coded_list, coded_option, coded_ℕ, coded_bool}
 use Rattle.terms.specs.Parties.{client_party}
 use Rattle.terms.specs.declared.order.Mode.{Mode}
 use Rattle.terms.specs.declared.order.Mode.TheVariants as modes
 use Rattle.tuple_codec.specs.Operations.{Operation}
 use Rattle.tuple_codec.specs.Spelling.{outcome_spelling}
+use Rattle.authenticator.specs.Keys.{Keys, row, dealt}
 use Rattle.authenticator.specs.Membership.{Membership}
+use Rattle.authenticator.specs.declared.row.SharedKey.{SharedKey}
 use Rattle.quorum.specs.Quorum.{count_below}
 use Rattle.protocol.specs.System.Frames.{same_mode}
 use Rattle.protocol.specs.Client.RightClient.{Vote}
@@ -30,7 +33,7 @@ pub record CallState : Type 0 where
   pub ordered_ballots : Ballots
   pub read_ballots : Ballots
 
--- a client: its number, the members that it knows, its last timestamp, its open call, and whether it stopped
+-- a client: its number, what it knows of the members, its last timestamp, its open call, and whether it stopped
 pub record ClientState : Type 0 where
   pub number : ℕ
   pub membership : Membership
@@ -38,10 +41,10 @@ pub record ClientState : Type 0 where
   pub call : Option CallState
   pub stopped : Bool
 
--- The faults and the keys are the members'. A timestamp is left if the client hasn't stopped, or if no call is open.
-abbrev pub ClientIsOfMembers : ℕ → List ℕ → Membership → ℕ → Option CallState → Bool → Type 0
-ClientIsOfMembers faults seed m calls call stopped =
-    (faults ≡ m.faults) × (faults ≤ 3) × (seed ≡ m.seed) × (calls ≤ 2 ^ 62 + 1)
+-- The faults are the members'. A timestamp is left if the client hasn't stopped, or if no call is open.
+abbrev pub ClientIsOfMembers : ℕ → Membership → ℕ → Option CallState → Bool → Type 0
+ClientIsOfMembers faults m calls call stopped =
+    (faults ≡ m.faults) × (faults ≤ 3) × (calls ≤ 2 ^ 62 + 1)
     × (stopped ≡ false → calls ≤ 2 ^ 62) × (is_some call ≡ false → calls ≤ 2 ^ 62)
     × (stopped ≡ true → is_some call ≡ true)
 
@@ -62,11 +65,34 @@ call_code =
     (λ x. (x.op, (x.ordered, (x.ordered_ballots, x.read_ballots))))
     (λ p. record { op = p.0; ordered = p.1.0; ordered_ballots = p.1.1.0; read_ballots = p.1.1.1 }) (λ _. refl)
 
+abbrev pub shared_key_code : Coded SharedKey
+shared_key_code =
+    code_by (ℕ × (ℕ × List ℕ)) (coded× coded_ℕ (coded× coded_ℕ (coded_list coded_ℕ))) (λ k. (k.from, (k.to, k.key)))
+    (λ p. record { from = p.0; to = p.1.0; key = p.1.1 }) (λ _. refl)
+
+abbrev pub keys_parts : Keys → List SharedKey ⊎ List ℕ
+keys_parts (row keys) = inl keys
+keys_parts (dealt seed) = inr seed
+
+abbrev pub keys_from : List SharedKey ⊎ List ℕ → Keys
+keys_from (inl keys) = row keys
+keys_from (inr seed) = dealt seed
+
+pub keys_from-parts : (keys : Keys) → keys_from (keys_parts keys) ≡ keys
+keys_from-parts (row keys) = refl
+keys_from-parts (dealt seed) = refl
+
+abbrev pub keys_code : Coded Keys
+keys_code =
+    code_by (List SharedKey ⊎ List ℕ) (coded⊎ (coded_list shared_key_code) (coded_list coded_ℕ)) keys_parts keys_from
+    keys_from-parts
+
 abbrev pub membership_code : Coded Membership
 membership_code =
-    code_by (List ℕ × (ℕ × ℕ)) (coded× (coded_list coded_ℕ) (coded× coded_ℕ coded_ℕ))
-    (λ m. (m.seed, (m.faults, m.clients)))
-    (λ p. record { seed = p.0; faults = p.1.0; clients = p.1.1 }) (λ _. refl)
+    code_by (ℕ × (ℕ × (Keys × List (List ℕ))))
+    (coded× coded_ℕ (coded× coded_ℕ (coded× keys_code (coded_list (coded_list coded_ℕ)))))
+    (λ m. (m.faults, (m.clients, (m.keys, m.publics))))
+    (λ p. record { faults = p.0; clients = p.1.0; keys = p.1.1.0; publics = p.1.1.1 }) (λ _. refl)
 
 abbrev pub client_code : Coded ClientState
 client_code =

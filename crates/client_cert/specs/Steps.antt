@@ -8,6 +8,7 @@ use Rattle.terms.specs.declared.parties.ClientId.{ClientId}
 use Rattle.tuple_codec.specs.declared.operations.Op.{Op}
 use Rattle.tuple_codec.specs.OperationView.{operation_of, outcome_of}
 use Rattle.authenticator.specs.Membership.{Membership}
+use Rattle.signing.specs.Publics.{knows}
 use Rattle.protocol.specs.System.Configuration.{Configuration, members}
 use Rattle.protocol.specs.System.Trace.{Entry}
 use Rattle.protocol.specs.System.Trace.Entry.{Invoke, Got, Tick, Sent}
@@ -47,11 +48,11 @@ CallStops old op new = is_some old.call ≡ false → CallLeads old op [] new
 abbrev pub EventLeads : ClientState → Event → List Output → ClientState → Type 0
 EventLeads old event outs new = HistoryStaysRight old (input_of (me_of old) event) outs new
 
--- In each configuration of the client's members, each frame that the client sends goes exactly to its receivers: a
+-- In each configuration where the client knows what it does, each frame that it sends goes exactly to its receivers: a
 -- request to all replicas.
 abbrev pub SendsAsMeant : ClientState → List Output → Type 0
 SendsAsMeant client outs =
-    (c : Configuration) → members c ≡ client.membership → AreSentAsMeant c (me_of client) outs
+    (c : Configuration) → members c (me_of client) ≡ client.membership → AreSentAsMeant c (me_of client) outs
 
 -- ---- for private functions
 
@@ -72,16 +73,16 @@ reaction_of timestamp call (turned.Accept answer) = accepts timestamp (outcome_o
 -- the open call after these bytes, and the reaction to them
 abbrev pub CallWeighsBytes : Membership → ℕ → ℕ → CallState → List ℕ → CallState → Reaction → Type 0
 CallWeighsBytes m me timestamp old bytes new given =
-    (c : Configuration) (history : List Entry) → members c ≡ m → FitsWithinEvents c me history timestamp (Some old)
+    (c : Configuration) (history : List Entry) → members c me ≡ m → FitsWithinEvents c me history timestamp (Some old)
     → FitsWithinEvents c me (Got me bytes ∷ history) timestamp (Some new)
     × (reaction c me (Got me bytes ∷ history) ≡ given)
 
--- the same, of the client with this number, for Rust values
+-- the same, of the client with this number and these keys, whichever public keys it knows, for Rust values
 abbrev pub TurnsTo :
     Membership → ClientId → Timestamp → CallState → List ℕ → CallState → Turned → Type 0
-TurnsTo m client timestamp old bytes new turned =
-    CallWeighsBytes m (client_party client.number) timestamp.0 old bytes new
-    (reaction_of timestamp.0 new turned)
+TurnsTo ring client timestamp old bytes new turned =
+    (publics : List (List ℕ)) → CallWeighsBytes (knows ring publics) (client_party client.number) timestamp.0 old bytes
+    new (reaction_of timestamp.0 new turned)
 
 -- the client changes only its call
 pub record ChangesOnlyCall (old new : ClientState) (call : Option CallState) : Type 0 where

@@ -62,7 +62,7 @@ fn seal_for_all(ring: &mut Ring, alloc: Global, faults: u8, body: &Body) -> Resu
     requires few { faults ≤ 3 }
     requires may { IsSealableForAll faults (body_data body.now) }
     requires short { IsShort (body_data body.now) }
-    ensures sealed { IfOk result (SealsForAll ring.old.seed faults (body_data body.now)) }
+    ensures sealed { IfOk result (SealsForAll ring.old.keys faults (body_data body.now)) }
     ensures same { ring.new ≡ ring.old }
 {
     let replicas = all_replicas(alloc, 3 * faults + 1)?;

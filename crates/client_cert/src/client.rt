@@ -2,7 +2,9 @@
 
 ghost use Rattle.std.specs.Prelude.{◌≡◌, ◌↔◌, ◌≤◌, ◌<◌, ◌^◌, ◌⊎◌, suc, true, false, [], ◌∷◌};
 ghost use Rattle.std.specs.Prelude.{IfOk, OnErr, is_some};
+ghost use Rattle.terms.specs.Parties.{client_party};
 ghost use Rattle.tuple_codec.specs.OperationView.{operation_of};
+ghost use Rattle.signing.specs.Publics.{knows};
 ghost use Rattle.protocol.specs.System.Configuration.{Configuration, members};
 ghost use Rattle.client_cert.specs.State.{IsSpent, called};
 ghost use Rattle.events.specs.declared.output.Stop.TheVariants as Stop;
@@ -62,6 +64,7 @@ pub struct Client {
 
 impl Model for Client {
     ghost use Rattle.client_cert.specs.State.{ClientState, ClientIsOfMembers, client_code};
+    ghost use Rattle.signing.specs.Publics.{knows};
 
     ghost Value = { ClientState };
 
@@ -69,24 +72,24 @@ impl Model for Client {
 
     ghost view = { λ a. record {
       number = a.id.number;
-      membership = a.ring;
+      membership = knows a.ring a.publics;
       calls = a.calls;
       call = a.call;
       stopped = a.stopped;
     } };
 
-    ghost invariant = { λ a. ClientIsOfMembers a.faults a.publics a.ring a.calls a.call a.stopped };
+    ghost invariant = { λ a. ClientIsOfMembers a.faults (knows a.ring a.publics) a.calls a.call a.stopped };
 }
 
 impl Client {
-    /// A client that made no call. Up to `faults` replicas, 1 to 3, may be faulty; the ring and the public keys are of
-    /// one seed.
+    /// A client that made no call. Up to `faults` replicas, 1 to 3, may be faulty; the ring has the client's keys. Its
+    /// history is a correct client's in each configuration that gives it these keys, whoever is faulty there.
     #[tactic(auto, using(crate::proofs::Fitting::fits_new))]
     pub fn new(client: ClientId, faults: u8, ring: Ring, publics: PublicKeys) -> Client
         requires faults { faults ≡ ring.faults }
         requires few { faults ≤ 3 }
-        requires keys { publics ≡ ring.seed }
-        ensures fits { (c : Configuration) → members c ≡ ring → Fits c result [] }
+        ensures fits { (c : Configuration)
+            → members c (client_party client.number) ≡ knows ring publics → Fits c result [] }
         ensures number { result.number ≡ client.number }
         ensures runs { result.stopped ≡ false }
     {

@@ -9,10 +9,10 @@
 //! # What is proved
 //!
 //! If a history fits a client before an event, the longer history fits it after the event. [`Client::new`] fits the
-//! empty history, and [`Client::invoke`] and [`Client::step`] keep the fit, also when they refuse. Each history that
-//! fits is a correct client's (`IsClient`). A call while another is open is refused and changes nothing. If memory
-//! runs out, the client has stopped: it gives nothing, then and later. The client opens no frames but replies. Each
-//! request goes exactly to all replicas.
+//! empty history in each configuration that gives the client its keys, whoever is faulty there. [`Client::invoke`] and
+//! [`Client::step`] keep the fit, also when they refuse. Each history that fits is a correct client's (`IsClient`). A
+//! call while another is open is refused and changes nothing. If memory runs out, the client has stopped: it gives
+//! nothing, then and later. The client opens no frames but replies. Each request goes exactly to all replicas.
 //!
 //! # The cost of a reply
 //!
