@@ -1,5 +1,5 @@
 -- If 2f + 1 correct replicas keep the reply to a call, its client accepts once it asks again and all is delivered.
-use Rattle.std.proofs.Common.{◌≡◌, ◌≢◌, ℕ, zero, suc, ◌+◌, ◌*◌, ◌≤◌, ◌<◌, ◌⊎◌, inl, inr, Bool, true, false, List, [], ◌∷◌, ◌++◌, Option, Some, refl, sym, ap, ◌∙◌, subst, arith, append_assoc, bytes_eq, eqb-true, eq-eqb}
+use Rattle.std.proofs.Common.{◌≡◌, ℕ, zero, suc, ◌+◌, ◌*◌, ◌≤◌, ◌<◌, ◌⊎◌, inl, inr, Bool, true, false, List, [], ◌∷◌, ◌++◌, Option, Some, refl, sym, ap, ◌∙◌, subst, arith, append_assoc, bytes_eq, eqb-true, eq-eqb}
 use Rattle.std.specs.Prelude.{◌==◌}
 use Rattle.std.specs.List.{range_with_len}
 use Rattle.std.specs.Option.{option_map_or}
@@ -35,6 +35,7 @@ use Rattle.protocol.proofs.Agreement.States.{history_append}
 use Rattle.protocol.proofs.Points.Reading.{correct_client, own_entries, latest_received, replying}
 use Rattle.protocol.proofs.Points.Running.{Run}
 use Rattle.protocol.proofs.Words.Lists.{none_pass}
+use Rattle.evidence.proofs.Knowing.{DoExchange, clients_exchange, exchange_back}
 use Rattle.progress.specs.Delivery.{HasEntry, AllDelivered}
 use Rattle.progress.specs.Answered.{KeepsReply, ExecutedCallsAreAccepted}
 use Rattle.progress.proofs.Receiving.{Heard, sealed_is_authentic}
@@ -146,8 +147,10 @@ module _ (c : Configuration) (setting : IsConfiguration c) (later start : List E
   below : (r : ℕ) → is_correct_replica c r ≡ true → r < replicas c
   below r correct = ltb-true r (replicas c) (and_parts (is_replica c r) _ correct).0
 
-  apart_from : (r : ℕ) → is_correct_replica c r ≡ true → me ≢ r
-  apart_from r correct same = let l = below r correct in let m = setting.most in absurd (omega arith)
+  exchanges_with : (r : ℕ) → is_correct_replica c r ≡ true → DoExchange c me r
+  exchanges_with r correct =
+      let few : replicas c ≤ 256 = (let m = setting.most in omega arith) in
+      clients_exchange c few me r (and_parts (is_client c me) _ client).0 (and_parts (is_replica c r) _ correct).0
 
   module _ (not_yet : Accepting k call.timestamp (history_of me later) → ⊥) where
     none_before : (newer : List Entry) (e : Entry) (before : List Entry) → history_of me later ≡ newer ++ e ∷ before → Accepting k call.timestamp before → ⊥
@@ -195,7 +198,7 @@ module _ (c : Configuration) (setting : IsConfiguration c) (later start : List E
           let s = request.is_outgoing.is_sealed frame is in
           let small : r < 0 + replicas c = (let l = below r correct in omega arith) in
           (s.0, subst (λ (xs : List ℕ). Has (λ x. x ≡ r) xs) (sym s.1) (in_range 0 (replicas c) r (omega arith) small)))
-          refl (and_parts (is_client c me) _ client).0 (apart_from r correct)
+          refl (and_parts (is_client c me) _ client).0 (exchanges_with r correct)
 
       pub gets_request : HasEntry (Got r request.bytes) later
       gets_request = all me r request.bytes request.is_sent hears_request.meant_is (correct_replica c r correct)
@@ -228,7 +231,7 @@ module _ (c : Configuration) (setting : IsConfiguration c) (later start : List E
 
         hears_reply : Heard c r me (Reply me call.timestamp mode n answer) reply.bytes
         hears_reply =
-            sealed_is_authentic c r me (Reply me call.timestamp mode n answer) reply.bytes reply.says well refl (and_parts (is_replica c r) _ correct).0 (λ same. apart_from r correct (sym same))
+            sealed_is_authentic c r me (Reply me call.timestamp mode n answer) reply.bytes reply.says well refl (and_parts (is_replica c r) _ correct).0 (exchange_back c me r (exchanges_with r correct))
           where
             may : MaySend c r might.1.past might.1.point (Sent reply.party reply.bytes) reply.bytes
             may = might.1.may

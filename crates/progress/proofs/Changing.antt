@@ -5,7 +5,7 @@ use Rattle.std.proofs.lemmas.List.{append-nil}
 use Rattle.std.proofs.lemmas.Bool.{and_parts, and_from, ltb-true, leb-true, leb-false, le-leb, eqb-false}
 use Rattle.wire_format.specs.Messages.{BodyData as Body, MessageData as Message, ViewChangeData, NewViewData, view_change as ViewChange, new_view as NewView}
 use Rattle.signing.specs.AuthenticBody.{signed_body}
-use Rattle.protocol.specs.System.Configuration.{Configuration, IsConfiguration, replicas, primary, is_replica, is_correct_replica, members}
+use Rattle.protocol.specs.System.Configuration.{Configuration, IsConfiguration, replicas, primary, is_replica, is_correct_replica, signers}
 use Rattle.protocol.specs.System.Trace.{Entry, party_of, history_of, Once, SendsBody, Always, Unforged}
 use Rattle.protocol.specs.System.Trace.Entry.{Got, Sent}
 use Rattle.protocol.specs.System.Run.{IsRun, OnlyTheseStopped}
@@ -180,7 +180,7 @@ module _ (c : Configuration) (setting : IsConfiguration c) (trace : List Entry) 
       sent : SentAt c q frame.party frame.bytes (history_of q trace)
       sent = sent_at c q frame.party frame.bytes (history_of q trace) right.0 right.1 frame.is_there
 
-      signed : signed_body (members c) frame.bytes ≡ Some (changing q its.vc)
+      signed : signed_body (signers c) frame.bytes ≡ Some (changing q its.vc)
       signed = signed_by c q frame.bytes (changing q its.vc) sent.past sent.point (subst (λ (x : ℕ). MaySend c q sent.past sent.point (Sent x frame.bytes) frame.bytes) sent.own sent.may) frame.says refl (known q correct)
 
       in_it : HasEntry (Sent q frame.bytes) trace

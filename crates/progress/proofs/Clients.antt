@@ -77,10 +77,10 @@ module _ (c : Configuration) (k : ℕ) (call : OpenCall) (start : List Entry) (o
   unfolding latest Latest
   latest_by mode r (Invoke x y z) part right (inl a) not_yet v = absurd (not_yet a)
   latest_by mode r (Invoke x y z) part right (inr o) not_yet v = let bad : None ≡ Some call = sym right.1 ∙ o in absurd cc
-  latest_by mode r (Got x y) part right either not_yet v = some_later mode (option_and_then (reply_vote me call.timestamp r) (authentic (members c) me y)) (latest c me (part ++ start) call.timestamp mode r) v.0 v.1
+  latest_by mode r (Got x y) part right either not_yet v = some_later mode (option_and_then (reply_vote me call.timestamp r) (authentic (members c me) me y)) (latest c me (part ++ start) call.timestamp mode r) v.0 v.1
   latest_by mode r _ part right either not_yet v = v
 
-  pub latest_since : (mode : Mode) (r n : ℕ) (answer : Outcome) (bytes : List ℕ) → authentic (members c) me bytes ≡ Some (record { sender = r; message = Reply me call.timestamp mode n answer })
+  pub latest_since : (mode : Mode) (r n : ℕ) (answer : Outcome) (bytes : List ℕ) → authentic (members c me) me bytes ≡ Some (record { sender = r; message = Reply me call.timestamp mode n answer })
       → (part : List Entry) → SafeClient c me (part ++ start) → (Accepting k call.timestamp part → ⊥) → HasEntry (Got me bytes) part → (v : Vote) × (latest c me (part ++ start) call.timestamp mode r ≡ Some v)
   unfolding Latest
   latest_since mode r n answer bytes receives [] right not_yet h = absurd h
@@ -143,7 +143,7 @@ module _ (c : Configuration) (me : ℕ) (call : OpenCall) (vote : Vote) where
 
   -- a reply that the client receives
   module _ (p : ℕ) (bytes : List ℕ) (past outputs : List Entry) (sender client u : ℕ) (mode : Mode) (number : ℕ) (answer : Outcome)
-      (receives : authentic (members c) me bytes ≡ Some (record { sender = sender; message = Reply client u mode number answer })) (few : Few past) where
+      (receives : authentic (members c me) me bytes ≡ Some (record { sender = sender; message = Reply client u mode number answer })) (few : Few past) where
     abbrev v : Vote
     v = record { mode = mode; number = number; answer = answer }
 
@@ -210,14 +210,14 @@ module _ (c : Configuration) (me : ℕ) (call : OpenCall) (vote : Vote) where
         go true e = no_quorum opened none reacts e
         go false e = few_still past new (no_more e) few
 
-  by_message : (p : ℕ) (bytes : List ℕ) (past outputs : List Entry) (sender : ℕ) (message : Message) → authentic (members c) me bytes ≡ Some (record { sender = sender; message = message })
+  by_message : (p : ℕ) (bytes : List ℕ) (past outputs : List Entry) (sender : ℕ) (message : Message) → authentic (members c me) me bytes ≡ Some (record { sender = sender; message = message })
       → open_call past ≡ Some call → NoneAccepts outputs → IsReaction c me (reaction c me (Got p bytes ∷ past)) outputs → Few past → Few (Got p bytes ∷ past)
   unfolding latest
   by_message p bytes past outputs sender (Reply client u mode number answer) receives opened none reacts few = by_reply p bytes past outputs sender client u mode number answer receives few opened none reacts
   by_message p bytes past outputs sender _ receives opened none reacts few = few_still past (Got p bytes ∷ past) (λ s h. rw receives at h) few
 
   by_got : (p : ℕ) (bytes : List ℕ) (past outputs : List Entry) → open_call past ≡ Some call → NoneAccepts outputs → IsReaction c me (reaction c me (Got p bytes ∷ past)) outputs → Few past
-      → (o : Option Body) → authentic (members c) me bytes ≡ o → Few (Got p bytes ∷ past)
+      → (o : Option Body) → authentic (members c me) me bytes ≡ o → Few (Got p bytes ∷ past)
   unfolding latest
   by_got p bytes past outputs opened none reacts few None receives = few_still past (Got p bytes ∷ past) (λ s h. rw receives at h) few
   by_got p bytes past outputs opened none reacts few (Some body) receives = by_message p bytes past outputs body.sender body.message receives opened none reacts few
@@ -229,7 +229,7 @@ module _ (c : Configuration) (me : ℕ) (call : OpenCall) (vote : Vote) where
   few_while_open : (xs outputs : List Entry) → Reacts c me (reaction c me) outputs xs → open_call xs ≡ Some call → NoneAccepts outputs → Few xs
   unfolding latest
   few_while_open (Invoke x y z ∷ past) outputs r opened none = call_begins x y z past
-  few_while_open (Got p bytes ∷ past) outputs r opened none = by_got p bytes past outputs opened none r.1.1 (few_while_open past [] r.1.2 opened (λ k t a h. h)) (authentic (members c) me bytes) refl
+  few_while_open (Got p bytes ∷ past) outputs r opened none = by_got p bytes past outputs opened none r.1.1 (few_while_open past [] r.1.2 opened (λ k t a h. h)) (authentic (members c me) me bytes) refl
   few_while_open (Tick p ∷ past) outputs r opened none = few_while_open past [] r.1.2 opened (λ k t a h. h)
   few_while_open (Sent p bytes ∷ past) outputs r opened none = few_while_open past (Sent p bytes ∷ outputs) r.1 opened (no_accept (Sent p bytes) outputs none (λ k t a e. cc))
   few_while_open (Executed x y z ∷ past) outputs r opened none = few_while_open past (Executed x y z ∷ outputs) r.1 opened (no_accept (Executed x y z) outputs none (λ k t a e. cc))

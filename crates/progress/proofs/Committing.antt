@@ -12,7 +12,7 @@ use Rattle.wire_format.specs.Messages.{BodyData as Body, MessageData as Message,
 use Rattle.wire_format.specs.Spelling.{is_signed}
 use Rattle.wire_format.specs.Words.{said}
 use Rattle.authenticator.specs.Membership.{sends}
-use Rattle.protocol.specs.System.Configuration.{Configuration, IsConfiguration, replicas, primary, is_replica, is_correct_replica, members}
+use Rattle.protocol.specs.System.Configuration.{Configuration, IsConfiguration, replicas, primary, is_replica, is_correct_replica, signers}
 use Rattle.protocol.specs.System.Trace.{Entry, party_of, history_of, Once, Unforged}
 use Rattle.protocol.specs.System.Trace.Entry.{Got, Sent}
 use Rattle.protocol.specs.System.Run.{OnlyTheseStopped}
@@ -155,7 +155,7 @@ pub of_unsigned : (v i : ℕ) (message : Message) → IsOf v i message → is_si
 of_unsigned v i _ (is_batch b) = refl
 of_unsigned v i _ _ = refl
 
-pub of_sent : (c : Configuration) (v i q : ℕ) (message : Message) → IsOf v i message → is_replica c q ≡ true → sends (members c) q message ≡ true
+pub of_sent : (c : Configuration) (v i q : ℕ) (message : Message) → IsOf v i message → is_replica c q ≡ true → sends (signers c) q message ≡ true
 of_sent c v i q _ (is_batch b) h = h
 of_sent c v i q _ _ h = h
 

@@ -9,8 +9,8 @@ use Rattle.wire_format.specs.Messages.{BodyData as Body, FrameData as Frame, Aut
 use Rattle.wire_format.specs.Spelling.{is_signed, authenticator_is_signed}
 use Rattle.wire_format.specs.Words.{said}
 use Rattle.signing.specs.AuthenticBody.{authentic, signed_body}
-use Rattle.signing.proofs.AuthenticBody.{signed_is_authentic, authentic_was_opened}
-use Rattle.protocol.specs.System.Configuration.{Configuration, replicas, primary, is_replica, is_correct_replica, members}
+use Rattle.signing.proofs.AuthenticBody.{authentic_was_opened}
+use Rattle.protocol.specs.System.Configuration.{Configuration, replicas, primary, is_replica, is_correct_replica, members, signers}
 use Rattle.protocol.specs.System.Trace.{Entry, history_of, Has, party_of}
 use Rattle.protocol.specs.System.Trace.Entry.{Invoke, Got, Sent}
 use Rattle.protocol.specs.System.Run.{IsRun}
@@ -24,6 +24,7 @@ use Rattle.protocol.proofs.Words.Reacting.{is_replica_right}
 use Rattle.protocol.proofs.Agreement.Marks.{Begins, begins, view_grows}
 use Rattle.protocol.proofs.Agreement.Voting.{correct_replica}
 use Rattle.protocol.proofs.Agreement.States.{history_append}
+use Rattle.evidence.proofs.Knowing.{signed_is_heard}
 use Rattle.progress.specs.Delivery.{HasEntry, meant, AllDelivered}
 use Rattle.progress.specs.Leaving.{NewViewsAreEntered}
 use Rattle.progress.proofs.Answering.{in_range, in_history, in_trace}
@@ -112,8 +113,8 @@ primary_sent c v part start point leaves b = go b.entry refl b.brings
 
     go : (e : Entry) → b.entry ≡ e → new_view_in c e ≡ Some b.new → NewViewSent c (primary c v) v part
     go (Got q bytes) is h =
-        let r = and_then_some (new_view_from c) (authentic (members c) q bytes) b.new h in
-        absurd ((authentic_was_opened (members c) q bytes r.0 r.1).other (same r.0 (begins c r.0 b.new r.2) ∙ sym (ap party_of (sym is) ∙ own)))
+        let r = and_then_some (new_view_from c) (authentic (members c q) q bytes) b.new h in
+        absurd ((authentic_was_opened (members c q) q bytes r.0 r.1).other (same r.0 (begins c r.0 b.new r.2) ∙ sym (ap party_of (sym is) ∙ own)))
     go (Sent q bytes) is h =
         let r = and_then_some (new_view_from c) (said bytes) b.new h in
         let t = begins c r.0 b.new r.2 in
@@ -176,7 +177,7 @@ module _ (c : Configuration) (later start : List Entry) (run : IsRun c (later ++
   known : is_replica c p0 ≡ true
   known = (and_parts (is_replica c p0) _ from).0
 
-  signed : signed_body (members c) its_new_view.bytes ≡ Some (record { sender = p0; message = NewView its_new_view.new })
+  signed : signed_body (signers c) its_new_view.bytes ≡ Some (record { sender = p0; message = NewView its_new_view.new })
   signed = signed_by c p0 its_new_view.bytes (record { sender = p0; message = NewView its_new_view.new }) at.past at.point at.may its_new_view.says refl known
     where
       at : SentAt c p0 p0 its_new_view.bytes (history_of p0 later ++ history_of p0 start)
@@ -203,8 +204,8 @@ module _ (c : Configuration) (later start : List Entry) (run : IsRun c (later ++
           differ : r ≢ p0
           differ = eqb-false r p0 e
 
-          receives : authentic (members c) r its_new_view.bytes ≡ Some (record { sender = p0; message = NewView its_new_view.new })
-          receives = signed_is_authentic (members c) r its_new_view.bytes (record { sender = p0; message = NewView its_new_view.new }) signed (λ same. differ (sym same))
+          receives : authentic (members c r) r its_new_view.bytes ≡ Some (record { sender = p0; message = NewView its_new_view.new })
+          receives = signed_is_heard c r its_new_view.bytes (record { sender = p0; message = NewView its_new_view.new }) signed (λ same. differ (sym same))
 
           gets : HasEntry (Got r its_new_view.bytes) later
           gets = all p0 r its_new_view.bytes (in_trace p0 (Sent p0 its_new_view.bytes) later its_new_view.is_sent)

@@ -85,7 +85,7 @@ gave c i batch e past point leaves h = go e leaves.2 brings
     go (Sent p bytes) step is =
         let same : ◌≡◌ {A = Body} step.may.body (giving c i batch) = some_injective step.may.body (giving c i batch) (sym step.may.says ∙ is) in
         record { sends = (step.own, is); may = subst (λ (b : Body). MaySendMessage c (primary c 0) past leaves.0 (Sent p bytes) bytes b.message) same step.may.allowed }
-    go (Got p bytes) step is = absurd ((authentic_was_opened (members c) p bytes (giving c i batch) is).other (sym step.own))
+    go (Got p bytes) step is = absurd ((authentic_was_opened (members c p) p bytes (giving c i batch) is).other (sym step.own))
     go _ step is = absurd cc
 
 -- the primary assigned the number that is logged there

@@ -6,7 +6,7 @@ use Rattle.wire_format.specs.Words.{carried}
 use Rattle.authenticator.specs.Membership.{has_sender}
 use Rattle.signing.specs.AuthenticBody.{authentic, signed_body}
 use Rattle.signing.proofs.AuthenticBody.{signed_was_signed}
-use Rattle.protocol.specs.System.Configuration.{Configuration, IsConfiguration, primary, is_replica, is_faulty_replica, is_correct_replica, members}
+use Rattle.protocol.specs.System.Configuration.{Configuration, IsConfiguration, primary, is_replica, is_faulty_replica, is_correct_replica, members, signers}
 use Rattle.protocol.specs.System.Trace.{Entry, history_of, Once, Always, Has, Unforged, frames_in}
 use Rattle.protocol.specs.System.Trace.Entry.{Invoke, Got, Sent}
 use Rattle.protocol.specs.System.Texts.{NoCollision}
@@ -63,7 +63,7 @@ module _ (c : Configuration) (trace : List Entry) (silent : AreFaultySilent c tr
           by : (e : Entry) → HasEntry e (history_of q trace) → (body : Body) → brought c e ≡ Some body → body.sender ≡ primary c 0 → RightAt c q a.past e → ⊥
           by (Got p bytes) has body is from r =
               let mine : HasEntry (Got q bytes) (history_of q trace) = subst (λ (x : ℕ). HasEntry (Got x bytes) (history_of q trace)) r.own has in
-              let receives : authentic (members c) q bytes ≡ Some body = subst (λ (x : ℕ). authentic (members c) x bytes ≡ Some body) r.own is in
+              let receives : authentic (members c q) q bytes ≡ Some body = subst (λ (x : ℕ). authentic (members c x) x bytes ≡ Some body) r.own is in
               let none = (silent q bytes correct (in_trace q (Got q bytes) trace mine)).0.receives body receives in
               let bad : false ≡ true = sym none ∙ ap (is_faulty_replica c) from ∙ faulty in
               cc
@@ -84,7 +84,7 @@ module _ (c : Configuration) (trace : List Entry) (silent : AreFaultySilent c tr
 
   -- no frame that a correct replica has seen is signed by a faulty one
   seen_of_none : (q : ℕ) → is_correct_replica c q ≡ true → (xs : List Entry) → ((e : Entry) → HasEntry e xs → HasEntry e (history_of q trace)) → Always (RightAt c q) xs → (bytes : List ℕ) → Once (HasSeen bytes) xs
-      → (body : Body) → signed_body (members c) bytes ≡ Some body → is_faulty_replica c body.sender ≡ false
+      → (body : Body) → signed_body (signers c) bytes ≡ Some body → is_faulty_replica c body.sender ≡ false
   seen_of_none q correct [] inside right bytes h body signed = absurd h
   seen_of_none q correct (e ∷ past) inside right bytes (inr h) body signed = seen_of_none q correct past (λ x k. inside x (inr k)) right.1 bytes h body signed
   seen_of_none q correct (Got p whole ∷ past) inside right bytes (inl h) body signed =
@@ -135,8 +135,8 @@ module _ (c : Configuration) (setting : IsConfiguration c) (trace : List Entry) 
       where
         known : is_replica c x.0 ≡ true
         known =
-            let s = signed_was_signed (members c) frame.0 (changing x.0 x.1) frame.2 in
-            subst (λ (b : Body). has_sender (members c) b ≡ true) s.body_is s.sender
+            let s = signed_was_signed (signers c) frame.0 (changing x.0 x.1) frame.2 in
+            subst (λ (b : Body). has_sender (signers c) b ≡ true) s.body_is s.sender
 
         honest : is_faulty_replica c x.0 ≡ false
         honest =

@@ -59,7 +59,7 @@ own_checkpoint : (c : Configuration) (me : ℕ) (m : CheckpointEntry) (e : Entry
 own_checkpoint c me m (Got p bytes) past point leaves h =
     let r = and_then_some {B = ℕ × CheckpointEntry} checkpoint_from (brought c (Got p bytes)) (me, m) h in
     let body = checkpoint_body me m r.0.sender r.0.message r.2 in
-    let o = authentic_was_opened (members c) p bytes (record { sender = me; message = Checkpoint m.number m.digest }) (r.1 ∙ ap Some body) in
+    let o = authentic_was_opened (members c p) p bytes (record { sender = me; message = Checkpoint m.number m.digest }) (r.1 ∙ ap Some body) in
     absurd (o.other (sym leaves.2.own))
 own_checkpoint c me m (Sent p bytes) past point leaves h =
     let r = and_then_some {B = ℕ × CheckpointEntry} checkpoint_from (brought c (Sent p bytes)) (me, m) h in

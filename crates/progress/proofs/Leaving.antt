@@ -8,7 +8,7 @@ use Rattle.wire_format.specs.Spelling.{is_signed, authenticator_is_signed}
 use Rattle.wire_format.specs.Words.{said}
 use Rattle.authenticator.specs.Membership.{has_sender}
 use Rattle.signing.specs.AuthenticBody.{has_signature, is_signed_frame, signed_body}
-use Rattle.protocol.specs.System.Configuration.{Configuration, replicas, primary, is_replica, members}
+use Rattle.protocol.specs.System.Configuration.{Configuration, replicas, primary, is_replica, signers}
 use Rattle.protocol.specs.System.Trace.{Entry, is_output, history_of, Once}
 use Rattle.protocol.specs.System.Trace.Entry.{Got, Tick, Sent}
 use Rattle.protocol.specs.Replica.Selection.{is_within, change_in, signed_change, changes_of}
@@ -156,16 +156,16 @@ primaries_begin_views c trace goes p new correct own left selected changes batch
 
 -- ---- a frame of a view change
 
-by_signature : (c : Configuration) (frame : Frame) (a : Authenticator) → authenticator_is_signed a ≡ true → IsSealedBy c frame a → has_signature c.seed frame ≡ true
+by_signature : (c : Configuration) (frame : Frame) (a : Authenticator) → authenticator_is_signed a ≡ true → IsSealedBy c frame a → has_signature c.publics frame ≡ true
 by_signature c frame (macs entries) h sealed = absurd cc
 by_signature c frame (signature s) h sealed = sealed
 
 -- a view change or new view that a replica sends is signed
 pub signed_by : (c : Configuration) (me : ℕ) (bytes : List ℕ) (body : Body) (past : List Entry) (point : Point) → MaySend c me past point (Sent me bytes) bytes → said bytes ≡ Some body
-    → is_signed body.message ≡ true → has_sender (members c) body ≡ true → signed_body (members c) bytes ≡ Some body
+    → is_signed body.message ≡ true → has_sender (signers c) body ≡ true → signed_body (signers c) bytes ≡ Some body
 unfolding signed_body
 signed_by c me bytes body past point may says signed known =
-    ap (option_and_then (λ (frame : Frame). cond (is_signed_frame (members c) frame) (Some frame.body) None)) f.is
+    ap (option_and_then (λ (frame : Frame). cond (is_signed_frame (signers c) frame) (Some frame.body) None)) f.is
     ∙ ap (λ (b : Bool). cond b (Some f.frame.body) None) passes ∙ ap Some f.body_is
   where
     f : Spelled bytes body
@@ -174,10 +174,10 @@ signed_by c me bytes body past point may says signed known =
     kind : is_signed f.frame.body.message ≡ true
     kind = ap (λ (b : Body). is_signed b.message) f.body_is ∙ signed
 
-    passes : is_signed_frame (members c) f.frame ≡ true
+    passes : is_signed_frame (signers c) f.frame ≡ true
     passes =
-        and_from (is_signed f.frame.body.message) (has_sender (members c) f.frame.body && has_signature c.seed f.frame) kind
-        (and_from (has_sender (members c) f.frame.body) (has_signature c.seed f.frame) (ap (has_sender (members c)) f.body_is ∙ known)
+        and_from (is_signed f.frame.body.message) (has_sender (signers c) f.frame.body && has_signature c.publics f.frame) kind
+        (and_from (has_sender (signers c) f.frame.body) (has_signature c.publics f.frame) (ap (has_sender (signers c)) f.body_is ∙ known)
         (by_signature c f.frame f.frame.authenticator (f.spells.valid.proved ∙ kind) (may.is_sealed f.frame f.is).0))
 
 -- the bytes of a view change that came, or that was sent
@@ -187,7 +187,7 @@ pub record Bytes (c : Configuration) (s : ℕ) (vc : ViewChangeData) : Type 0 wh
 
 pub change_bytes : (c : Configuration) (s : ℕ) (vc : ViewChangeData) (bytes : List ℕ) → signed_change c bytes ≡ Some (s, vc) → SpellsChange c bytes s vc
 change_bytes c s vc bytes h =
-    let t = and_then_some {B = ℕ × ViewChangeData} change_in (signed_body (members c) bytes) (s, vc) h in
+    let t = and_then_some {B = ℕ × ViewChangeData} change_in (signed_body (signers c) bytes) (s, vc) h in
     t.1 ∙ ap Some (is_change t.0.sender t.0.message t.2)
   where
     is_change : (sender : ℕ) (message : Message) → change_in (record { sender = sender; message = message }) ≡ Some (s, vc) → ◌≡◌ {A = Body} (record { sender = sender; message = message }) (changing s vc)

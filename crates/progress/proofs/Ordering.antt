@@ -113,7 +113,7 @@ module _ (c : Configuration) (setting : IsConfiguration c) (later start : List E
       }
         where
           receives : Heard c q s message shared.bytes
-          receives = other_hears c q s message shared.bytes shared.past shared.point shared.may shared.says (of_unsigned v i message of) (of_sent c v i q message of (known q one))
+          receives = other_hears c q s message shared.bytes shared.past shared.point shared.may shared.says (of_unsigned v i message of) (of_sent c v i q message of (known q one)) (known q one)
               (λ receivers h. of_others c v i q shared.past receivers message of h) (below s other) (λ same. eqb-false q s e (sym same))
 
           at : Stands (Got s shared.bytes) (part s) (first s)
@@ -192,7 +192,7 @@ module _ (c : Configuration) (setting : IsConfiguration c) (later start : List E
 
       go : (e : Entry) → since.entry ≡ e → brought c e ≡ Some (record { sender = p0; message = PrePrepare v i batch }) → Shared c p0 (PrePrepare v i batch) (whole p0)
       go (Got p bytes) is h =
-          let o = authentic_was_opened (members c) p bytes (record { sender = p0; message = PrePrepare v i batch }) h in
+          let o = authentic_was_opened (members c p) p bytes (record { sender = p0; message = PrePrepare v i batch }) h in
           absurd (o.other (sym (own (Got p bytes) is)))
       go (Sent p bytes) is h = record {
         bytes = bytes;

@@ -98,7 +98,7 @@ module _ (c : Configuration) (setting : IsConfiguration c) (later start : List E
         }
           where
             receives : Heard c q s message shared.bytes
-            receives = other_hears c q s message shared.bytes shared.past shared.point shared.may shared.says (of_unsigned v i message of) (of_sent c v i q message of (known q one))
+            receives = other_hears c q s message shared.bytes shared.past shared.point shared.may shared.says (of_unsigned v i message of) (of_sent c v i q message of (known q one)) (known q one)
                 (λ receivers h. of_others c v i q shared.past receivers message of h) (below s other) (λ same. eqb-false q s e (sym same))
 
             at : Stands (Got s shared.bytes) (part s) (first s)

@@ -264,7 +264,7 @@ module _ (c : Configuration) (setting : IsConfiguration c) (later start : List E
       go (Sent p bytes) step is =
           let same : ◌≡◌ {A = Body} step.may.body (giving c i batch) = some_injective step.may.body (giving c i batch) (sym step.may.says ∙ is) in
           record { sends = (step.own, is); may = subst (λ (b : Body). MaySendMessage c (primary c 1) past leaves.0 (Sent p bytes) bytes b.message) same step.may.allowed }
-      go (Got p bytes) step is = absurd ((authentic_was_opened (members c) p bytes (giving c i batch) is).other (sym step.own))
+      go (Got p bytes) step is = absurd ((authentic_was_opened (members c p) p bytes (giving c i batch) is).other (sym step.own))
       go _ step is = absurd cc
 
   pub record WasGiven (i : ℕ) (batch : List ℕ) (xs : List Entry) : Type 0 where

@@ -401,7 +401,7 @@ module _ (c : Configuration) (setting : IsConfiguration c) (trace : List Entry) 
 
           go : (e : Entry) → May c q (middle ++ past) behind.0 e → MovesPoint c q (middle ++ past) behind.0 e new → behind.0.waiting ≢ [] → new.waiting ≢ []
           go (Got p bytes) may move below h =
-              waits_behind behind.0.state behind.0.waiting (option_and_then (call_in c) (authentic (members c) q bytes)) below (sym (ap (λ (p : Point). p.waiting) move) ∙ h)
+              waits_behind behind.0.state behind.0.waiting (option_and_then (call_in c) (authentic (members c q) q bytes)) below (sym (ap (λ (p : Point). p.waiting) move) ∙ h)
           go (Tick p) may move below h = below (sym (ap (λ (p : Point). p.waiting) move) ∙ h)
           go (Sent p bytes) may move below h = below (sym (ap (λ (p : Point). p.waiting) move) ∙ h)
           go (Invoke x y z) may move below h = may

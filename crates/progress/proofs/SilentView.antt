@@ -10,7 +10,7 @@ use Rattle.signing.specs.AuthenticBody.{signed_body}
 use Rattle.signing.specs.Signatures.{signature_of}
 use Rattle.signing.proofs.Signed.{signature_of-verifies}
 use Rattle.authenticator.specs.Keys.{signing_seed}
-use Rattle.protocol.specs.System.Configuration.{Configuration, IsConfiguration, replicas, primary, is_replica, is_correct_replica, members}
+use Rattle.protocol.specs.System.Configuration.{Configuration, IsConfiguration, replicas, primary, is_replica, is_correct_replica, signers}
 use Rattle.protocol.specs.System.Trace.{Entry, history_of, Once, Always, Unforged}
 use Rattle.protocol.specs.System.Trace.Entry.{Got, Tick, Sent}
 use Rattle.protocol.specs.System.Texts.{NoCollision}
@@ -204,7 +204,7 @@ module _ (c : Configuration) (setting : IsConfiguration c) (trace : List Entry) 
         at : SentAt c q frame.party frame.bytes (history_of q trace)
         at = sent_at c q frame.party frame.bytes (history_of q trace) (right q correct).0 (right q correct).1 frame.is_there
 
-        signed : signed_body (members c) frame.bytes ≡ Some (changing q beginning_change)
+        signed : signed_body (signers c) frame.bytes ≡ Some (changing q beginning_change)
         signed = signed_by c q frame.bytes (changing q beginning_change) at.past at.point (subst (λ (x : ℕ). MaySend c q at.past at.point (Sent x frame.bytes) frame.bytes) at.own at.may) frame.says refl (known q correct)
 
         sent : HasEntry (Sent q frame.bytes) trace

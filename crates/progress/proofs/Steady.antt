@@ -7,7 +7,7 @@ use Rattle.wire_format.specs.Messages.{BodyData as Body, MessageData as Message,
 use Rattle.wire_format.specs.Spelling.{is_signed, authenticator_is_signed}
 use Rattle.wire_format.specs.Words.{said, receivers_of, frame_of}
 use Rattle.authenticator.specs.Membership.{sends}
-use Rattle.protocol.specs.System.Configuration.{Configuration, replicas, span, is_number, members}
+use Rattle.protocol.specs.System.Configuration.{Configuration, replicas, is_replica, span, is_number, signers}
 use Rattle.protocol.specs.System.Frames.{IsSealed}
 use Rattle.protocol.specs.System.Trace.{Entry, Has, Once}
 use Rattle.protocol.specs.System.Trace.Entry.{Sent}
@@ -20,6 +20,7 @@ use Rattle.protocol.proofs.Agreement.Marks.{view_grows, low_grows}
 use Rattle.protocol.proofs.Agreement.Changes.{target_grows}
 use Rattle.protocol.proofs.Agreement.Voting.{logged_stays, right_always}
 use Rattle.protocol.proofs.Agreement.Offers.{logged_view}
+use Rattle.evidence.proofs.Knowing.{replicas_exchange}
 use Rattle.progress.specs.Delivery.{HasEntry}
 use Rattle.progress.proofs.Receiving.{Heard, sealed_is_authentic}
 use Rattle.progress.proofs.Answering.{in_range}
@@ -179,10 +180,10 @@ for_others c r s past message for small differ (macs entries) plain addressed = 
 for_others c r s past message for small differ (signature x) plain addressed = absurd cc
 
 pub other_hears : (c : Configuration) (r s : ℕ) (message : Message) (bytes : List ℕ) (past : List Entry) (point : Point) → MaySend c r past point (Sent r bytes) bytes
-    → said bytes ≡ Some (record { sender = r; message = message }) → is_signed message ≡ false → sends (members c) r message ≡ true
+    → said bytes ≡ Some (record { sender = r; message = message }) → is_signed message ≡ false → sends (signers c) r message ≡ true → is_replica c r ≡ true
     → ((receivers : List ℕ) → IsFor c r past message receivers → receivers ≡ others c r) → s < replicas c → s ≢ r → Heard c r s message bytes
-other_hears c r s message bytes past point may says unsigned known for small differ =
-    sealed_is_authentic c r s message bytes says well unsigned known (λ same. differ (sym same))
+other_hears c r s message bytes past point may says unsigned known replica for small differ =
+    sealed_is_authentic c r s message bytes says well unsigned known (replicas_exchange c r s replica (lt-ltb s (replicas c) small) (λ same. differ (sym same)))
   where
     same_body : ◌≡◌ {A = Body} may.body (record { sender = r; message = message })
     same_body = some_injective may.body (record { sender = r; message = message }) (sym may.says ∙ says)

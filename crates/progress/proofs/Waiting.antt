@@ -31,8 +31,8 @@ use Rattle.progress.proofs.Keeping.{times_grow}
 
 -- ---- waiting requests were received
 
-call_heard : (c : Configuration) (me : ℕ) (bytes : List ℕ) (body : Body) (call : Call) → authentic (members c) me bytes ≡ Some body → call_in c body ≡ Some call
-    → authentic (members c) me bytes ≡ Some (asking (256 + call.client) call.timestamp modes.Ordered call.op)
+call_heard : (c : Configuration) (me : ℕ) (bytes : List ℕ) (body : Body) (call : Call) → authentic (members c me) me bytes ≡ Some body → call_in c body ≡ Some call
+    → authentic (members c me) me bytes ≡ Some (asking (256 + call.client) call.timestamp modes.Ordered call.op)
 call_heard c me bytes body call receives is =
     let says = heard_said c me bytes body receives in
     receives ∙ sym says ∙ call_body c bytes call (ap (option_and_then (call_in c)) says ∙ is)
@@ -55,7 +55,7 @@ waits_heard : (c : Configuration) (me : ℕ) (xs : List Entry) (point : Point) �
 waits_heard c me [] point leaves other h = absurd (subst (λ (p : Point). Has (λ x. x ≡ other) p.waiting) leaves h)
 waits_heard c me (e ∷ past) point leaves other h = go e leaves.2.moves (waits_heard c me past leaves.0 leaves.1 other)
   where
-    got : (p : ℕ) (bytes : List ℕ) (o : Option Body) → authentic (members c) me bytes ≡ o
+    got : (p : ℕ) (bytes : List ℕ) (o : Option Body) → authentic (members c me) me bytes ≡ o
         → Has (λ x. x ≡ other) (option_map_or (with_waiting leaves.0.state leaves.0.waiting) (option_and_then (call_in c) o) leaves.0.waiting)
         → (Has (λ x. x ≡ other) leaves.0.waiting → Once (Receives c me (asking (256 + other.client) other.timestamp modes.Ordered other.op)) past)
         → Once (Receives c me (asking (256 + other.client) other.timestamp modes.Ordered other.op)) (Got p bytes ∷ past)
@@ -69,11 +69,11 @@ waits_heard c me (e ∷ past) point leaves other h = go e leaves.2.moves (waits_
           where
             pick : Has (λ x. x ≡ other) leaves.0.waiting ⊎ (call ≡ other) → Once (Receives c me (asking (256 + other.client) other.timestamp modes.Ordered other.op)) (Got p bytes ∷ past)
             pick (inl k) = inr (below k)
-            pick (inr same) = inl (subst (λ (x : Call). authentic (members c) me bytes ≡ Some (asking (256 + x.client) x.timestamp modes.Ordered x.op)) same (call_heard c me bytes body call receives is))
+            pick (inr same) = inl (subst (λ (x : Call). authentic (members c me) me bytes ≡ Some (asking (256 + x.client) x.timestamp modes.Ordered x.op)) same (call_heard c me bytes body call receives is))
 
     go : (e : Entry) → MovesPoint c me past leaves.0 e point → (Has (λ x. x ≡ other) leaves.0.waiting → Once (Receives c me (asking (256 + other.client) other.timestamp modes.Ordered other.op)) past)
         → Once (Receives c me (asking (256 + other.client) other.timestamp modes.Ordered other.op)) (e ∷ past)
-    go (Got p bytes) move below = got p bytes (authentic (members c) me bytes) refl (subst (λ (q : Point). Has (λ x. x ≡ other) q.waiting) move h) below
+    go (Got p bytes) move below = got p bytes (authentic (members c me) me bytes) refl (subst (λ (q : Point). Has (λ x. x ≡ other) q.waiting) move h) below
     go (Tick p) move below = inr (below (subst (λ (q : Point). Has (λ x. x ≡ other) q.waiting) move h))
     go (Sent p bytes) move below = inr (below (subst (λ (q : Point). Has (λ x. x ≡ other) q.waiting) move h))
     go (Invoke x y z) move below = inr (below (subst (λ (q : Point). Has (λ x. x ≡ other) q.waiting) move h))
@@ -200,9 +200,9 @@ module _ (c : Configuration) (trace : List Entry) (run : Run c trace) (k : ℕ) 
   one_more newer past e old point splits before behind move (inr l) =
       let grows = times_grow c trace run r newer (e ∷ []) past old point k correct splits before behind in
       inr (omega arith)
-  one_more newer past (Got p bytes) old point splits before behind move (inl h) = subst Waits (sym move) (inl (go (authentic (members c) r bytes) refl))
+  one_more newer past (Got p bytes) old point splits before behind move (inl h) = subst Waits (sym move) (inl (go (authentic (members c r) r bytes) refl))
     where
-      calls : (body : Body) → authentic (members c) r bytes ≡ Some body → (u : Option Call) → call_in c body ≡ u → Has (λ x. x ≡ its) (option_map_or (with_waiting old.state old.waiting) u old.waiting)
+      calls : (body : Body) → authentic (members c r) r bytes ≡ Some body → (u : Option Call) → call_in c body ≡ u → Has (λ x. x ≡ its) (option_map_or (with_waiting old.state old.waiting) u old.waiting)
       calls body receives None is = h
       calls body receives (Some other) is = keep_waiting old.state old.waiting other most h
         where
@@ -214,7 +214,7 @@ module _ (c : Configuration) (trace : List Entry) (run : Run c trace) (k : ℕ) 
               (once_append (Receives c r (asking (256 + other.client) other.timestamp modes.Ordered other.op)) newer (Got p bytes ∷ past) there) in
               (heard_most other.timestamp other.op (subst (λ (x : ℕ). Once (Receives c r (asking (256 + x) other.timestamp modes.Ordered other.op)) (history_of r trace)) own whole)).0
 
-      go : (o : Option Body) → authentic (members c) r bytes ≡ o → Has (λ x. x ≡ its) (option_map_or (with_waiting old.state old.waiting) (option_and_then (call_in c) o) old.waiting)
+      go : (o : Option Body) → authentic (members c r) r bytes ≡ o → Has (λ x. x ≡ its) (option_map_or (with_waiting old.state old.waiting) (option_and_then (call_in c) o) old.waiting)
       go None receives = h
       go (Some body) receives = calls body receives (call_in c body) refl
   one_more newer past (Executed p n batch) old point splits before behind move (inl h) = subst Waits (sym move) (still_waits (execute c old.state batch) old.waiting h)
@@ -233,7 +233,7 @@ module _ (c : Configuration) (trace : List Entry) (run : Run c trace) (k : ℕ) 
       ap (λ (b : Bool). cond {A = Option Call} b (Some (record { client = me - 256; timestamp = call.timestamp; op = call.op })) None) known
       ∙ ap (λ (x : ℕ). let y : Call = record { client = x; timestamp = call.timestamp; op = call.op } in Some y) (omega arith)
 
-  pub waits_since : (request : List ℕ) → authentic (members c) r request ≡ Some (asking me call.timestamp modes.Ordered call.op)
+  pub waits_since : (request : List ℕ) → authentic (members c r) r request ≡ Some (asking me call.timestamp modes.Ordered call.op)
       → (newer middle past : List Entry) (point : Point) → history_of r trace ≡ newer ++ (middle ++ Got r request ∷ past) → HistoryReaches c r (middle ++ Got r request ∷ past) point
       → Has (λ x. x ≡ its) point.waiting ⊎ (call.timestamp ≤ last_time point.state k)
   waits_since request receives newer [] past point splits leaves =

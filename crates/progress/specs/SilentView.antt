@@ -4,7 +4,7 @@ use Rattle.std.specs.Prelude.{◌≡◌, ◌≢◌, ℕ, ◌≤◌, ◌⊎◌, t
 use Rattle.wire_format.specs.Lists.{Each}
 use Rattle.wire_format.specs.Messages.{BodyData as Body}
 use Rattle.signing.specs.AuthenticBody.{authentic, signed_body}
-use Rattle.protocol.specs.System.Configuration.{Configuration, IsConfiguration, primary, is_faulty_replica, is_correct_replica, members}
+use Rattle.protocol.specs.System.Configuration.{Configuration, IsConfiguration, primary, is_faulty_replica, is_correct_replica, members, signers}
 use Rattle.protocol.specs.System.Trace.{Entry, history_of, Unforged, frames_in}
 use Rattle.protocol.specs.System.Trace.Entry.{Got, Tick}
 use Rattle.protocol.specs.System.Texts.{NoCollision}
@@ -49,8 +49,8 @@ SilentViewsAreLeft =
 
 -- The frame is of no faulty replica: this replica receives none as its sender, and none has signed it.
 pub record IsOfNoFaulty (c : Configuration) (me : ℕ) (bytes : List ℕ) : Type 0 where
-  pub receives : (body : Body) → authentic (members c) me bytes ≡ Some body → is_faulty_replica c body.sender ≡ false
-  pub signed : (body : Body) → signed_body (members c) bytes ≡ Some body → is_faulty_replica c body.sender ≡ false
+  pub receives : (body : Body) → authentic (members c me) me bytes ≡ Some body → is_faulty_replica c body.sender ≡ false
+  pub signed : (body : Body) → signed_body (signers c) bytes ≡ Some body → is_faulty_replica c body.sender ≡ false
 
 -- The faulty replicas are silent: no frame that a correct replica receives, alone or carried, is of one of them.
 abbrev pub AreFaultySilent : Configuration → List Entry → Type 0
