@@ -3,6 +3,7 @@ pub mod Collecting
 pub mod Ending
 pub mod Finding
 pub mod Going
+pub mod Judging
 pub mod Listing
 pub mod Noting
 pub mod Numbers

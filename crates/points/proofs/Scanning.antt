@@ -14,7 +14,8 @@ use Rattle.protocol.specs.System.Trace.Entry.{Invoke, Got, Tick, Executed, Insta
 use Rattle.protocol.specs.Client.RightClient.{Vote, OpenCall, reply_vote, open_call, newest_vote}
 use Rattle.protocol.specs.Space.Linear.{Placing, invoked_at, invoke_past, read_point, read_points}
 use Rattle.points.proofs.Finding.{position_of}
-use Rattle.points.specs.Scanning.{scan_after_entry, scan_of, number_in, read_number, read_at, read_by_scan, with_read, reads_by_scans}
+use Rattle.points.specs.Scanning.{scan_after_entry, scan_of, number_in, read_number, read_at, read_by_scan, with_read, reads_by_scans, seed_holder}
+use Rattle.points.proofs.Judging.{same_judgement}
 
 pub call_is : (p : ℕ) (past : List Entry) → open_call (history_of p past) ≡ (scan_of p past).call
 call_is p [] = refl
@@ -54,7 +55,7 @@ invoked_is p (Sent q bytes ∷ past) = keeps p (Sent q bytes) past (q == p) refl
 
 -- the vote in the bytes
 abbrev vote_in : Configuration → ℕ → ℕ → List ℕ → Option Vote
-vote_in c p timestamp bytes = option_and_then (λ (body : BodyData). reply_vote p timestamp body.sender body) (authentic (members c) p bytes)
+vote_in c p timestamp bytes = option_and_then (λ (body : BodyData). reply_vote p timestamp body.sender body) (authentic (members c p) p bytes)
 
 pub vote_is : (c : Configuration) (p timestamp : ℕ) (past : List Entry) → newest_vote c p (history_of p past) timestamp ≡ option_and_then (vote_in c p timestamp) (scan_of p past).got
 vote_is c p timestamp [] = refl
@@ -92,9 +93,9 @@ same_read f g same p answer invoked (Some vote) (Some call) = go (same_mode vote
     go true = ap (λ (n : ℕ). Some (read_at (λ _. n) p answer invoked call vote.number)) (same vote.number)
 
 same_number : (c : Configuration) (p timestamp : ℕ) (got : Option (List ℕ))
-    → option_and_then number_by (option_and_then (vote_in c p timestamp) got) ≡ option_and_then (read_number (members c) p timestamp) got
+    → option_and_then number_by (option_and_then (vote_in c p timestamp) got) ≡ option_and_then (read_number (seed_holder c) p timestamp) got
 same_number c p timestamp None = refl
-same_number c p timestamp (Some bytes) = go (authentic (members c) p bytes)
+same_number c p timestamp (Some bytes) = go (authentic (members c p) p bytes) ∙ same_judgement c p timestamp bytes
   where
     go : (o : Option BodyData) → option_and_then number_by (option_and_then (λ (body : BodyData). reply_vote p timestamp body.sender body) o) ≡ option_and_then (number_in p timestamp) o
     go None = refl
@@ -102,7 +103,7 @@ same_number c p timestamp (Some bytes) = go (authentic (members c) p bytes)
 
 pub read_is : (c : Configuration) (trace : List Entry) (at : ℕ → ℕ) → ((k : ℕ) → position_of c trace k ≡ at k) → (past : List Entry) (p timestamp : ℕ) (answer : Outcome)
     → option_and_then (λ call. option_and_then (read_point c trace p call answer past) (newest_vote c p (history_of p past) timestamp)) (open_call (history_of p past))
-    ≡ read_by_scan (members c) at p timestamp answer (scan_of p past)
+    ≡ read_by_scan (seed_holder c) at p timestamp answer (scan_of p past)
 read_is c trace at same past p timestamp answer =
     ap (read_by (position_of c trace) p answer (invoked_at p past) (newest_vote c p (history_of p past) timestamp)) (call_is p past)
     ∙ ap (λ v. read_by (position_of c trace) p answer (invoked_at p past) v (scan_of p past).call) (vote_is c p timestamp past)
@@ -114,9 +115,9 @@ joined : (o : Option Placing) (xs : List Placing) → option_map_or (λ point. p
 joined None xs = refl
 joined (Some x) xs = refl
 
-pub reads_are : (c : Configuration) (trace : List Entry) (at : ℕ → ℕ) → ((k : ℕ) → position_of c trace k ≡ at k) → (past : List Entry) → read_points c trace past ≡ reads_by_scans (members c) at past
+pub reads_are : (c : Configuration) (trace : List Entry) (at : ℕ → ℕ) → ((k : ℕ) → position_of c trace k ≡ at k) → (past : List Entry) → read_points c trace past ≡ reads_by_scans (seed_holder c) at past
 reads_are c trace at same [] = refl
 reads_are c trace at same (Accepted k t answer ∷ past) =
     ap₂ (λ (o : Option Placing) (rest : List Placing). option_map_or (λ point. point ∷ []) o [] ++ rest) (read_is c trace at same past (256 + k) t answer) (reads_are c trace at same past)
-    ∙ joined (read_by_scan (members c) at (256 + k) t answer (scan_of (256 + k) past)) (reads_by_scans (members c) at past)
+    ∙ joined (read_by_scan (seed_holder c) at (256 + k) t answer (scan_of (256 + k) past)) (reads_by_scans (seed_holder c) at past)
 reads_are c trace at same (_ ∷ past) = reads_are c trace at same past

@@ -1,7 +1,7 @@
 -- The points of a trace, by all parts.
 use Rattle.std.proofs.Common.{◌≡◌, ℕ, suc, ◌≤◌, ◌^◌, List, [], ◌∷◌, ◌++◌, map, filter, not, refl, sym, ap, ap₂, ◌∙◌, arith, Option}
 use Rattle.wire_format.specs.Words.{requests_of}
-use Rattle.protocol.specs.System.Configuration.{Configuration, IsConfiguration, members}
+use Rattle.protocol.specs.System.Configuration.{Configuration, IsConfiguration}
 use Rattle.protocol.specs.System.Trace.{Entry}
 use Rattle.protocol.specs.Replica.State.{State, opening, execute, ran_in}
 use Rattle.protocol.specs.Space.Linear.{Placing, sorted, is_double, points, ordered_points, read_points, first_position, last_executed}
@@ -11,7 +11,7 @@ use Rattle.points.specs.Numbering.{Numbered, AscendsFrom, numbered_points, point
 use Rattle.points.specs.Batching.{CollectsBatches}
 use Rattle.points.specs.declared.levels.Rise.{Rise}
 use Rattle.points.specs.declared.sorting.Reads.{Reads}
-use Rattle.points.specs.Scanning.{reads_by_scans}
+use Rattle.points.specs.Scanning.{reads_by_scans, seed_holder}
 use Rattle.points.specs.Sorting.{HoldsReads, MergesInto}
 use Rattle.points.proofs.Collecting.{lists}
 use Rattle.points.proofs.Finding.{positions_are}
@@ -30,13 +30,13 @@ numbered_same c f g same st m (x ∷ xs) l a =
 -- those of a trace, by the batches and the reads that the scans found
 pub points_are : (c : Configuration) → IsConfiguration c → (trace : List Entry) (xs : List Numbered) → CollectsBatches trace xs
     → (ordered : List Placing) → ordered ≡ numbered_points c (level_position (rises c trace)) opening xs
-    → (found : List Placing) → found ≡ sorted (filter (λ x. not (is_double (reads_by_scans (members c) (position_in (rises c trace)) trace) x)) ordered ++ reads_by_scans (members c) (position_in (rises c trace)) trace)
+    → (found : List Placing) → found ≡ sorted (filter (λ x. not (is_double (reads_by_scans (seed_holder c) (position_in (rises c trace)) trace) x)) ordered ++ reads_by_scans (seed_holder c) (position_in (rises c trace)) trace)
     → map (λ x. x.item) found ≡ points c trace
 unfolding points
 points_are c setting trace xs h ordered is found all =
     ap (map (λ (x : Placing). x.item)) (all ∙ sym (ap₂ (λ (reads ys : List Placing). sorted (filter (λ x. not (is_double reads x)) ys ++ reads)) reads whole))
   where
-    reads : read_points c trace trace ≡ reads_by_scans (members c) (position_in (rises c trace)) trace
+    reads : read_points c trace trace ≡ reads_by_scans (seed_holder c) (position_in (rises c trace)) trace
     reads = reads_are c trace (position_in (rises c trace)) (positions_are c setting trace) trace
 
     whole : ordered_points c trace opening 1 (last_executed trace) ≡ ordered
@@ -48,10 +48,10 @@ points_are c setting trace xs h ordered is found all =
 -- the same of what the parts gave
 pub points_of_trace : (c : Configuration) → IsConfiguration c → (trace : List Entry) (risen : List Rise) → risen ≡ rises c trace
     → (xs : List Numbered) → CollectsBatches trace xs → (ordered found : List Placing)
-    → (held : Reads) → HoldsReads (2 ^ 63) (reads_by_scans (members c) (position_in risen) trace) held
+    → (held : Reads) → HoldsReads (2 ^ 63) (reads_by_scans (seed_holder c) (position_in risen) trace) held
     → ordered ≡ numbered_points c (level_position risen) opening xs → MergesInto held ordered found
     → map (λ x. x.item) found ≡ points c trace
 points_of_trace c setting trace risen is xs h ordered found held reads ran merged =
     points_are c setting trace xs h ordered (ran ∙ ap (λ rs. numbered_points c (level_position rs) opening xs) is) found
-    (merged (reads_by_scans (members c) (position_in risen) trace) reads
-    ∙ ap (λ rs. sorted (filter (λ x. not (is_double (reads_by_scans (members c) (position_in rs) trace) x)) ordered ++ reads_by_scans (members c) (position_in rs) trace)) is)
+    (merged (reads_by_scans (seed_holder c) (position_in risen) trace) reads
+    ∙ ap (λ rs. sorted (filter (λ x. not (is_double (reads_by_scans (seed_holder c) (position_in rs) trace) x)) ordered ++ reads_by_scans (seed_holder c) (position_in rs) trace)) is)

@@ -12,8 +12,10 @@ use Rattle.tuple_codec.specs.Operations.{Outcome}
 use Rattle.tuple_codec.specs.OperationView.{operation_of}
 use Rattle.wire_format.specs.Messages.{BodyData}
 use Rattle.wire_format.specs.declared.messages.Reply.{Reply}
+use Rattle.authenticator.specs.Keys.{dealt}
 use Rattle.authenticator.specs.Membership.{Membership}
 use Rattle.signing.specs.AuthenticBody.{authentic}
+use Rattle.protocol.specs.System.Configuration.{Configuration, signers}
 use Rattle.protocol.specs.System.Frames.{same_mode}
 use Rattle.protocol.specs.System.Trace.{Entry, party_of}
 use Rattle.protocol.specs.System.Trace.Entry.{Invoke, Got, Accepted}
@@ -46,6 +48,10 @@ scan_after_entry position _ scan = record { call = scan.call; invoked = scan.inv
 abbrev pub scan_of : ℕ → List Entry → ClientScanData
 scan_of p [] = empty_scan
 scan_of p (e ∷ past) = if party_of e == p then scan_after_entry (length past) e (scan_of p past) else scan_of p past
+
+-- what the holder of the seed knows: the key from each party to each other
+abbrev pub seed_holder : Configuration → Membership
+seed_holder c = record (signers c) { keys = dealt c.seed }
 
 -- the number of a message, if it is the read-only reply to the party's call
 abbrev pub number_in : ℕ → ℕ → BodyData → Option ℕ

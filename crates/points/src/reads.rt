@@ -5,11 +5,11 @@ ghost use Rattle.terms.specs.Parties.{client_party};
 ghost use Rattle.tuple_codec.specs.OperationView.{outcome_of};
 ghost use Rattle.wire_format.specs.Views.{body_data};
 ghost use Rattle.signing.specs.AuthenticBody.{authentic};
-ghost use Rattle.protocol.specs.System.Configuration.{members};
+ghost use Rattle.signing.specs.Publics.{knows};
 ghost use Rattle.points.specs.Places.{position_in};
 ghost use Rattle.points.specs.PointView.{placing_of};
 ghost use Rattle.protocol.specs.System.Frames.{same_mode};
-ghost use Rattle.points.specs.Scanning.{EndsNone, EntryEndsRead, answers, number_in, read_number, scan_data, read_by_scan, reads_by_scans};
+ghost use Rattle.points.specs.Scanning.{EndsNone, EntryEndsRead, answers, number_in, read_number, scan_data, read_by_scan, reads_by_scans, seed_holder};
 ghost use Rattle.points.specs.Sorting.{AddsEnded, AreRankedAbove, HoldsReads};
 
 use crate::places::Places;
@@ -39,11 +39,11 @@ pub(crate) fn find_reads(
     places: &Places,
     trace: &[Entry],
 ) -> Result<Reads, NoMemory>
-    ensures { IfOk result (HoldsReads (2 ^ 63) (reads_by_scans (members config.now)
+    ensures { IfOk result (HoldsReads (2 ^ 63) (reads_by_scans (seed_holder config.now)
         (position_in (reverse places.now.rises.items)) (reverse trace.now))) }
 {
     let mut ring = Ring::new(alloc, config.seed(), config.faults(), config.clients());
-    let publics = PublicKeys::new(alloc, config.seed())?;
+    let publics = PublicKeys::new(alloc, config.seed(), config.faults())?;
     let mut scans = BTreeMap::new(alloc);
     let mut reads = Reads::new(alloc);
     for (position, entry) in trace.iter().enumerate() {
@@ -67,10 +67,9 @@ fn add_ended(
     rank: usize,
     reads: &mut Reads,
 ) -> Result<(), NoMemory>
-    requires keys { publics.now ≡ ring.old.seed }
     requires ranked { AreRankedAbove rank reads.old.sorted.entries }
-    ensures adds { OnOk result (AddsEnded ring.old (reverse places.now.rises.items)
-        scans.now.entries entry.now rank reads.old reads.new) }
+    ensures adds { OnOk result (AddsEnded (knows ring.old publics.now)
+        (reverse places.now.rises.items) scans.now.entries entry.now rank reads.old reads.new) }
     ensures same { ring.new ≡ ring.old }
 {
     // Few entries end a read. The others go by without the room that a read takes.
@@ -100,9 +99,8 @@ fn read_ended(
     scans: &ClientScans<'_>,
     entry: &Entry,
 ) -> Result<Option<Placed>, NoMemory>
-    requires keys { publics.now ≡ ring.old.seed }
-    ensures read { IfOk result (λ read. EntryEndsRead ring.old (reverse places.now.rises.items)
-        scans.now.entries entry.now (option_map placing_of read)) }
+    ensures read { IfOk result (λ read. EntryEndsRead (knows ring.old publics.now)
+        (reverse places.now.rises.items) scans.now.entries entry.now (option_map placing_of read)) }
     ensures same { ring.new ≡ ring.old }
 {
     match entry.kind() {
@@ -127,9 +125,8 @@ fn read_at(
     answer: &Answer<Global>,
     scan: ClientScan<'_>,
 ) -> Result<Option<Placed>, NoMemory>
-    requires keys { publics.now ≡ ring.old.seed }
     ensures read { IfOk result (λ read. option_map placing_of read
-        ≡ read_by_scan ring.old (position_in (reverse places.now.rises.items))
+        ≡ read_by_scan (knows ring.old publics.now) (position_in (reverse places.now.rises.items))
         (client_party client.number) timestamp.0 (outcome_of answer.now) (scan_data scan.entry)) }
     ensures same { ring.new ≡ ring.old }
 {
@@ -167,9 +164,8 @@ fn read_number(
     timestamp: Timestamp,
     bytes: &[u8],
 ) -> Result<Option<Number>, NoMemory>
-    requires keys { publics.now ≡ ring.old.seed }
     ensures number { IfOk result (λ number. option_map (λ n. n.0) number
-        ≡ read_number ring.old (client_party client.number) timestamp.0 bytes.now) }
+        ≡ read_number (knows ring.old publics.now) (client_party client.number) timestamp.0 bytes.now) }
     ensures same { ring.new ≡ ring.old }
 {
     if !has_read_kind(bytes) {
@@ -199,9 +195,8 @@ fn authenticate_body(
     client: ClientId,
     bytes: &[u8],
 ) -> Result<Option<Body>, NoMemory>
-    requires keys { publics.now ≡ ring.old.seed }
-    ensures authentic { IfOk result (λ body. authentic ring.old (client_party client.number) bytes.now
-        ≡ option_map body_data body) }
+    ensures authentic { IfOk result (λ body. authentic (knows ring.old publics.now)
+        (client_party client.number) bytes.now ≡ option_map body_data body) }
     ensures same { ring.new ≡ ring.old }
 {
     match authenticate(alloc, ring, publics, bytes, Party::Client(client)) {

@@ -1,5 +1,6 @@
 use Rattle.std.proofs.Common.{◌+◌, sym, ap, ◌∙◌}
 use Rattle.std.specs.Prelude.{option_and_then}
+use Rattle.signing.specs.Publics.{knows}
 use Rattle.points.specs.Scanning.{number_in}
 use Rattle.points.proofs.Replying.{none_kinded}
 use Rattle.points.proofs.reads.read_number.Goals as goal
@@ -13,4 +14,4 @@ returns-in-Some-clause-number c =
 
 pub returns-then-not-has_read_kind-clause-number : goal.returns-then-not-has_read_kind-clause-number
 returns-then-not-has_read_kind-clause-number c =
-    none_kinded c.args.ring.now (256 + c.args.client.number) c.args.timestamp.0 c.args.bytes.now (sym c.has_read_kind.ensures ∙ c.if-not-has_read_kind.true)
+    none_kinded (knows c.args.ring.now c.args.publics.now) (256 + c.args.client.number) c.args.timestamp.0 c.args.bytes.now (sym c.has_read_kind.ensures ∙ c.if-not-has_read_kind.true)
