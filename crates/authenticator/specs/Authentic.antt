@@ -1,11 +1,12 @@
 -- When a frame is authentic to a party: its sender made a MAC of its body for that party (Castro and Liskov, Practical
 -- Byzantine fault tolerance and proactive recovery, TOCS 2002, on the authentication of messages).
-use Rattle.std.specs.Prelude.{ℕ, Bool, false, ◌&&◌, ◌==◌, List, Option, bytes_eq}
+use Rattle.std.specs.Prelude.{ℕ, Bool, false, ◌&&◌, ◌==◌, List, Option, bytes_eq, option_map}
 use Rattle.std.specs.List.{list_any}
 use Rattle.std.specs.Option.{option_map_or}
 use Rattle.wire_format.specs.Messages.{BodyData, MacData, AuthenticatorData, macs, signature, FrameData}
 use Rattle.wire_format.specs.Spelling.{body_spelling}
-use Rattle.authenticator.specs.Keys.{Keys, mac_between, shared_mac}
+use Rattle.authenticator.specs.Keys.{Keys, find_key, mac_between}
+use Rattle.authenticator.specs.Mac.{hmac_of}
 
 -- the MAC that its sender makes of a body for a party
 abbrev pub mac_of : Keys → ℕ → BodyData → List ℕ
@@ -33,4 +34,5 @@ proves_some party mac authenticator = option_map_or (λ m. proves party m authen
 -- the frame's entry for the party is the MAC of its body under the key that the sender shares with the party
 abbrev pub is_authentic : Keys → ℕ → FrameData → Bool
 is_authentic keys party frame =
-    proves_some party (shared_mac keys frame.body.sender party (body_spelling frame.body)) frame.authenticator
+    option_map_or (λ mac. proves party mac frame.authenticator)
+    (option_map (λ key. hmac_of key (body_spelling frame.body)) (find_key keys frame.body.sender party)) false

@@ -23,13 +23,9 @@ pub data Keys : Type 0 where
   row : List SharedKey → Keys
   dealt : List ℕ → Keys
 
--- it is the key from the one party to the other
-abbrev pub is_between : ℕ → ℕ → SharedKey → Bool
-is_between from to shared = (shared.from == from) && (shared.to == to)
-
 -- the key from one party to another, if it is among these
 abbrev pub find_key : Keys → ℕ → ℕ → Option (List ℕ)
-find_key (row keys) from to = option_map (λ shared. shared.key) (find (is_between from to) keys)
+find_key (row keys) from to = option_map (λ s. s.key) (find (λ s. (s.from == from) && (s.to == to)) keys)
 find_key (dealt seed) from to = Some (derived_key seed from to)
 
 -- the authentication code of a text from one party to another, if they share a key
@@ -45,3 +41,7 @@ key_between keys from to = option_map_or (λ key. key) (find_key keys from to) [
 -- the authentication code that one party makes of a text for another
 abbrev pub mac_between : Keys → ℕ → ℕ → List ℕ → List ℕ
 mac_between keys from to text = hmac_of (key_between keys from to) text
+
+-- it is the key from the one party to the other
+abbrev pub is_between : ℕ → ℕ → SharedKey → Bool
+is_between from to shared = (shared.from == from) && (shared.to == to)

@@ -5,8 +5,7 @@ use Rattle.terms.specs.declared.parties.TheConstants.{FIRST_CLIENT}
 use Rattle.wire_format.specs.Messages.{MessageData, request, BodyData}
 use Rattle.authenticator.specs.Keys.{Keys}
 
--- how many replicas may be faulty, how many clients there are, the keys that the party shares with others, and the
--- public keys of the replicas, in their order
+-- how many replicas may be faulty, how many clients there are, the party's keys, the replicas' public keys in order
 pub record Membership : Type 0 where
   pub faults : ℕ
   pub clients : ℕ

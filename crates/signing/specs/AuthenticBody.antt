@@ -2,13 +2,12 @@
 -- Byzantine fault tolerance and proactive recovery, TOCS 2002, on the authentication of messages). View changes and
 -- new views count only with a signature that verifies, since others carry them on. A frame that a party gets in its
 -- own name counts for nothing, whoever made it: its own messages count when they are sent.
-use Rattle.std.specs.Prelude.{ℕ, Bool, false, ◌&&◌, not, ◌==◌, if◌then◌else◌, List, Option, Some, None, option_and_then}
+use Rattle.std.specs.Prelude.{ℕ, Bool, false, ◌&&◌, not, ◌==◌, if◌then◌else◌, List, [], Option, Some, None, option_and_then, slice_index_or}
 use Rattle.wire_format.specs.Messages.{BodyData, AuthenticatorData, macs, signature, FrameData}
 use Rattle.wire_format.specs.Spelling.{body_spelling, is_signed}
 use Rattle.wire_format.specs.Words.{frame_of}
 use Rattle.authenticator.specs.Membership.{Membership, has_sender}
 use Rattle.authenticator.specs.Authentic.{is_authentic}
-use Rattle.signing.specs.Publics.{public_of}
 use Rattle.signing.specs.Signatures.{verifies}
 
 -- the authenticator is a signature of the text under the public key
@@ -19,7 +18,7 @@ signs public text (signature s) = verifies public text s
 -- the frame has a signature of its body that verifies under its sender's public key
 abbrev pub has_signature : List (List ℕ) → FrameData → Bool
 has_signature publics frame =
-    signs (public_of publics frame.body.sender) (body_spelling frame.body) frame.authenticator
+    signs (slice_index_or publics frame.body.sender []) (body_spelling frame.body) frame.authenticator
 
 -- the body comes from another party, that sends such messages
 abbrev pub is_from_another : Membership → ℕ → BodyData → Bool

@@ -218,8 +218,7 @@ read_points c trace (Accepted client timestamp answer ∷ past) =
     ++ read_points c trace past
 read_points c trace (_ ∷ past) = read_points c trace past
 
--- Points are sorted by position, then number, then ordered before read-only, then reads by client and timestamp. Two
--- ordered points of one batch keep their order.
+-- Sorted by position, number, ordered before read-only, then reads by client and timestamp; a batch keeps its order.
 abbrev pub comes_before : Placing → Placing → Bool
 comes_before x y =
     nat_lt x.item.position y.item.position || ((x.item.position == y.item.position)

@@ -9,8 +9,7 @@ use Rattle.signing.specs.Publics.{derived_publics}
 use Rattle.authenticator.specs.Membership.{Membership, replicas as member_replicas, is_replica as is_member_replica, is_client as is_member_client}
 use Rattle.quorum.specs.Quorum.{member}
 
--- Replicas have the numbers 0 to 3f, clients 0 to clients - 1. seed: of all keys. publics: the public keys of the
--- replicas. period: the number of batches between checkpoints.
+-- Replicas are 0 to 3f, clients 0 to clients - 1. publics: the replicas' public keys. period: batches to a checkpoint.
 pub record Configuration : Type 0 where
   pub faults : ℕ
   pub clients : ℕ

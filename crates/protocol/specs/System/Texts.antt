@@ -49,8 +49,7 @@ batch_by c k _ = None
 abbrev pub first_batch : Configuration → List Entry → ℕ → Option (List ℕ)
 first_batch c trace k = first_given (λ past e. batch_by c k e) trace
 
--- the batches are those executed first for the numbers k, k + 1, and so on; there is at most one such list of each
--- length
+-- the batches executed first for the numbers k, k + 1, and so on; of each length there is at most one such list
 abbrev pub AreFirstBatches : Configuration → List Entry → ℕ → List (List ℕ) → Type 0
 AreFirstBatches c trace k [] = Unit {0}
 AreFirstBatches c trace k (batch ∷ batches) = (first_batch c trace k ≡ Some batch)
@@ -69,9 +68,8 @@ InstallsOver c batches text past (Installed r k root) =
 InstallsOver c batches text past _ = ⊥
 
 -- The texts of a trace: the null batch; each batch, page and text of digests that a party received, and each batch that
--- one sent; the pages of each state that the first executed batches leave, and the texts under them; and the texts
--- under the pages in place when a correct replica installed a state. Those are the pages of the state that it had
--- reached, with those that its state transfer took put in.
+-- one sent; the pages of each state that the first executed batches leave, and the texts under them; and the texts under
+-- the pages in place when a correct replica installed a state: those it had, with those that its transfer took put in.
 pub data IsText (c : Configuration) (trace : List Entry) : List ℕ → Type 0 where
   null : IsText c trace null_batch
   batch : (text : List ℕ) → Once (EntryHasBatch text) trace → IsText c trace text
