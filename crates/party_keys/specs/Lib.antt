@@ -1,3 +1,4 @@
+pub mod Dealing
 pub mod Judging
 pub mod KeysView
 pub mod Names

@@ -16,6 +16,7 @@
 //! no others (`files_are_read`).
 #![tactic(auto)]
 
+mod dealing;
 mod fault;
 mod key;
 mod lists;
