@@ -19,6 +19,7 @@
 mod dealing;
 mod fault;
 mod key;
+mod laws;
 mod lists;
 mod party_keys;
 mod place;
@@ -27,5 +28,6 @@ mod writing;
 
 pub use fault::{FileFault, ShownKey};
 pub use key::Key;
+pub use laws::files_are_read;
 pub use party_keys::PartyKeys;
 pub use reading::{MAX_FILE, read_file};
