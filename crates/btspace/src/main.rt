@@ -18,9 +18,7 @@ use command_line::{Drills, NoRequest, Printed, Request, SpaceVersion, read_words
 use config_text::Settings;
 use events::Config;
 use journal::Opened;
-use keys_command::{
-    FileFolder, Given, KeysFault, RANDOMNESS, draw_seed, end_keys, read_given, read_text, with_seed, write_keys,
-};
+use keys_command::deal_keys;
 use one_space::{
     Complaint, EscapedErrors, LocalRequest, StandardError, Terminals, complain, is_standard_input,
     print_tuple, run_script, script_at, words_of,
@@ -38,11 +36,6 @@ use std::thread::Threads;
 use std::time::Clock;
 use std::{fs, io};
 use tuple_codec::Op;
-
-// What is said of the seed when all files are written.
-const SEED_GIVEN: &str = "the seed of the configuration gives all keys: keep it apart, and give each party its own file alone";
-
-const SEED_DRAWN: &str = "the keys are of a fresh seed, which is kept nowhere: give each party its own file alone";
 
 fn main(rt: HostRuntime) -> ExitCode {
     let terminals = Terminals {
@@ -245,59 +238,6 @@ fn run_steps<R: Print + Eprint + AllocGlobal, I: Read + Drop>(
     match schedule(rt.alloc(), config, input, printed, &mut io::writer(rt)) {
         Ok(()) => 0,
         Err(fault) => end_schedule(rt, &fault, path),
-    }
-}
-
-// Writes the file of each party. Without a seed in the configuration a fresh one is drawn, and kept nowhere.
-fn deal_keys<R: Files + Input + Eprint + AllocGlobal>(rt: &R, config: &str, folder: &str) -> u8 {
-    let dealt = match given_at(rt, config) {
-        Ok(Given::Whole(settings)) => (put_keys(rt, &settings, folder), SEED_GIVEN),
-        Ok(Given::Seedless(text)) => (deal_fresh(rt, text, folder), SEED_DRAWN),
-        Err(fault) => (Err(fault), ""),
-    };
-    match dealt {
-        (Ok(()), said) => {
-            let _ = eprintln!(rt; "{said}");
-            0
-        }
-        (Err(fault), _) => end_keys(rt, &fault, config),
-    }
-}
-
-fn given_at<R: Files + Input + AllocGlobal>(rt: &R, path: &str) -> Result<Given, KeysFault> {
-    let text = if is_standard_input(path) {
-        read_text(rt.alloc(), rt.reader())?
-    } else {
-        match fs::open(rt, path) {
-            Ok(file) => read_text(rt.alloc(), file)?,
-            Err(error) => return Err(KeysFault::of_read(error)),
-        }
-    };
-    read_given(rt.alloc(), text)
-}
-
-fn deal_fresh<R: Files + AllocGlobal>(rt: &R, text: Vec<u8>, folder: &str) -> Result<(), KeysFault> {
-    let seed = match fresh_seed(rt) {
-        Ok(seed) => seed,
-        Err(error) => return Err(KeysFault::Draw(error)),
-    };
-    let config = with_seed(rt.alloc(), text, &seed)?;
-    put_keys(rt, &config, folder)
-}
-
-fn fresh_seed<R: Files>(rt: &R) -> io::Result<[u8; 32]> {
-    let mut source = fs::open(rt, RANDOMNESS)?;
-    draw_seed(&mut source)
-}
-
-fn put_keys<R: Files + AllocGlobal>(
-    rt: &R,
-    config: &Config,
-    folder: &str,
-) -> Result<(), KeysFault> {
-    match FileFolder::new(rt, folder) {
-        Ok(mut folder) => write_keys(rt.alloc(), config, &mut folder),
-        Err(error) => Err(KeysFault::of_write(error)),
     }
 }
 

@@ -11,7 +11,7 @@ use thiserror::Error;
 use trace_text::Name;
 
 /// Where a fresh seed is drawn from.
-pub const RANDOMNESS: &str = "/dev/urandom";
+pub(crate) const RANDOMNESS: &str = "/dev/urandom";
 
 /// Why no keys were written, or not all of them. What is shown of it stands on one line.
 #[derive(Debug, Drop, Error)]

@@ -11,12 +11,14 @@
 //! What a folder of the system does with the files is tested: it makes them new, for their owner alone.
 #![tactic(auto)]
 
+mod commands;
 mod configuring;
 mod fault;
 mod folder;
 mod writing;
 
+pub use commands::deal_keys;
 pub use configuring::{Given, draw_seed, read_given, read_text, with_seed};
-pub use fault::{KeysFault, RANDOMNESS, end_keys};
+pub use fault::{KeysFault, end_keys};
 pub use folder::{FileFolder, Folder};
 pub use writing::{file_name, write_keys};
