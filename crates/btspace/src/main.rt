@@ -6,7 +6,7 @@
 //! line has the answer that the operation's client accepted to this call. It did so in a trace of the cluster that is
 //! linearizable, if nothing in it is forged, unless two different texts of it have one digest. Without drills nothing
 //! is forged. At a fault `run` writes nothing, unless the writer failed. If the words are no request, the status
-//! follows from the reason.
+//! follows from the reason. `keys` is that of `keys_command`.
 //!
 //! Tests show that a faulty party is refused before the script is read, and what the program shows while it runs.
 #![tactic(auto)]
@@ -18,6 +18,7 @@ use command_line::{Drills, NoRequest, Printed, Request, SpaceVersion, read_words
 use config_text::Settings;
 use events::Config;
 use journal::Opened;
+use keys_command::deal_keys;
 use one_space::{
     Complaint, EscapedErrors, LocalRequest, StandardError, Terminals, complain, is_standard_input,
     print_tuple, run_script, script_at, words_of,
@@ -116,6 +117,7 @@ fn act_on<
             file,
             printed,
         } => run_configured(rt, config, file, printed),
+        Request::Keys { config, folder } => deal_keys(rt, config, folder),
     }
 }
 

@@ -52,6 +52,11 @@ pub enum Request<'a> {
         file: &'a str,
         printed: Printed,
     },
+    /// Write the file of each party of the configuration at this path into the folder.
+    Keys {
+        config: &'a str,
+        folder: &'a str,
+    },
 }
 
 /// The version of a space.
@@ -159,6 +164,11 @@ fn request_in<'a>(name: &str, given: &ArgMatches<'a>) -> Option<Request<'a>>
             file: given.get_str("FILE")?,
             printed: printed_of(given),
         })
+    } else if name == "keys" {
+        Some(Request::Keys {
+            config: given.get_str("CONFIG")?,
+            folder: given.get_str("FOLDER")?,
+        })
     } else {
         None
     }
@@ -212,6 +222,7 @@ fn program<'a>(alloc: Global) -> Result<Command<'a>, AllocError> {
     let program = with_subcommand(program, local(alloc))?;
     let program = with_subcommand(program, run(alloc))?;
     let program = with_subcommand(program, schedule(alloc))?;
+    let program = with_subcommand(program, keys(alloc))?;
     with_subcommand(program, show(alloc))
 }
 
@@ -324,6 +335,26 @@ fn schedule<'a>(alloc: Global) -> Result<Command<'a>, AllocError> {
             alloc,
             "FILE",
             "The file of the schedule, a line for each step, or -",
+        ))
+}
+
+// Who has the seed has all keys.
+const SEED: &str = "The seed gives all keys, so no party may have it. Without a seed in the configuration a fresh one is drawn from
+/dev/urandom, and kept nowhere.";
+
+fn keys<'a>(alloc: Global) -> Result<Command<'a>, AllocError> {
+    Command::new(alloc, "keys")
+        .about("Writes a file for each party, with the keys that it may have")
+        .after_help(SEED)
+        .arg(required(
+            alloc,
+            "CONFIG",
+            "The file of the configuration, in TOML, or -",
+        ))?
+        .arg(required(
+            alloc,
+            "FOLDER",
+            "The folder of the files r0.toml .. and c0.toml .., which is made if it isn't there",
         ))
 }
 

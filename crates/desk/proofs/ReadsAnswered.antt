@@ -1,7 +1,12 @@
 -- The answer to a read, from the executed state.
-use Rattle.std.proofs.Common.{◌≡◌, ℕ, ◌+◌, ◌-◌, arith, inl, List, Some, sym, ap, ◌∙◌, subst}
+use Rattle.std.proofs.Common.{◌≡◌, ℕ, ◌+◌, ◌-◌, arith, inl, inr, List, [], Some, refl, sym, ap, ◌∙◌, subst}
 use Rattle.terms.specs.declared.order.Mode.TheVariants as modes
-use Rattle.space.specs.Applying.{outcome}
+use Rattle.tuple_codec.specs.Operations.{IsOperation}
+use Rattle.tuple_codec.specs.Reading.{operation_at}
+use Rattle.tuple_codec.specs.Spelling.{operation_spelling}
+use Rattle.tuple_codec.proofs.Grammar.{one}
+use Rattle.tuple_codec.proofs.OperationLaws.{operation_reads}
+use Rattle.space.specs.Applying.{is_read_only, outcome}
 use Rattle.space.specs.Births.{tuples_of}
 use Rattle.wire_format.specs.Messages.{MessageData as Message, reply as Reply}
 use Rattle.wire_format.specs.declared.messages.Reply.{Reply as WireReply}
@@ -50,3 +55,12 @@ answered d bytes shelf request reply before after h answer space number says = i
         ∙ ap (λ n. Reply (256 + reply.client.number) t modes.ReadOnly n (outcome (tuples_of shelf.space.now) request.client.number h.op)) number
         ∙ ap (λ x. Reply (256 + reply.client.number) t modes.ReadOnly d.executed.state.number (outcome (tuples_of x) request.client.number h.op)) space
         ∙ ap (λ i. Reply (256 + reply.client.number) t modes.ReadOnly d.executed.state.number (outcome (tuples_of d.executed.state.space) i h.op)) client
+
+-- What is received, but is no read, is dropped.
+pub dropped : (d : DeskData) (bytes : List ℕ) (request : ReadRequest) (before : List Output)
+    → AuthenticatesRead d.membership d.me bytes request.client.number request.timestamp.0 request.op.now → answers.SpellsNoRead request.op.now → AnswersBytes d bytes before before
+dropped d bytes request before h other =
+    inr (inr (256 + request.client.number, request.timestamp.0, h.op, h.receives, ap is_read_only same ∙ other.2), refl)
+  where
+    same : h.op ≡ other.0
+    same = (one IsOperation operation_spelling operation_at operation_reads request.op.now request.op.now [] [] h.op other.0 h.spelled other.1 refl).1

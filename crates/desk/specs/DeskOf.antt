@@ -49,10 +49,10 @@ AreOfDifferentClients requests = AllPairs (λ r t. r.client.number ≢ t.client.
 abbrev pub RestsAt : State → OpenData → Type 0
 RestsAt st o = (o.rests_at ≤ st.number) × (o.rests_at ≡ st.number → RestsOnState o.transfer st)
 
--- The desk has the configuration's members and its period. Its open transfer rests rightly. The waiting requests spell
--- their calls, one for each client.
+-- The desk knows what the configuration gives its replica, and has its period. Its open transfer rests rightly. The
+-- waiting requests spell their calls, one for each client.
 pub record IsDeskOf (c : Configuration) (d : DeskData) : Type 0 where
-  pub members_are : members c ≡ d.membership
+  pub members_are : members c d.me ≡ d.membership
   pub period_is : c.period ≡ d.period
   pub rests : ForSome d.transfer (RestsAt d.executed.state)
   pub calls : SpellCalls c d.waiting.requests

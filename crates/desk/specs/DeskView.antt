@@ -1,11 +1,12 @@
 -- The model of a desk's fields.
+use Rattle.signing.specs.Publics.{knows}
 use Rattle.desk.specs.declared.desk.Desk.TheInside.{Inside}
 use Rattle.desk.specs.State.{DeskData}
 
 abbrev pub desk_data : Inside → DeskData
 desk_data d = record {
   me = d.me.0;
-  membership = d.ring.value;
+  membership = knows d.ring.value d.publics;
   period = d.period;
   executed = d.executed.value;
   snapshots = d.snapshots;

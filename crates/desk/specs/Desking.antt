@@ -11,6 +11,7 @@ use Rattle.wire_format.specs.declared.messages.Message.TheVariants as messages
 use Rattle.wire_format.specs.declared.messages.Reply.{Reply}
 use Rattle.wire_format.specs.Lists.{Each}
 use Rattle.wire_format.specs.Views.{message_data}
+use Rattle.authenticator.specs.Membership.{Membership}
 use Rattle.partition_tree.specs.Digests.{root_of as root_of_pages}
 use Rattle.reply_cache.specs.Replies.{Kept}
 use Rattle.frame_endpoint.specs.Endpoint.{SealsForOne}
@@ -18,7 +19,6 @@ use Rattle.events.specs.declared.output.Output.{Output}
 use Rattle.events.specs.Outputs.{entry_of}
 use Rattle.execution.specs.Executed.{ExecutesBatchText, told}
 use Rattle.execution.specs.declared.running.Ran.{Ran}
-use Rattle.protocol.specs.System.Configuration.{Configuration, members}
 use Rattle.protocol.specs.System.Trace.Entry.{Executed}
 use Rattle.protocol.specs.Replica.State.{State, IsReplicatedState, opening, kept_of}
 use Rattle.protocol.specs.Replica.RightReplica.{reply_of}
@@ -29,12 +29,12 @@ use Rattle.desk.specs.State.{OpenData, DeskData, IsDesk}
 use Rattle.desk.specs.Waiting.{none_waiting, forgotten, with_request, without_client}
 
 -- the opening state, which is kept; nothing waits
-abbrev pub IsNewDesk : Configuration → ℕ → DeskData → Type 0
-IsNewDesk c me d = d ≡ record {
+abbrev pub IsNewDesk : Membership → ℕ → ℕ → DeskData → Type 0
+IsNewDesk m period me d = d ≡ record {
   me = me;
-  membership = members c;
-  period = c.period;
-  executed = record { state = opening; clients = c.clients };
+  membership = m;
+  period = period;
+  executed = record { state = opening; clients = m.clients };
   snapshots = snapshot_of opening ∷ [];
   transfer = None;
   waiting = none_waiting;

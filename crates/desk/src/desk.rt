@@ -1,8 +1,9 @@
 //! The desk: the executed state, the kept states, the waiting requests, the open state transfer, and the keys for
 //! replies.
 
-ghost use Rattle.std.specs.Prelude.{◌≡◌, ◌+◌, ◌*◌, ◌^◌, ◌<◌, ◌≤◌, ◌↔◌, [], true, false, length, IfOk, IsFalse, IsTrue, OnOk};
-ghost use Rattle.protocol.specs.System.Configuration.{IsConfiguration};
+ghost use Rattle.std.specs.Prelude.{◌≡◌, ◌+◌, ◌^◌, ◌<◌, ◌≤◌, ◌↔◌, [], true, false, length, IfOk, IsFalse, IsTrue, OnOk};
+ghost use Rattle.signing.specs.Publics.{knows};
+ghost use Rattle.terms.specs.declared.parties.TheConstants.{MAX_CLIENTS};
 ghost use Rattle.wire_format.specs.Lists.{Each};
 ghost use Rattle.wire_format.specs.Spelling.{IsCarried, is_ordered_request};
 ghost use Rattle.wire_format.specs.Views.{texts_of};
@@ -15,9 +16,10 @@ use crate::snapshots::Snapshots;
 use crate::transfer::StateTransfer;
 use crate::waiting::Waiting;
 use authenticator::{Ring, SealFault};
-use events::{Config, Output, Outputs, SharedBytes, Stop, emit};
+use events::{Output, Outputs, SharedBytes, Stop, emit};
 use execution::{Executed, Ran};
 use frame_endpoint::{reply_message, seal_for_one};
+use signing::PublicKeys;
 use std::alloc::Global;
 use std::marker::Model;
 use terms::{ClientId, Mode, NoMemory, Number, Party, ReplicaId, Timestamp};
@@ -30,6 +32,8 @@ pub struct Desk {
     pub(crate) me: ReplicaId,
     /// It is some 400 bytes, with a state of SHA-256. So it stays in its place when a part moves.
     pub(crate) ring: Box<Ring>,
+    // The desk verifies no signature. But contracts see what it knows as one membership, which is its orderer's too.
+    publics: PublicKeys,
     // The number of batches from one checkpoint to the next, 1 to 16.
     pub(crate) period: u8,
     /// It is over two kilobytes, with the digests of its tree. So it stays in its place when a part moves.
@@ -56,20 +60,31 @@ impl Model for Desk {
 }
 
 impl Desk {
-    /// The desk of this replica before its first event: the opening state, which is kept. NoMemory if memory runs out.
-    pub fn new(alloc: Global, config: &Config, me: ReplicaId) -> Result<Desk, NoMemory>
-        requires known { me.0 < 3 * config.now.faults + 1 }
-        ensures made { IfOk result (IsNewDesk config.now me.0) }
-        ensures valid { IsConfiguration config.now }
+    /// The desk of this replica before its first event: the opening state, which is kept. The ring has the replica's
+    /// keys. There are so many clients, and so many batches from one checkpoint to the next. NoMemory if memory runs
+    /// out.
+    pub fn new(
+        alloc: Global,
+        me: ReplicaId,
+        ring: Ring,
+        publics: PublicKeys,
+        clients: u16,
+        period: u8,
+    ) -> Result<Desk, NoMemory>
+        requires few { me.0 < 10 }
+        requires clients { clients ≡ ring.clients }
+        requires most { clients ≤ MAX_CLIENTS }
+        requires some { 1 ≤ period }
+        ensures made { IfOk result (IsNewDesk (knows ring publics) period me.0) }
     {
-        let ring = Ring::new(alloc, config.seed(), config.faults(), config.clients());
-        let mut executed = Executed::new(alloc, config.clients())?;
+        let mut executed = Executed::new(alloc, clients)?;
         let mut snapshots = Snapshots::new(alloc);
         snapshots.keep(Number(0), pages_of(&mut executed)?)?;
         Ok(Desk {
             me,
             ring: Box::new(alloc, ring)?,
-            period: config.period(),
+            publics,
+            period,
             executed: Box::new(alloc, executed)?,
             snapshots,
             transfer: None,

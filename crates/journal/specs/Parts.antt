@@ -23,6 +23,7 @@ no_configuration = record {
   faults = 0;
   clients = 0;
   seed = [];
+  publics = [];
   period = 0;
   faulty_replicas = [];
   faulty_clients = [];

@@ -1,12 +1,13 @@
 //! Four replicas, of which one may be faulty, and two clients: their configurations, and events of theirs.
 
 ghost use Rattle.std.specs.Prelude.{◌≡◌, ◌∷◌, [], map, IfOk};
-ghost use Rattle.terms.specs.Parties.{party_number};
+ghost use Rattle.terms.specs.Parties.{client_party, party_number};
 ghost use Rattle.tuple_codec.specs.OperationView.{operation_of};
+ghost use Rattle.protocol.specs.System.Configuration.{members};
 ghost use Rattle.protocol.specs.System.Trace.Entry.{Got, Tick};
 ghost use Rattle.journal_tests.specs.Calls.{AsksFirst, IsFirstCall, first_op};
 
-use authenticator::Ring;
+use authenticator::{Ring, deal};
 use events::{Config, Entry, EntryKind, SharedBytes};
 use journal::{AppendFault, Journal, Naming, Opened, Share};
 use std::alloc::Global;
@@ -150,12 +151,21 @@ fn new_op(alloc: Global) -> Op<Global>
     Op::Out(Tuple::new_in(alloc))
 }
 
+// The client's own keys.
+fn own_ring(alloc: Global, config: &Config, client: ClientId) -> Result<Ring, NoMemory>
+    ensures { IfOk result (λ ring. ring.keys ≡ (members config.now (client_party client.number)).keys) }
+{
+    let (faults, clients) = (config.faults(), config.clients());
+    let keys = deal(alloc, config.seed(), faults, clients, Party::Client(client))?;
+    Ring::of_party(alloc, faults, clients, keys)
+}
+
 /// The frame in which a client asks for its first operation, `out ()`, sealed for all four replicas.
 pub fn first_frame(alloc: Global, config: &Config, client: ClientId) -> Result<Vec<u8>, Fail>
     requires faults { config.now.faults ≡ 1 }
     ensures { IfOk result (λ frame. AsksFirst config.now client.number frame.items) }
 {
-    let mut ring = Ring::new(alloc, config.seed(), 1, 2);
+    let mut ring = own_ring(alloc, config, client)?;
     let body = Body {
         sender: Party::Client(client),
         message: Message::Request(Request {

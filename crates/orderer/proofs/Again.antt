@@ -81,7 +81,7 @@ module _ (before more after : List Output) (given_is : after ≡ before ++ more)
 
 -- ---- as entries
 
-module _ (c : Configuration) (o : OrdererData) (outs : List Output) (known : members c ≡ o.endpoint.membership) where
+module _ (c : Configuration) (o : OrdererData) (outs : List Output) (known : members c o.endpoint.me ≡ o.endpoint.membership) where
   abbrev me : ℕ
   me = o.endpoint.me
 
@@ -372,7 +372,7 @@ all_said executed end a b d x y z whole p q = (
 held_are_genuine : (c : Configuration) (me : ℕ) (s : Start) (desk : Desk) (log : LogData) (due : List Message) (outputs : List Entry) (number : ℕ) (text : List ℕ) → events.BothFitWithinEvent c me s desk log due outputs
     → MayNumber c me desk log (after_outputs s outputs) number text → are_genuine c me text ≡ true
 held_are_genuine c me s desk log due outputs number text f may =
-    all_of_each (λ frame. Has (λ x. x ≡ frame) desk.frames) (λ request. is_some (authentic (members c) me request)) (λ frame k. (f.of_desk.frames frame k).1) (requests_of text) may.held
+    all_of_each (λ frame. Has (λ x. x ≡ frame) desk.frames) (λ request. is_some (authentic (members c me) me request)) (λ frame k. (f.of_desk.frames frame k).1) (requests_of text) may.held
 
 pub says_batch : (number : ℕ) (text : List ℕ) (o mid new : OrdererData) (before after : List Output) → IsOrderer o
     → Multicasts o (PrePrepare o.log.view number text) before after → LogsBatch number text o mid → new ≡ record mid { used = number } → MulticastsOwnBatch number text o before new after

@@ -1,6 +1,7 @@
 -- What an orderer holds as batches stays batches, whatever it takes.
-use Rattle.std.proofs.Common.{◌≡◌, Bool, true, false, Option, None, Result, Ok, Err, inr, sym, ℕ, suc, ◌<◌, ◌≤◌, not, ◌&&◌, cond, List, [], ◌∷◌, length, map, Some, inl, refl, ap, ◌∙◌, subst, arith, ◌==◌, nat_lt, eqb-true}
-use Rattle.std.specs.Prelude.{is_err, IfNone, IfOk, IfSome, MatchOption}
+use Rattle.std.proofs.Common.{◌≡◌, Bool, true, false, Option, None, Result, Ok, Err, inr, sym, ℕ, suc, zero, ◌<◌, ◌≤◌, not, ◌&&◌, cond, List, [], ◌∷◌, length, map, Some, inl, refl, ap, ◌∙◌, subst, arith, ◌==◌, nat_lt, eqb-true}
+use Rattle.std.proofs.lemmas.Option.{none-some}
+use Rattle.std.specs.Prelude.{◌-◌, if◌then◌else◌, is_err, replicate, slice_index_or, IfNone, IfOk, IfSome, MatchOption}
 use Rattle.terms.specs.declared.parties.ReplicaId.{ReplicaId}
 use Rattle.wire_format.specs.declared.messages.Checkpoint.{Checkpoint as CheckpointMessage, Checkpoint}
 use Rattle.ordering.specs.declared.dropped.Dropped.{Dropped}
@@ -43,7 +44,7 @@ use Rattle.protocol.specs.Replica.Selection.{is_batch_entry_within, is_checkpoin
 use Rattle.replica_histories.proofs.Cutting.{cut_same}
 use Rattle.view_change.specs.declared.changes.Selection.{Selection}
 use Rattle.view_change.specs.Sets.{texts_of}
-use Rattle.pq_sets.specs.PqSetsView.{PqSetsData, IsAmongTexts}
+use Rattle.pq_sets.specs.PqSetsView.{PqSetsData, IsAmongTexts, empty_pq_sets}
 use Rattle.view_change.specs.ReceivedData.{HeldData, AreHeldFrom, IsJoined, later_view, later_views}
 use Rattle.view_change.specs.ReceivedView.{ReceivedState, AreReceived, judging_configuration}
 use Rattle.view_change.specs.Selecting.{AreFrom, IsAvailable}
@@ -108,6 +109,30 @@ selected_batches texts (x ∷ xs) each from = (one from.0, selected_batches text
     one : IsAvailable texts x → IsBatch 0 x
     one (inl null) = subst (IsBatch 0) null null_is_batch
     one (inr has) = one_among (IsBatch 0) texts x each has
+
+-- ---- nothing is logged yet
+
+no_rows : (span i : ℕ) → slice_index_or (replicate span logs.no_row) i logs.no_row ≡ logs.no_row
+no_rows zero i = refl
+no_rows (suc span) zero = refl
+no_rows (suc span) (suc i) = no_rows span i
+
+none_logged : (b : Bool) (row : logs.Row) → row ≡ logs.no_row → (if b then row.batch else None) ≡ None
+none_logged true row is = ap (λ (r : logs.Row). r.batch) is
+none_logged false row is = refl
+
+pub new_holds : (me faults span : ℕ) (log : LogData) (pq_sets : PqSetsData) → log ≡ logs.new_log me faults span → pq_sets ≡ empty_pq_sets → HoldsBatches 0 log pq_sets.texts
+new_holds me faults span log pq_sets is empty =
+    subst (λ (l : LogData). HoldsBatches 0 l pq_sets.texts) (sym is) (subst (λ (x : PqSetsData). HoldsBatches 0 new x.texts) (sym empty) (record {
+      logged = λ i text above h. absurd (none-some text (sym (none i) ∙ h));
+      in_q = tt;
+    }))
+  where
+    new : LogData
+    new = logs.new_log me faults span
+
+    none : (i : ℕ) → logs.logged_batch new i ≡ None
+    none i = none_logged (logs.is_in_marks new i) (logs.row_of new i) (no_rows span (i - 0 - 1))
 
 -- ---- the log
 

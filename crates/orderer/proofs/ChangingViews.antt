@@ -84,7 +84,7 @@ joined_by_none o me t own are mine aimed few = (
 
 pub judges_alike : (o : OrdererData) → IsOrderer o → SizesDecide → JudgesAlike o
 judges_alike o own law c known period = law (judging_configuration o.received) c (record {
-  seed = own.2 ∙ sym (ap (λ (m : Membership). m.seed) known);
+  publics = own.2 ∙ sym (ap (λ (m : Membership). m.publics) known);
   faults = own.3 ∙ sym (ap (λ (m : Membership). m.faults) known);
   period = sym period;
 })
@@ -210,16 +210,9 @@ not_signed o later view low checkpoints pq_sets said x message r made at same co
 pub own_is_signed : (o : OrdererData) (x : Change) (frame : List ℕ) → IsOrderer o → IsLog o.log → x.sender.0 ≡ o.log.me → IsOwnSigned o.endpoint (ViewChange (view_change_data x.change)) frame
     → signed_change (judging_configuration o.received) frame ≡ Some (x.sender.0, view_change_data x.change)
 own_is_signed o x frame own is sender signed =
-    own_are_signed (judging_configuration o.received) o.endpoint.me (view_change_data x.change) frame known (record { says = is_outgoing.says; is_sealed = is_outgoing.is_sealed })
+    own_are_signed (judging_configuration o.received) o.endpoint.me (view_change_data x.change) frame known (signed (judging_configuration o.received) own.2)
     ∙ ap (λ (m : ℕ). Some (m, view_change_data x.change)) (sym (sender ∙ own.0))
   where
-    -- of these members, with the seed of the keys
-    c : Configuration
-    c = record (judging_configuration o.received) { faults = o.endpoint.membership.faults; clients = o.endpoint.membership.clients }
-
-    is_outgoing : IsOutgoing c o.endpoint.me (ViewChange (view_change_data x.change)) [] frame
-    is_outgoing = signed c (ap (λ (seed : List ℕ). record o.endpoint.membership { seed = seed }) own.2)
-
     known : o.endpoint.me < replicas (judging_configuration o.received)
     known = let me = own.0 in let faults = own.1 in let sizes = own.3 in let few = is.me in omega (arith, me, faults, sizes, few)
 
@@ -271,7 +264,7 @@ change_again o frame before after own has says = (
   λ held is. subst (λ (b : List ℕ). OutputsHaveFrame o b after) (some_injective frame held.frame (sym has ∙ ap (option_map (λ (h : HeldData). h.frame)) is)) (frame_now o frame before after says),
 )
   where
-    goes : (c : Configuration) (s : Start) (desk : Desk) (w : WaitingData) → members c ≡ o.endpoint.membership → AreBelow o.endpoint.me 0 (given o.endpoint.me before) → o.log.active ≡ false → FitsEvent c o.endpoint.me s o desk w [] before
+    goes : (c : Configuration) (s : Start) (desk : Desk) (w : WaitingData) → members c o.endpoint.me ≡ o.endpoint.membership → AreBelow o.endpoint.me 0 (given o.endpoint.me before) → o.log.active ≡ false → FitsEvent c o.endpoint.me s o desk w [] before
         → FitsEvent c o.endpoint.me s o desk w [] after
     goes c s desk w known below inactive f =
         let h = f.changes.own_change inactive in

@@ -127,7 +127,7 @@ pub record SaidIn (c : Configuration) (o : OrdererData) (message : Message) (bef
   pub is_outgoing : IsOutgoing c o.endpoint.me message (others c o.endpoint.me) bytes
   pub is : EmitsOne c o.endpoint.me before after (Sent o.endpoint.me bytes)
 
-pub said_in : (c : Configuration) (o : OrdererData) (message : Message) (before after : List Output) → members c ≡ o.endpoint.membership → Multicasts o message before after
+pub said_in : (c : Configuration) (o : OrdererData) (message : Message) (before after : List Output) → members c o.endpoint.me ≡ o.endpoint.membership → Multicasts o message before after
     → SaidIn c o message before after
 said_in c o message before after known s = record {
   bytes = s.sends_frame.bytes;
@@ -275,7 +275,7 @@ says_commit number digest old mid new before after is own due pq_sets says adds 
 pub goes_twice : (a b d : OrdererData) (x y z : List Output) → b.endpoint ≡ a.endpoint → KeepsFitting a x b y → KeepsFitting b y d z → KeepsFitting a x d z
 goes_twice a b d x y z same first second c s desk w due known f =
     subst (λ e. FitsEvent c e.me s d desk w due z) same
-    (second c s desk w due (known ∙ ap (λ e. e.membership) (sym same)) (subst (λ e. FitsEvent c e.me s b desk w due y) (sym same) (first c s desk w due known f)))
+    (second c s desk w due (subst (λ e. members c e.me ≡ e.membership) (sym same) known) (subst (λ e. FitsEvent c e.me s b desk w due y) (sym same) (first c s desk w due known f)))
 
 pub says_votes : (number : ℕ) (a b d : OrdererData) (x y z : List Output) → MulticastsPrepare number a x b y → MulticastsCommit number b y d z → MulticastsVotes number a x d z
 says_votes number a b d x y z p q = record {
@@ -289,7 +289,7 @@ says_votes number a b d x y z p q = record {
   said = (q.prepared ∙ p.said, q.said);
 }
 
-module _ (c : Configuration) (s : Start) (o : OrdererData) (desk : Desk) (w : WaitingData) (before after : List Output) (t : TransferData) (known : members c ≡ o.endpoint.membership)
+module _ (c : Configuration) (s : Start) (o : OrdererData) (desk : Desk) (w : WaitingData) (before after : List Output) (t : TransferData) (known : members c o.endpoint.me ≡ o.endpoint.membership)
     (says : Multicasts o (fetch_of t) before after) where
   abbrev pub me : ℕ
   me = o.endpoint.me

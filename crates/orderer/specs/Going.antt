@@ -16,7 +16,7 @@ use Rattle.orderer.specs.Fitting.{FitsEvent}
 abbrev pub KeepsFitting : OrdererData → List Output → OrdererData → List Output → Type 0
 KeepsFitting old before new after =
     (c : Configuration) (s : Start) (desk : Desk) (w : WaitingData) (due : List Message)
-    → members c ≡ old.endpoint.membership
+    → members c old.endpoint.me ≡ old.endpoint.membership
     → FitsEvent c old.endpoint.me s old desk w due before → FitsEvent c old.endpoint.me s new desk w due after
 
 -- the log asks for no vote for the number

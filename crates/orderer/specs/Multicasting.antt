@@ -101,7 +101,8 @@ AreBelow me place outputs = Each (λ e. (message : Message) → IsSending me mes
 pub record MulticastsAgain (first end : ℕ) (old : OrdererData) (before : List Output) (new : OrdererData)
     (after : List Output) : Type 0 where
   pub goes : old.log.active ≡ true → (c : Configuration) (s : Start) (desk : Desk) (w : WaitingData)
-      → members c ≡ old.endpoint.membership → AreBelow old.endpoint.me first (given old.endpoint.me before)
+      → members c old.endpoint.me ≡ old.endpoint.membership
+      → AreBelow old.endpoint.me first (given old.endpoint.me before)
       → FitsEvent c old.endpoint.me s old desk w [] before
       → FitsEvent c old.endpoint.me s new desk w [] after × AreBelow old.endpoint.me end (given old.endpoint.me after)
   pub same : new ≡ old
@@ -112,7 +113,8 @@ pub record MulticastsAgain (first end : ℕ) (old : OrdererData) (before : List 
 abbrev pub GoesAgain : ℕ → OrdererData → List Output → OrdererData → List Output → Type 0
 GoesAgain place old before new after =
     (c : Configuration) (s : Start) (desk : Desk) (w : WaitingData)
-    → members c ≡ old.endpoint.membership → AreBelow old.endpoint.me place (given old.endpoint.me before)
+    → members c old.endpoint.me ≡ old.endpoint.membership
+    → AreBelow old.endpoint.me place (given old.endpoint.me before)
     → FitsEvent c old.endpoint.me s old desk w [] before → FitsEvent c old.endpoint.me s new desk w [] after
 
 -- The last message is sent again by an active replica, or by an inactive one.
@@ -189,7 +191,7 @@ pub record MulticastsOwnBatch (number : ℕ) (text : List ℕ) (old : OrdererDat
   pub log : new.log ≡ with_batch old.log number text
   pub target : new.target ≡ old.target
   pub goes : (c : Configuration) (s : Start) (desk : Desk) (w : WaitingData) (due : List Message)
-      → members c ≡ old.endpoint.membership → SpellCalls c w.requests
+      → members c old.endpoint.me ≡ old.endpoint.membership → SpellCalls c w.requests
       → requests_of text ≡ texts (unnumbered w)
       → MayNumber c old.endpoint.me desk old.log (after_outputs s (given old.endpoint.me before)) number text
       → FitsEvent c old.endpoint.me s old desk w due before

@@ -17,7 +17,9 @@ ReceivesViewChange h old new false =
     ≢ None)
     × (new ≡ old)
 
--- The orderer judges view changes as in each configuration of the members, with the same period of checkpoints.
+-- The orderer judges view changes as in each configuration where the replica knows the same, with the same period of
+-- checkpoints.
 abbrev pub JudgesAlike : OrdererData → Type 0
-JudgesAlike o = (c : Configuration) → members c ≡ o.endpoint.membership → c.period ≡ o.received.sizes.period
+JudgesAlike o =
+    (c : Configuration) → members c o.endpoint.me ≡ o.endpoint.membership → c.period ≡ o.received.sizes.period
     → HaveOneRule (judging_configuration o.received) c

@@ -29,9 +29,9 @@ pub record HoldsBatches (assigned : ℕ) (log : LogData) (texts : List (List ℕ
   pub logged : (i : ℕ) (text : List ℕ) → assigned < i → logged_batch log i ≡ Some text → IsBatch 1 text
   pub in_q : Each (IsBatch 0) texts
 
--- The log is the replica's own, with the membership's number of faults. View changes are judged by the members' keys
--- and by the same number of faults. What it holds as batches are batches.
+-- The log is the replica's own, with the membership's number of faults. View changes are judged by the members' public
+-- keys and by the same number of faults. What it holds as batches are batches.
 abbrev pub IsOrderer : OrdererData → Type 0
 IsOrderer o = (o.log.me ≡ o.endpoint.me) × (o.log.faults ≡ o.endpoint.membership.faults)
-    × (o.received.seed ≡ o.endpoint.membership.seed) × (o.received.sizes.faults ≡ o.endpoint.membership.faults)
+    × (o.received.publics ≡ o.endpoint.membership.publics) × (o.received.sizes.faults ≡ o.endpoint.membership.faults)
     × HoldsBatches o.assigned o.log o.pq_sets.texts

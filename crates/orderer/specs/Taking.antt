@@ -1,5 +1,5 @@
 -- What an orderer takes of what it receives.
-use Rattle.std.specs.Prelude.{◌≡◌, ◌⊎◌, ℕ, Bool, true, false, None, is_none, replicate}
+use Rattle.std.specs.Prelude.{◌≡◌, ◌⊎◌, ℕ, ◌*◌, Bool, true, false, None, is_none, replicate}
 use Rattle.terms.specs.declared.parties.ReplicaId.{ReplicaId}
 use Rattle.wire_format.specs.declared.messages.PrePrepare.{PrePrepare}
 use Rattle.wire_format.specs.declared.messages.Prepare.{Prepare}
@@ -8,29 +8,29 @@ use Rattle.wire_format.specs.Words.{requests_of}
 use Rattle.ordering.specs.Log.{new_log, with_prepare, with_commit}
 use Rattle.ordering.specs.Messages.{preprepare_fault_of, prepare_fault_of, commit_fault_of}
 use Rattle.frame_endpoint.specs.Endpoint.{are_authentic}
-use Rattle.protocol.specs.System.Configuration.{Configuration, members, replicas, span}
+use Rattle.authenticator.specs.Membership.{Membership, replicas}
 use Rattle.pq_sets.specs.PqSetsView.{empty_pq_sets}
 use Rattle.orderer.specs.State.{OrdererData}
 use Rattle.orderer.specs.PqSets.{LogsBatch}
 
 -- an orderer before its first message
-abbrev pub IsNewOrderer : Configuration → ℕ → OrdererData → Type 0
-IsNewOrderer c me o = (o ≡ record {
-  endpoint = record { membership = members c; me = me; used = 0 };
-  log = new_log me c.faults (span c);
+abbrev pub IsNewOrderer : Membership → ℕ → ℕ → OrdererData → Type 0
+IsNewOrderer m period me o = (o ≡ record {
+  endpoint = record { membership = m; me = me; used = 0 };
+  log = new_log me m.faults (2 * period);
   used = 0;
   assigned = 0;
   target = 0;
   new_view = None;
   pq_sets = empty_pq_sets;
   received = record {
-    seed = c.seed;
+    publics = m.publics;
     sizes = o.received.sizes;
-    held = replicate (replicas c) None;
+    held = replicate (replicas m) None;
   };
   last_checkpoint = None;
   spent = 0;
-}) × (o.received.sizes.faults ≡ c.faults) × (o.received.sizes.period ≡ c.period)
+}) × (o.received.sizes.faults ≡ m.faults) × (o.received.sizes.period ≡ period)
 
 -- The orderer takes a batch if the log has no fault for it and its requests are authentic. Else nothing changes.
 abbrev pub TakesBatch : OrdererData → ReplicaId → PrePrepare → OrdererData → Bool → Type 0

@@ -1,18 +1,20 @@
 //! The orderer: the log of the three phases, what the replica keeps for view changes, and the keys with which it
 //! authenticates and seals frames.
 
-ghost use Rattle.std.specs.Prelude.{◌≡◌, ◌+◌, ◌*◌, ◌<◌, true, IfOk, IfSome, IsNone};
+ghost use Rattle.std.specs.Prelude.{◌≡◌, ◌+◌, ◌*◌, ◌<◌, ◌≤◌, true, Some, IfOk, IfSome, IsNone, slice_get};
 ghost use Rattle.wire.specs.Marks.{has_type_of_requests};
 ghost use Rattle.wire_format.specs.Spelling.{IsBatch};
 ghost use Rattle.signing.specs.AuthenticBody.{authentic};
+ghost use Rattle.signing.specs.Publics.{knows};
 ghost use Rattle.signing.specs.Requests.{AuthenticatesRequest};
+ghost use Rattle.signing.specs.Signatures.{public_key};
 ghost use Rattle.frame_endpoint.specs.Endpoint.{AuthenticatesBody};
 ghost use Rattle.orderer.specs.Going.{KeepsParty};
 ghost use Rattle.orderer.specs.ViewChangeOut.{AreChanges};
 ghost use Rattle.orderer.specs.Taking.{IsNewOrderer, TakesBatch, TakesPrepare, TakesCommit};
 
-use authenticator::{Ring, signing_seed};
-use events::{Config, Stop};
+use authenticator::Ring;
+use events::Stop;
 use frame_endpoint::Endpoint;
 use ordering::{HashedBatch, Log};
 use pq_sets::PqSets;
@@ -20,7 +22,7 @@ use signing::{AuthenticRequest, PublicKeys, Signer};
 use std::alloc::Global;
 use std::marker::Model;
 use std::sync::Arc;
-use terms::{NoMemory, Number, Party, ReplicaId, View};
+use terms::{NoMemory, Number, ReplicaId, View};
 use view_change::{Received, Sizes};
 use wire::{Body, CheckpointEntry, Commit, PrePrepare, Prepare};
 
@@ -59,29 +61,29 @@ impl Model for Orderer {
 }
 
 impl Orderer {
+    /// The orderer of this replica before its first message. The ring has the replica's keys, and the signer is that of
+    /// its public key. NoMemory if memory runs out.
     pub fn new(
         alloc: Global,
-        config: &Config,
         me: ReplicaId,
+        sizes: Sizes,
+        ring: Ring,
         publics: PublicKeys,
+        signer: Signer,
     ) -> Result<Orderer, NoMemory>
-        requires known { me.0 < 3 * config.now.faults + 1 }
-        requires keys { publics ≡ config.now.seed }
-        ensures made { IfOk result (IsNewOrderer config.now me.0) }
+        requires faults { sizes.faults ≡ ring.faults }
+        requires some { 1 ≤ sizes.faults }
+        requires known { me.0 < 3 * sizes.faults + 1 }
+        requires keys { slice_get publics me.0 ≡ Some (public_key signer.seed) }
+        requires unused { signer.used ≡ 0 }
+        ensures made { IfOk result (IsNewOrderer (knows ring publics) sizes.period me.0) }
     {
-        let seed = config.seed();
-        let faults = config.faults();
-        let ring = Ring::new(alloc, seed, faults, config.clients());
-        let sizes = Sizes {
-            faults,
-            period: config.period(),
-        };
         let received = Received::new(alloc, publics.share()?, sizes)?;
-        let signer = Signer::from_seed(&signing_seed(seed, Party::Replica(me)));
-        let endpoint = Endpoint::new(me, faults, ring, publics, signer);
+        let span = 2 * u64::from(sizes.period);
+        let endpoint = Endpoint::new(me, sizes.faults, ring, publics, signer);
         Ok(Orderer {
             endpoint: Box::new(alloc, endpoint)?,
-            log: Log::new(alloc, me, faults, 2 * u64::from(config.period()))?,
+            log: Log::new(alloc, me, sizes.faults, span)?,
             used: Number(0),
             assigned: Number(0),
             target: View(0),

@@ -1,6 +1,6 @@
 -- The keys of a table.
 use Rattle.std.proofs.Common.{◌≡◌, ℕ, true, ◌&&◌, List, [], ◌∷◌, ap, refl, sym, ◌∙◌}
-use Rattle.std.specs.Prelude.{String, string_bytes, Contains}
+use Rattle.std.specs.Prelude.{All, String, string_bytes, Contains}
 use Rattle.std.specs.declared.alloc.Global.{Global}
 use Rattle.std.specs.List.{list_any, list_all}
 use Rattle.std.specs.Str.{bytes_eq}
@@ -24,11 +24,13 @@ all_same : (es : List (String Global × Value)) → list_all (λ key. is_known (
 all_same [] = refl
 all_same (e ∷ es) = ap (λ b. is_known (string_bytes e.0) && b) (all_same es)
 
-pub all_known : (es : List (String Global × Value)) → list_all (λ key. is_known (string_bytes key)) (maps.keys_of es) ≡ true → HasKnownKeys (members_view es)
-all_known es h =
+pub names_known : (names : List (List ℕ)) → list_all is_known names ≡ true → All (Contains known_keys) names
+names_known names h =
     All-weaker (λ key. is_known key ≡ true) (Contains known_keys)
-    (λ key e. Contains-from_any (λ x y. (bytes_eq-Decides x y).0) key known_keys (sym (known_as key) ∙ e))
-    (names_in (members_view es)) (AllPass-from_list_all is_known (names_in (members_view es)) (sym (all_same es) ∙ h))
+    (λ key e. Contains-from_any (λ x y. (bytes_eq-Decides x y).0) key known_keys (sym (known_as key) ∙ e)) names (AllPass-from_list_all is_known names h)
+
+pub all_known : (es : List (String Global × Value)) → list_all (λ key. is_known (string_bytes key)) (maps.keys_of es) ≡ true → HasKnownKeys (members_view es)
+all_known es h = names_known (names_in (members_view es)) (sym (all_same es) ∙ h)
 
 pub known_all : (es : List (String Global × Value)) → HasKnownKeys (members_view es) → list_all (λ key. is_known (string_bytes key)) (maps.keys_of es) ≡ true
 known_all es h =

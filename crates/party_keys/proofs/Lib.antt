@@ -1,6 +1,12 @@
 pub mod Appending
+pub mod DealtKeys
+pub mod Digits
+pub mod Document
 pub mod KnownKeys
 pub mod Listed
 pub mod Numbers
 pub mod Once
 pub mod Refusals
+pub mod Saying
+pub mod Sizes
+pub mod Taking

@@ -48,7 +48,7 @@ build : (a a' b b' d d' e e' : ℕ) (f f' t t' p p' : List (List ℕ)) (s s' : O
     (record { party = a'; faults = b'; clients = d'; period = e'; from = f'; to = t'; publics = p'; seed = s' })
 build a a' b b' d d' e e' f f' t t' p p' s s' pa pb pd pe pf pt pp ps = rw (pa, pb, pd, pe, pf, pt, pp, ps) refl
 
-parts_same : (j k : PartyData) → j.party ≡ k.party → j.faults ≡ k.faults → j.clients ≡ k.clients → j.period ≡ k.period → j.from ≡ k.from → j.to ≡ k.to → j.publics ≡ k.publics → j.seed ≡ k.seed → j ≡ k
+pub parts_same : (j k : PartyData) → j.party ≡ k.party → j.faults ≡ k.faults → j.clients ≡ k.clients → j.period ≡ k.period → j.from ≡ k.from → j.to ≡ k.to → j.publics ≡ k.publics → j.seed ≡ k.seed → j ≡ k
 parts_same j k a b d e f t p s = build j.party k.party j.faults k.faults j.clients k.clients j.period k.period j.from k.from j.to k.to j.publics k.publics j.seed k.seed a b d e f t p s
 
 pub same_party : (table : Members) (j k : PartyData) → SaysParty table j → SaysParty table k → j ≡ k

@@ -1,5 +1,7 @@
+pub mod Dealing
 pub mod Judging
 pub mod KeysView
+pub mod Laws
 pub mod Names
 pub mod PartyData
 pub mod Reading

@@ -4,6 +4,8 @@ use Rattle.std.specs.Prelude.{◌≡◌, ℕ, ◌+◌, ◌*◌, ◌<◌, ◌≤�
 use Rattle.hex.specs.Hex.{IsBytes}
 use Rattle.terms.specs.declared.parties.TheConstants.{FIRST_CLIENT, MAX_CLIENTS}
 use Rattle.authenticator.specs.Dealing.{peers}
+use Rattle.authenticator.specs.Keys.{row}
+use Rattle.authenticator.specs.Membership.{Membership}
 use Rattle.authenticator.specs.declared.row.SharedKey.{SharedKey}
 use Rattle.signing.specs.Signatures.{public_key}
 
@@ -58,14 +60,20 @@ pub record IsPartyData (k : PartyData) : Type 0 where
   pub publics_are : AreKeys (3 * k.faults + 1) k.publics
   pub own : HasOwnSeed k.publics k.party k.seed
 
--- ---- its row
+-- ---- what it knows
 
 -- the keys from and to each party, in pairs
 abbrev pub pairs_with : ℕ → List ℕ → List (List ℕ) → List (List ℕ) → List SharedKey
+pairs_with me [] xs ys = []
+pairs_with me (party ∷ parties) [] ys = []
+pairs_with me (party ∷ parties) (x ∷ xs) [] = []
 pairs_with me (party ∷ parties) (x ∷ xs) (y ∷ ys) =
     record { from = party; to = me; key = x } ∷ record { from = me; to = party; key = y } ∷ pairs_with me parties xs ys
-pairs_with me _ _ _ = []
 
 -- its row of keys
 abbrev pub row_of : PartyData → List SharedKey
 row_of k = pairs_with k.party (peers_of k) k.from k.to
+
+-- what a ring of its row knows, which has no public keys
+abbrev pub ring_of : PartyData → Membership
+ring_of k = record { faults = k.faults; clients = k.clients; keys = row (row_of k); publics = [] }

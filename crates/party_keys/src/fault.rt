@@ -49,7 +49,10 @@ pub enum FileFault {
     },
     /// The value under this key is no key, nor is one at this place of the array there.
     #[error("`{key}`{place} is no string")]
-    NoString { key: Key, place: Place },
+    NoString {
+        key: Key,
+        place: Place,
+    },
     #[error("`{key}`{place} has {digits} digits, and has to have 64")]
     Digits {
         key: Key,
@@ -66,7 +69,9 @@ pub enum FileFault {
     #[error("`signing_seed` is that of a replica, and `party` is a client")]
     SeedOfClient,
     #[error("`public` has another key of replica {replica} than `signing_seed` gives")]
-    OtherSeed { replica: u8 },
+    OtherSeed {
+        replica: u8,
+    },
     #[error("out of memory")]
     NoMemory,
 }

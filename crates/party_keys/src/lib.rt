@@ -16,8 +16,10 @@
 //! no others (`files_are_read`).
 #![tactic(auto)]
 
+mod dealing;
 mod fault;
 mod key;
+mod laws;
 mod lists;
 mod party_keys;
 mod place;
@@ -26,5 +28,6 @@ mod writing;
 
 pub use fault::{FileFault, ShownKey};
 pub use key::Key;
+pub use laws::files_are_read;
 pub use party_keys::PartyKeys;
 pub use reading::{MAX_FILE, read_file};

@@ -176,11 +176,9 @@ fn party_in(value: &Value, faults: u8, clients: u16) -> Result<Party, FileFault>
     match u16::try_from(number) {
         Ok(number) if number <= last_replica => Ok(Party::Replica(ReplicaId(number as u8))),
         Ok(number) if number >= FIRST_CLIENT && number <= last_client => {
-            Ok(
-                Party::Client(ClientId {
-                    number: number - FIRST_CLIENT,
-                }),
-            )
+            Ok(Party::Client(ClientId {
+                number: number - FIRST_CLIENT,
+            }))
         }
         _ => Err(FileFault::NoParty {
             number,

@@ -14,4 +14,6 @@ mod order;
 #[cfg(test)]
 mod reads;
 #[cfg(test)]
+mod rings;
+#[cfg(test)]
 mod state;

@@ -42,6 +42,7 @@ pub(crate) fn find_reads(
     ensures { IfOk result (HoldsReads (2 ^ 63) (reads_by_scans (seed_holder config.now)
         (position_in (reverse places.now.rises.items)) (reverse trace.now))) }
 {
+    // One ring with all keys of the seed serves all clients: it judges a reply as the client's own keys do.
     let mut ring = Ring::new(alloc, config.seed(), config.faults(), config.clients());
     let publics = PublicKeys::new(alloc, config.seed(), config.faults())?;
     let mut scans = BTreeMap::new(alloc);

@@ -31,14 +31,14 @@ use Rattle.replica_histories.proofs.Answering.{parts_fit, kept_fetches_count, pa
 use Rattle.replica_histories.proofs.TransfersAnswering.{outgoing_to_one}
 use Rattle.replica.specs.declared.taking.DueWork.TheVariants as due_work
 use Rattle.wire_format.specs.Spelling.{is_signed}
-use Rattle.replica.specs.State.{BothPartsData, AreOne}
+use Rattle.replica.specs.State.{BothPartsData, AreOne, Gives, heard}
 use Rattle.orderer.specs.Fitting.{given, FitsEvent}
 use Rattle.replica.specs.Entering.{event_of, TakesBytes}
 use Rattle.desk.specs.Fetching.{SendsPart, HasKept, KeepsNoState}
 use Rattle.desk.specs.DeskOf.{desk_of}
 use Rattle.replica.specs.BothParts.{BothPartsMatchHistory, me_of}
-use Rattle.replica.proofs.Beginning.{rests}
-use Rattle.replica.proofs.Beside.{begins, heard_so}
+use Rattle.replica.proofs.Beginning.{heard_by, rests}
+use Rattle.replica.proofs.Beside.{begins}
 use Rattle.orderer.proofs.Staying.{EmitsOne, emits_one, AssignsNoNumber, fits_on, sent_beside}
 use Rattle.orderer.proofs.Parties.{same_log}
 use Rattle.replica.proofs.Parties.{one_self}
@@ -82,16 +82,19 @@ of_number k pages (x ∷ xs) (inl e) = inl (ap (λ (s : Snapshot). s.number) e)
 of_number k pages (x ∷ xs) (inr h) = inr (of_number k pages xs h)
 
 module _ (r : BothPartsData) (one : AreOne r.orderer r.desk) (sender : ReplicaId) (fetch : Fetch) (bytes : List ℕ) (outs : List Output)
-    (receives : authentic r.desk.membership r.desk.me bytes ≡ Some (record { sender = sender.0; message = FetchMessage fetch.number.0 fetch.level fetch.index })) where
+    (receives : heard r.orderer bytes ≡ Some (record { sender = sender.0; message = FetchMessage fetch.number.0 fetch.level fetch.index })) where
   abbrev k : ℕ
   k = fetch.number.0
 
   abbrev body : Body
   body = record { sender = sender.0; message = FetchMessage k fetch.level fetch.index }
 
-  module _ (c : Configuration) (past : List Entry) (runs : BothPartsMatchHistory c r past) (known : members c ≡ r.desk.membership) where
+  module _ (c : Configuration) (past : List Entry) (runs : BothPartsMatchHistory c r past) (known : Gives c r.orderer) where
+    receives_in : authentic (members c (me_of r)) (me_of r) bytes ≡ Some body
+    receives_in = heard_by r one c bytes body known receives
+
     started : FitsEvent c (me_of r) (event_of c r past runs bytes) r.orderer (desk_of c r.desk) r.desk.waiting [] []
-    started = begins r one c past runs bytes body known receives (record { log = tt; call = refl; asks = λ st. refl; views = refl; changes = tt })
+    started = begins r one c past runs bytes body receives_in (record { log = tt; call = refl; asks = λ st. refl; views = refl; changes = tt })
 
     abbrev Left : List Output → Type 0
     Left os = FitsEvent c (me_of r) (event_of c r past runs bytes) r.orderer (desk_of c r.desk) r.desk.waiting [] os
@@ -101,7 +104,7 @@ module _ (r : BothPartsData) (one : AreOne r.orderer r.desk) (sender : ReplicaId
     kept_none : KeepsNoState r.desk k → Left []
     kept_none none = (
       started,
-      other_numbers_owe_none c (me_of r) (desk_of c r.desk) r.orderer.log past (Got (me_of r) bytes) [] sender.0 k fetch.index r.desk.executed.state.number fetch.level runs.holds (heard_so r one c past runs bytes body known receives)
+      other_numbers_owe_none c (me_of r) (desk_of c r.desk) r.orderer.log past (Got (me_of r) bytes) [] sender.0 k fetch.index r.desk.executed.state.number fetch.level runs.holds receives_in
           (none_of k r.desk.snapshots none),
       inl refl,
     )
@@ -118,13 +121,13 @@ module _ (r : BothPartsData) (one : AreOne r.orderer r.desk) (sender : ReplicaId
           (sent_keep c (me_of r) (Got (me_of r) bytes ∷ past) (part_of pages) seals.bytes is_outgoing.says (no_news c (me_of r) (Got (me_of r) bytes ∷ past) pages k fetch.index fetch.level) (never_signed pages k fetch.index fetch.level))
           (same_log r.orderer.log) refl refl refl refl started
           (parts_fit c (me_of r) (event_of c r past runs bytes) (desk_of c r.desk) r.orderer.log [] [] (record { number = k; pages = pages }) sender.0 fetch.index fetch.level seals.bytes has
-          (inl (heard_so r one c past runs bytes body known receives)) (λ given. given) is_outgoing started.fits),
+          (inl receives_in) (λ given. given) is_outgoing started.fits),
       subst (λ (es : List Entry). AnswersInput c (me_of r) past (Got (me_of r) bytes) es runs.holds.of_desk.point r.desk.executed.state.number) (sym one_given.is)
           (parts_suffice c (me_of r) (desk_of c r.desk) r.orderer.log past (Got (me_of r) bytes) (Sent (me_of r) seals.bytes ∷ []) (record { number = k; pages = pages }) sender.0 fetch.index r.desk.executed.state.number fetch.level
-          runs.holds has (heard_so r one c past runs bytes body known receives) (inl (outgoing_to_one c (me_of r) sender.0 (part_of pages) seals.bytes is_outgoing))),
+          runs.holds has receives_in (inl (outgoing_to_one c (me_of r) sender.0 (part_of pages) seals.bytes is_outgoing))),
       inr (
         body,
-        heard_so r one c past runs bytes body known receives,
+        receives_in,
         kept_fetches_count c (me_of r) (desk_of c r.desk) r.orderer.log past bytes sender.0 k fetch.index fetch.level runs.holds (of_number k pages r.desk.snapshots has),
       ),
     )
@@ -133,10 +136,10 @@ module _ (r : BothPartsData) (one : AreOne r.orderer r.desk) (sender : ReplicaId
         sends = subst (λ (m : ℕ). entry_of m output ≡ Sent m seals.bytes) one.0 seals.sends
 
         one_given : EmitsOne c (me_of r) [] (output ∷ []) (Sent (me_of r) seals.bytes)
-        one_given = emits_one c (me_of r) [] (output ∷ []) output (Sent (me_of r) seals.bytes) refl sends (subst (λ (m : ℕ). IsSentAsMeant c m output) one.0 (seals.meant c known))
+        one_given = emits_one c (me_of r) [] (output ∷ []) output (Sent (me_of r) seals.bytes) refl sends (subst (λ (m : ℕ). IsSentAsMeant c m output) one.0 (seals.meant c runs.is_desk.members_are))
 
         is_outgoing : IsOutgoing c (me_of r) (part_of pages) (sender.0 ∷ []) seals.bytes
-        is_outgoing = subst (λ (m : ℕ). IsOutgoing c m (part_of pages) (sender.0 ∷ []) seals.bytes) one.0 (seals.is_outgoing c known)
+        is_outgoing = subst (λ (m : ℕ). IsOutgoing c m (part_of pages) (sender.0 ∷ []) seals.bytes) one.0 (seals.is_outgoing c runs.is_desk.members_are)
 
         has : Has (λ x. x ≡ record { number = k; pages = pages }) r.desk.snapshots
         has = kept

@@ -1,10 +1,9 @@
 -- What a replica waits for is what its history says.
-use Rattle.std.proofs.Common.{◌≡◌, ℕ, ◌≤◌, ◌<◌, Bool, true, false, List, [], ◌∷◌, map, refl, sym, ap, ◌∙◌, subst, arith, Option, Some, None}
-use Rattle.std.specs.Prelude.{nat_lt, nat_le, not, option_and_then, option_map, is_none, ◌||◌}
+use Rattle.std.proofs.Common.{◌≡◌, ℕ, ◌≤◌, ◌<◌, Bool, true, false, List, [], ◌∷◌, refl, sym, ap, ◌∙◌, subst, arith, Option, Some, None}
+use Rattle.std.specs.Prelude.{nat_lt, nat_le, not, option_and_then, option_map}
 use Rattle.std.specs.Bool.{then_some}
-use Rattle.std.proofs.lemmas.Bool.{lt-ltb, le-ltb, ltb-true, ltb-false, leb-true, leb-false}
+use Rattle.std.proofs.lemmas.Bool.{lt-ltb, le-ltb, leb-true, leb-false}
 use Rattle.terms.specs.declared.order.Number.{Number}
-use Rattle.terms.specs.declared.order.Timestamp.{Timestamp}
 use Rattle.terms.specs.declared.state.Level.{Level}
 use Rattle.state_transfer.specs.declared.place.Place.{Place}
 use Rattle.state_transfer.specs.Transfer.{TransferData}
@@ -16,17 +15,16 @@ use Rattle.protocol.specs.System.Trace.{Entry}
 use Rattle.protocol.specs.Replica.Certificates.{view, target}
 use Rattle.protocol.specs.Replica.RightReplica.{Point}
 use Rattle.protocol.specs.Replica.Transfers.{asked_last, fetching}
-use Rattle.protocol.proofs.Words.Options.{some_injective}
 use Rattle.protocol.proofs.Words.Reacting.{proceeds_leaves}
 use Rattle.replica_histories.specs.Transfers.{FitsStateTransfer}
 use Rattle.replica_histories.proofs.TransfersTaking.{asked_at_most}
 use Rattle.desk.specs.declared.waiting.WaitingRequest.{WaitingRequest}
 use Rattle.desk.specs.State.{OpenData, DeskData}
-use Rattle.desk.specs.DeskOf.{desk_of, waiting_calls}
+use Rattle.desk.specs.DeskOf.{waiting_calls}
 use Rattle.desk.specs.Fetching.{IsAskedFor}
 use Rattle.desk.specs.Waiting.{oldest_of}
 use Rattle.orderer.specs.State.{OrdererData}
-use Rattle.replica.specs.State.{MemberData, BothPartsData, ReplicaData, AreOne}
+use Rattle.replica.specs.State.{MemberData, BothPartsData, AreOne}
 use Rattle.replica.specs.ReplicaView.{both_of}
 use Rattle.replica.specs.BothParts.{BothPartsMatchHistory, both_parts, me_of}
 use Rattle.replica.specs.Parted.{DeskMatchesHistory, OrdererMatchesHistory}

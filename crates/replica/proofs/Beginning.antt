@@ -38,7 +38,7 @@ use Rattle.ordering.specs.Messages.{preprepare_fault_of}
 use Rattle.sha2.specs.Sha256.{sha256}
 use Rattle.authenticator.specs.Membership.{Membership, has_sender, is_client, is_replica}
 use Rattle.frame_endpoint.specs.Endpoint.{are_authentic}
-use Rattle.protocol.specs.System.Configuration.{Configuration, members}
+use Rattle.protocol.specs.System.Configuration.{Configuration, members, signers}
 use Rattle.protocol.specs.System.Trace.{Entry}
 use Rattle.protocol.specs.System.Trace.Entry.{Got}
 use Rattle.protocol.specs.Replica.Certificates.{taken, are_genuine, brought, new_view_from, is_later, view, target}
@@ -57,7 +57,7 @@ use Rattle.replica_histories.proofs.Entering.{inputs_fit}
 use Rattle.replica_histories.proofs.Resting.{held_are_settled}
 use Rattle.replica_histories.proofs.Counting.{batches_count, batches_drop, prepares_count, prepares_drop, commits_count, commits_drop, others_drop, mapped_none}
 use Rattle.replica.specs.declared.taking.DueWork.TheVariants as due_work
-use Rattle.replica.specs.State.{BothPartsData, AreOne}
+use Rattle.replica.specs.State.{BothPartsData, AreOne, Gives, heard}
 use Rattle.replica.specs.Desks.{PartsFitEvent}
 use Rattle.replica.specs.Going.{NothingIsLeft}
 use Rattle.orderer.specs.Taking.{TakesBatch, TakesPrepare, TakesCommit}
@@ -104,16 +104,16 @@ ChangesFit r c past bytes after pq_sets = LogPassesEntry c (me_of r) past (Got (
 
 -- The log takes the bytes, which count.
 pub record TakesOne (r : BothPartsData) (c : Configuration) (past : List Entry) (runs : BothPartsMatchHistory c r past) (bytes : List ℕ) (after : LogData) (pq_sets : PqSetsData) : Type 0 where
-  pub takes : LogTakesBody c (me_of r) (authentic (members c) (me_of r) bytes) r.orderer.log after
-  pub none : IsNoCall c (authentic (members c) (me_of r) bytes)
+  pub takes : LogTakesBody c (me_of r) (authentic (members c (me_of r)) (me_of r) bytes) r.orderer.log after
+  pub none : IsNoCall c (authentic (members c (me_of r)) (me_of r) bytes)
   pub counts : IsTaken c (me_of r) (event_of c r past runs bytes)
   pub changes : ChangesFit r c past bytes after pq_sets
 
 module _ (r : BothPartsData) (one : AreOne r.orderer r.desk) where
-  -- the desk receives what the orderer does
-  pub heard_by : (c : Configuration) (bytes : List ℕ) (body : Body) → members c ≡ r.desk.membership → authentic r.desk.membership r.desk.me bytes ≡ Some body
-      → authentic (members c) (me_of r) bytes ≡ Some body
-  heard_by c bytes body known h = ap (λ m. authentic m (me_of r) bytes) known ∙ ap (λ (x : ℕ). authentic r.desk.membership x bytes) (sym one.0) ∙ h
+  -- what the orderer hears is authentic in the configuration
+  pub heard_by : (c : Configuration) (bytes : List ℕ) (body : Body) → Gives c r.orderer → heard r.orderer bytes ≡ Some body
+      → authentic (members c (me_of r)) (me_of r) bytes ≡ Some body
+  heard_by c bytes body known h = ap (λ m. authentic m (me_of r) bytes) known ∙ h
 
   -- So they do if the bytes change no view-change data, and the low mark stays.
   pub changes_kept : (c : Configuration) (past : List Entry) (runs : BothPartsMatchHistory c r past) (bytes : List ℕ) (after : LogData) → IsSameLog r.orderer.log after → after.low ≡ r.orderer.log.low
@@ -125,7 +125,7 @@ module _ (r : BothPartsData) (one : AreOne r.orderer r.desk) where
 
   -- bytes that are no ordered request, of which the log may take something
   pub begins_with : (c : Configuration) (past : List Entry) (runs : BothPartsMatchHistory c r past) (bytes : List ℕ) (after : LogData) (pq_sets : PqSetsData)
-      → IsSameLog r.orderer.log after → LogTakesBody c (me_of r) (authentic (members c) (me_of r) bytes) r.orderer.log after → IsNoCall c (authentic (members c) (me_of r) bytes)
+      → IsSameLog r.orderer.log after → LogTakesBody c (me_of r) (authentic (members c (me_of r)) (me_of r) bytes) r.orderer.log after → IsNoCall c (authentic (members c (me_of r)) (me_of r) bytes)
       → ChangesFit r c past bytes after pq_sets
       → PartsFitEvent c (event_of c r past runs bytes) (record r.orderer { log = after; pq_sets = pq_sets }) r.desk [] []
   begins_with c past runs bytes after pq_sets same takes none changes = record {
@@ -160,8 +160,8 @@ module _ (r : BothPartsData) (one : AreOne r.orderer r.desk) where
 
   -- Dropped bytes change nothing.
   pub drops : (bytes : List ℕ)
-      → ((c : Configuration) (past : List Entry) → BothPartsMatchHistory c r past → members c ≡ r.desk.membership
-      → LogTakesBody c (me_of r) (authentic (members c) (me_of r) bytes) r.orderer.log r.orderer.log × IsNoCall c (authentic (members c) (me_of r) bytes))
+      → ((c : Configuration) (past : List Entry) → BothPartsMatchHistory c r past → Gives c r.orderer
+      → LogTakesBody c (me_of r) (authentic (members c (me_of r)) (me_of r) bytes) r.orderer.log r.orderer.log × IsNoCall c (authentic (members c (me_of r)) (me_of r) bytes))
       → TakesBytes bytes r due_work.Nothing r []
   drops bytes none = record {
     party = one_self r;
@@ -177,7 +177,7 @@ module _ (r : BothPartsData) (one : AreOne r.orderer r.desk) where
     );
   }
     where
-      kept : (c : Configuration) (past : List Entry) (runs : BothPartsMatchHistory c r past) → IsNoCall c (authentic (members c) (me_of r) bytes) → ChangesFit r c past bytes r.orderer.log r.orderer.pq_sets
+      kept : (c : Configuration) (past : List Entry) (runs : BothPartsMatchHistory c r past) → IsNoCall c (authentic (members c (me_of r)) (me_of r) bytes) → ChangesFit r c past bytes r.orderer.log r.orderer.pq_sets
       kept c past runs silent = changes_kept c past runs bytes r.orderer.log (same_log r.orderer.log) refl
           (λ passes. got_keep c (me_of r) past bytes r.orderer.log r.orderer.log passes (record { view = refl; active = refl }) (none_taken c past (Got (me_of r) bytes) silent.views)
           (λ i within. refl) (λ s other. others_bring_none c (me_of r) s past bytes silent.changes other))
@@ -185,7 +185,7 @@ module _ (r : BothPartsData) (one : AreOne r.orderer r.desk) where
   -- A message that the log takes touches one number.
   pub takes_row : (bytes : List ℕ) (number : Number) (after : LogData) (pq_sets : PqSetsData)
       → IsSameLog r.orderer.log after → r.orderer.log.active ≡ true → ((i : ℕ) → i ≢ number.0 → (due_prepare after i ≡ due_prepare r.orderer.log i) × (due_commit after i ≡ due_commit r.orderer.log i))
-      → ((c : Configuration) (past : List Entry) (runs : BothPartsMatchHistory c r past) → members c ≡ r.desk.membership → TakesOne r c past runs bytes after pq_sets)
+      → ((c : Configuration) (past : List Entry) (runs : BothPartsMatchHistory c r past) → Gives c r.orderer → TakesOne r c past runs bytes after pq_sets)
       → TakesBytes bytes r (due_work.Row number) (record r { orderer = record r.orderer { log = after; pq_sets = pq_sets } }) []
   takes_row bytes number after pq_sets same active others takes = record {
     party = record { endpoint = refl; me = refl; membership = refl };
@@ -227,22 +227,22 @@ abbrev vote_by : ReplicaId → List ℕ → Vote
 vote_by sender digest = record { sender = sender; digest = digest }
 
 -- a vote is no call, and changes no view-change data
-none_of : (r : BothPartsData) (bytes : List ℕ) (c : Configuration) (body : Body) → authentic (members c) (me_of r) bytes ≡ Some body → IsNoCall c (Some body) → IsNoCall c (authentic (members c) (me_of r) bytes)
+none_of : (r : BothPartsData) (bytes : List ℕ) (c : Configuration) (body : Body) → authentic (members c (me_of r)) (me_of r) bytes ≡ Some body → IsNoCall c (Some body) → IsNoCall c (authentic (members c (me_of r)) (me_of r) bytes)
 none_of r bytes c body receives none = subst (IsNoCall c) (sym receives) none
 
-prepare_none : (r : BothPartsData) (bytes : List ℕ) (c : Configuration) (s v i : ℕ) (digest : List ℕ) → authentic (members c) (me_of r) bytes ≡ Some (record { sender = s; message = Prepare v i digest })
-    → IsNoCall c (authentic (members c) (me_of r) bytes)
+prepare_none : (r : BothPartsData) (bytes : List ℕ) (c : Configuration) (s v i : ℕ) (digest : List ℕ) → authentic (members c (me_of r)) (me_of r) bytes ≡ Some (record { sender = s; message = Prepare v i digest })
+    → IsNoCall c (authentic (members c (me_of r)) (me_of r) bytes)
 prepare_none r bytes c s v i digest receives = none_of r bytes c _ receives (record { call = refl; asks = λ st. refl; parts = refl; views = refl; changes = tt })
 
-commit_none : (r : BothPartsData) (bytes : List ℕ) (c : Configuration) (s v i : ℕ) (digest : List ℕ) → authentic (members c) (me_of r) bytes ≡ Some (record { sender = s; message = Commit v i digest })
-    → IsNoCall c (authentic (members c) (me_of r) bytes)
+commit_none : (r : BothPartsData) (bytes : List ℕ) (c : Configuration) (s v i : ℕ) (digest : List ℕ) → authentic (members c (me_of r)) (me_of r) bytes ≡ Some (record { sender = s; message = Commit v i digest })
+    → IsNoCall c (authentic (members c (me_of r)) (me_of r) bytes)
 commit_none r bytes c s v i digest receives = none_of r bytes c _ receives (record { call = refl; asks = λ st. refl; parts = refl; views = refl; changes = tt })
 
-batch_none : (r : BothPartsData) (bytes : List ℕ) (c : Configuration) (s v i : ℕ) (batch : List ℕ) → authentic (members c) (me_of r) bytes ≡ Some (record { sender = s; message = PrePrepare v i batch })
-    → IsNoCall c (authentic (members c) (me_of r) bytes)
+batch_none : (r : BothPartsData) (bytes : List ℕ) (c : Configuration) (s v i : ℕ) (batch : List ℕ) → authentic (members c (me_of r)) (me_of r) bytes ≡ Some (record { sender = s; message = PrePrepare v i batch })
+    → IsNoCall c (authentic (members c (me_of r)) (me_of r) bytes)
 batch_none r bytes c s v i batch receives = none_of r bytes c _ receives (record { call = refl; asks = λ st. refl; parts = refl; views = refl; changes = tt })
 
-votes_keep : (r : BothPartsData) (bytes : List ℕ) (c : Configuration) (past : List Entry) → IsNoCall c (authentic (members c) (me_of r) bytes) → IsNoBatch (authentic (members c) (me_of r) bytes)
+votes_keep : (r : BothPartsData) (bytes : List ℕ) (c : Configuration) (past : List Entry) → IsNoCall c (authentic (members c (me_of r)) (me_of r) bytes) → IsNoBatch (authentic (members c (me_of r)) (me_of r) bytes)
     → KeepsChanges c (me_of r) past (Got (me_of r) bytes)
 votes_keep r bytes c past none no_batch =
     received_keep c (me_of r) past bytes (none_taken c past (Got (me_of r) bytes) none.views) no_batch (λ s other. others_bring_none c (me_of r) s past bytes none.changes other)
@@ -263,7 +263,7 @@ prepare_taken r sender p new one t bytes h =
     active : r.orderer.log.active ≡ true
     active = (fitting r.orderer.log _ p.view.0 p.number.0 (no_fault _ (fault_beside (logs.prepare_of r.orderer.log p.number.0 sender.0) p.digest) t.0)).active
 
-    takes : (c : Configuration) (past : List Entry) (runs : BothPartsMatchHistory c r past) → members c ≡ r.desk.membership
+    takes : (c : Configuration) (past : List Entry) (runs : BothPartsMatchHistory c r past) → Gives c r.orderer
         → TakesOne r c past runs bytes (with_prepare r.orderer.log p.number.0 vote) r.orderer.pq_sets
     takes c past runs known =
         let receives = heard_by r one c bytes _ known h in
@@ -291,7 +291,7 @@ commit_taken r sender p new one t bytes h =
     active : r.orderer.log.active ≡ true
     active = (fitting r.orderer.log _ p.view.0 p.number.0 (no_fault _ (fault_beside (logs.commit_of r.orderer.log p.number.0 sender.0) p.digest) t.0)).active
 
-    takes : (c : Configuration) (past : List Entry) (runs : BothPartsMatchHistory c r past) → members c ≡ r.desk.membership
+    takes : (c : Configuration) (past : List Entry) (runs : BothPartsMatchHistory c r past) → Gives c r.orderer
         → TakesOne r c past runs bytes (with_commit r.orderer.log p.number.0 vote) r.orderer.pq_sets
     takes c past runs known =
         let receives = heard_by r one c bytes _ known h in
@@ -314,8 +314,8 @@ pub prepare_dropped : (r : BothPartsData) (sender : ReplicaId) (p : WirePrepare)
 prepare_dropped r sender p new one t bytes h =
     subst (λ (o : OrdererData). TakesBytes bytes r due_work.Nothing (record r { orderer = o }) []) (sym t.1) (drops r one bytes none)
   where
-    none : (c : Configuration) (past : List Entry) → BothPartsMatchHistory c r past → members c ≡ r.desk.membership
-        → LogTakesBody c (me_of r) (authentic (members c) (me_of r) bytes) r.orderer.log r.orderer.log × IsNoCall c (authentic (members c) (me_of r) bytes)
+    none : (c : Configuration) (past : List Entry) → BothPartsMatchHistory c r past → Gives c r.orderer
+        → LogTakesBody c (me_of r) (authentic (members c (me_of r)) (me_of r) bytes) r.orderer.log r.orderer.log × IsNoCall c (authentic (members c (me_of r)) (me_of r) bytes)
     none c past runs known =
         let receives = heard_by r one c bytes _ known h in
         let fault = some_fault _ t.0 in (
@@ -328,8 +328,8 @@ pub commit_dropped : (r : BothPartsData) (sender : ReplicaId) (p : WireCommit) (
 commit_dropped r sender p new one t bytes h =
     subst (λ (o : OrdererData). TakesBytes bytes r due_work.Nothing (record r { orderer = o }) []) (sym t.1) (drops r one bytes none)
   where
-    none : (c : Configuration) (past : List Entry) → BothPartsMatchHistory c r past → members c ≡ r.desk.membership
-        → LogTakesBody c (me_of r) (authentic (members c) (me_of r) bytes) r.orderer.log r.orderer.log × IsNoCall c (authentic (members c) (me_of r) bytes)
+    none : (c : Configuration) (past : List Entry) → BothPartsMatchHistory c r past → Gives c r.orderer
+        → LogTakesBody c (me_of r) (authentic (members c (me_of r)) (me_of r) bytes) r.orderer.log r.orderer.log × IsNoCall c (authentic (members c (me_of r)) (me_of r) bytes)
     none c past runs known =
         let receives = heard_by r one c bytes _ known h in
         let fault = some_fault _ t.0 in (
@@ -342,14 +342,14 @@ pub batch_dropped : (r : BothPartsData) (sender : ReplicaId) (p : WirePrePrepare
 batch_dropped r sender p new one t bytes h =
     subst (λ (o : OrdererData). TakesBytes bytes r due_work.Nothing (record r { orderer = o }) []) (sym t.1) (drops r one bytes none)
   where
-    why : (c : Configuration) → members c ≡ r.desk.membership
+    why : (c : Configuration) → Gives c r.orderer
         → (is_none (preprepare_fault_of r.orderer.log sender p) ≡ false) ⊎ (are_authentic r.orderer.endpoint.membership r.orderer.endpoint.me (requests_of p.batch.text.items) ≡ false)
         → ((fault : Dropped) × (preprepare_fault_of r.orderer.log sender p ≡ Some fault)) ⊎ (are_genuine c (me_of r) p.batch.text.items ≡ false)
     why c known (inl e) = inl (some_fault _ e)
-    why c known (inr e) = inr (ap (λ (m : Membership). are_authentic m (me_of r) (requests_of p.batch.text.items)) (known ∙ one.1) ∙ e)
+    why c known (inr e) = inr (ap (λ (m : Membership). are_authentic m (me_of r) (requests_of p.batch.text.items)) known ∙ e)
 
-    none : (c : Configuration) (past : List Entry) → BothPartsMatchHistory c r past → members c ≡ r.desk.membership
-        → LogTakesBody c (me_of r) (authentic (members c) (me_of r) bytes) r.orderer.log r.orderer.log × IsNoCall c (authentic (members c) (me_of r) bytes)
+    none : (c : Configuration) (past : List Entry) → BothPartsMatchHistory c r past → Gives c r.orderer
+        → LogTakesBody c (me_of r) (authentic (members c (me_of r)) (me_of r) bytes) r.orderer.log r.orderer.log × IsNoCall c (authentic (members c (me_of r)) (me_of r) bytes)
     none c past runs known =
         let receives = heard_by r one c bytes _ known h in (
           batches_drop c (me_of r) r.orderer.log past sender.0 p.view.0 p.number.0 p.batch.text.items bytes runs.holds.of_log.fits receives (why c known t.0),
@@ -383,11 +383,11 @@ batch_taken r sender p new one (free, were_heard, (pq_sets, adds, is)) bytes h =
     fits : Fitting r.orderer.log (sender.0 == logs.primary r.orderer.log p.view.0) p.view.0 p.number.0
     fits = fitting r.orderer.log _ p.view.0 p.number.0 (no_fault _ beside free)
 
-    takes : (c : Configuration) (past : List Entry) (runs : BothPartsMatchHistory c r past) → members c ≡ r.desk.membership
+    takes : (c : Configuration) (past : List Entry) (runs : BothPartsMatchHistory c r past) → Gives c r.orderer
         → TakesOne r c past runs bytes (with_batch r.orderer.log p.number.0 p.batch.text.items) pq_sets
     takes c past runs known =
         let receives = heard_by r one c bytes _ known h in
-        let genuine = ap (λ (m : Membership). are_authentic m (me_of r) (requests_of p.batch.text.items)) (known ∙ one.1) ∙ were_heard in
+        let genuine = ap (λ (m : Membership). are_authentic m (me_of r) (requests_of p.batch.text.items)) known ∙ were_heard in
         let counts = batches_count c (me_of r) r.orderer.log past runs.holds.of_desk.point sender.0 p.view.0 p.number.0 p.batch.text.items bytes runs.holds.of_log.fits receives free genuine in
         record {
           takes = counts.1;
@@ -434,42 +434,43 @@ other_no_call c m s _ below sends other = record { call = refl; asks = λ st. re
 
 -- A received message that has no part in the three phases is dropped.
 drops_heard : (r : BothPartsData) (bytes : List ℕ) (body : Body) → AreOne r.orderer r.desk → IsBesideLog (Some body) → ((c : Configuration) → IsNoCall c (Some body))
-    → authentic r.desk.membership r.desk.me bytes ≡ Some body → TakesBytes bytes r due_work.Nothing r []
+    → heard r.orderer bytes ≡ Some body → TakesBytes bytes r due_work.Nothing r []
 drops_heard r bytes body one beside none h = drops r one bytes (λ c past runs known. let receives = heard_by r one c bytes body known h in
     (others_drop c (me_of r) r.orderer.log past bytes runs.holds.of_log.fits (rw receives beside), rw receives (none c)))
 
 pub other_dropped : (r : BothPartsData) (sender : ReplicaId) (m : WireMessage) → AreOne r.orderer r.desk → sender.0 < 256 → IsOther m → TakesMessage sender (message_data m) r due_work.Nothing r []
 other_dropped r sender m one below other bytes h =
-    let o = authentic_was_opened r.desk.membership r.desk.me bytes (record { sender = sender.0; message = message_data m }) h in
-    let sends = subst (λ (b : Body). has_sender r.desk.membership b ≡ true) o.body_is o.opens.sender in
-    drops_heard r bytes _ one (other_beside sender.0 m other) (λ c. other_no_call c r.desk.membership sender.0 m below sends other) h
+    let o = authentic_was_opened r.orderer.endpoint.membership (me_of r) bytes (record { sender = sender.0; message = message_data m }) h in
+    let sends = subst (λ (b : Body). has_sender r.orderer.endpoint.membership b ≡ true) o.body_is o.opens.sender in
+    drops_heard r bytes _ one (other_beside sender.0 m other) (λ c. other_no_call c r.orderer.endpoint.membership sender.0 m below sends other) h
 
 -- ---- nothing, and client messages beside ordered requests
 
-pub silence_dropped : (r : BothPartsData) (bytes : List ℕ) → AreOne r.orderer r.desk → authentic r.desk.membership r.desk.me bytes ≡ None → TakesBytes bytes r due_work.Nothing r []
-silence_dropped r bytes one h = drops r one bytes (λ c past runs known. let silent = heard_by_none c known in
+pub silent_dropped : (r : BothPartsData) (bytes : List ℕ) → AreOne r.orderer r.desk
+    → ((c : Configuration) (past : List Entry) → BothPartsMatchHistory c r past → Gives c r.orderer → authentic (members c (me_of r)) (me_of r) bytes ≡ None) → TakesBytes bytes r due_work.Nothing r []
+silent_dropped r bytes one none = drops r one bytes (λ c past runs known. let silent = none c past runs known in
     (others_drop c (me_of r) r.orderer.log past bytes runs.holds.of_log.fits (rw silent tt), subst (IsNoCall c) (sym silent) (record { call = refl; asks = λ st. refl; parts = refl; views = refl; changes = tt })))
-  where
-    heard_by_none : (c : Configuration) → members c ≡ r.desk.membership → authentic (members c) (me_of r) bytes ≡ None
-    heard_by_none c known = ap (λ m. authentic m (me_of r) bytes) known ∙ ap (λ (x : ℕ). authentic r.desk.membership x bytes) (sym one.0) ∙ h
+
+pub silence_dropped : (r : BothPartsData) (bytes : List ℕ) → AreOne r.orderer r.desk → heard r.orderer bytes ≡ None → TakesBytes bytes r due_work.Nothing r []
+silence_dropped r bytes one h = silent_dropped r bytes one (λ c past runs known. ap (λ m. authentic m (me_of r) bytes) known ∙ h)
 
 -- clients send only requests
 pub client_dropped : (r : BothPartsData) (k : ℕ) (m : WireMessage) (bytes : List ℕ) → AreOne r.orderer r.desk → has_type_of_requests bytes ≡ false
-    → authentic r.desk.membership r.desk.me bytes ≡ Some (record { sender = 256 + k; message = message_data m }) → TakesBytes bytes r due_work.Nothing r []
+    → heard r.orderer bytes ≡ Some (record { sender = 256 + k; message = message_data m }) → TakesBytes bytes r due_work.Nothing r []
 client_dropped r k m bytes one unmarked h = drops r one bytes (λ c past runs known.
     let receives = heard_by r one c bytes _ known h in
-    let sender = (authentic_was_opened (members c) (me_of r) bytes _ receives) in
-    absurd (no_sender c past m other runs.holds.of_log.fits (subst (λ (b : Body). has_sender (members c) b ≡ true) sender.body_is sender.opens.sender)))
+    let sender = (authentic_was_opened (members c (me_of r)) (me_of r) bytes _ receives) in
+    absurd (no_sender c past m other runs.holds.of_log.fits (subst (λ (b : Body). has_sender (members c (me_of r)) b ≡ true) sender.body_is sender.opens.sender)))
   where
     other : (x : WireRequest) → m ≡ messages.Request x → ⊥
     other x e =
-        let marked = heard_is_marked r.desk.membership r.desk.me bytes _ h ∙ ap (λ (y : WireMessage). eqb (message_type (message_data y)) 0x41) e in
+        let marked = heard_is_marked r.orderer.endpoint.membership (me_of r) bytes _ h ∙ ap (λ (y : WireMessage). eqb (message_type (message_data y)) 0x41) e in
         false≢true (sym unmarked ∙ marked)
 
-    no_replica : (c : Configuration) (past : List Entry) → FitsLog c (me_of r) r.orderer.log past → is_replica (members c) (256 + k) ≡ true → ⊥
+    no_replica : (c : Configuration) (past : List Entry) → FitsLog c (me_of r) r.orderer.log past → is_replica (signers c) (256 + k) ≡ true → ⊥
     no_replica c past f h = let l = ltb-true (256 + k) (3 * c.faults + 1) h in let few = f.is_log.few in let same = f.faults in absurd (omega (arith, l, few, same))
 
     no_sender : (c : Configuration) (past : List Entry) (x : WireMessage) → ((y : WireRequest) → x ≡ messages.Request y → ⊥) → FitsLog c (me_of r) r.orderer.log past
-        → has_sender (members c) (record { sender = 256 + k; message = message_data x }) ≡ true → ⊥
+        → has_sender (members c (me_of r)) (record { sender = 256 + k; message = message_data x }) ≡ true → ⊥
     no_sender c past (messages.Request x) other f h = other x refl
     no_sender c past _ other f h = no_replica c past f h

@@ -18,11 +18,11 @@ use Rattle.replica_histories.specs.Inputs.{IsBesideLog, replies_again, asked_by}
 use Rattle.replica_histories.proofs.Counting.{others_drop}
 use Rattle.replica_histories.proofs.Entering.{inputs_fit}
 use Rattle.replica.specs.declared.taking.DueWork.TheVariants as due_work
-use Rattle.replica.specs.State.{BothPartsData, AreOne}
+use Rattle.replica.specs.State.{BothPartsData, AreOne, Gives, heard}
 use Rattle.orderer.specs.Fitting.{FitsEvent, changes_held}
 use Rattle.replica.specs.Entering.{event_of, TakesBytes}
 use Rattle.replica.specs.BothParts.{BothPartsMatchHistory, me_of}
-use Rattle.replica.proofs.Beginning.{rests, changes_kept, none_taken}
+use Rattle.replica.proofs.Beginning.{heard_by, rests, changes_kept, none_taken}
 use Rattle.replica.proofs.Parties.{one_self}
 use Rattle.orderer.proofs.Staying.{numbers_beside, said_on}
 use Rattle.desk.specs.DeskOf.{desk_of}
@@ -37,14 +37,10 @@ pub record IsBeside (c : Configuration) (body : Body) : Type 0 where
   pub changes : IsNoChange (Some body)
 
 module _ (r : BothPartsData) (one : AreOne r.orderer r.desk) (c : Configuration) (past : List Entry) (runs : BothPartsMatchHistory c r past) (bytes : List ℕ) (body : Body)
-    (known : members c ≡ r.desk.membership) (receives : authentic r.desk.membership r.desk.me bytes ≡ Some body) where
-  -- the desk receives what the orderer does
-  pub heard_so : authentic (members c) (me_of r) bytes ≡ Some body
-  heard_so = ap (λ m. authentic m (me_of r) bytes) known ∙ ap (λ (x : ℕ). authentic r.desk.membership x bytes) (sym one.0) ∙ receives
-
+    (receives : authentic (members c (me_of r)) (me_of r) bytes ≡ Some body) where
   -- it takes no new view
   pub takes_none : new_view_from c body ≡ None → taken c past (Got (me_of r) bytes) ≡ None
-  takes_none none = none_taken c past (Got (me_of r) bytes) (ap (option_and_then (new_view_from c)) heard_so ∙ none)
+  takes_none none = none_taken c past (Got (me_of r) bytes) (ap (option_and_then (new_view_from c)) receives ∙ none)
 
   -- The view-change data fit, if the log stays, whatever the desk does.
   pub changes_beside : (later : Desk) (due : List Message) → new_view_from c body ≡ None → IsNoChange (Some body) → histories.BothFitWithinEvent c (me_of r) (event_of c r past runs bytes) later r.orderer.log due []
@@ -52,7 +48,7 @@ module _ (r : BothPartsData) (one : AreOne r.orderer r.desk) (c : Configuration)
   changes_beside later due none silent enters =
       changes_kept r one c past runs bytes r.orderer.log (same_log r.orderer.log) refl
       (λ passes. got_keep c (me_of r) past bytes r.orderer.log r.orderer.log passes (record { view = refl; active = refl }) (takes_none none) (λ i within. refl)
-      (λ s other. others_bring_none c (me_of r) s past bytes (subst IsNoChange (sym heard_so) silent) other))
+      (λ s other. others_bring_none c (me_of r) s past bytes (subst IsNoChange (sym receives) silent) other))
       (inputs_enter c (me_of r) (desk_of c r.desk) later r.orderer.log r.orderer.log due past (Got (me_of r) bytes) runs.holds enters)
 
   -- such a message alone changes nothing
@@ -68,19 +64,19 @@ module _ (r : BothPartsData) (one : AreOne r.orderer r.desk) (c : Configuration)
     where
       enters : histories.BothFitWithinEvent c (me_of r) (event_of c r past runs bytes) (desk_of c r.desk) r.orderer.log [] []
       enters = inputs_fit c (me_of r) (desk_of c r.desk) (desk_of c r.desk) r.orderer.log r.orderer.log [] past bytes runs.holds (takes_none beside.views) (record {
-        takes = others_drop c (me_of r) r.orderer.log past bytes runs.holds.of_log.fits (subst IsBesideLog (sym heard_so) beside.log);
+        takes = others_drop c (me_of r) r.orderer.log past bytes runs.holds.of_log.fits (subst IsBesideLog (sym receives) beside.log);
         state = refl;
         snapshots = refl;
-        waiting = rw (ap (option_and_then (call_in c)) heard_so ∙ beside.call) refl;
+        waiting = rw (ap (option_and_then (call_in c)) receives ∙ beside.call) refl;
         transfer = refl;
         frames = λ frame h. inl h;
-        due_is = sym (ap (replies_again r.desk.executed.state) heard_so ∙ beside.asks r.desk.executed.state);
+        due_is = sym (ap (replies_again r.desk.executed.state) receives ∙ beside.asks r.desk.executed.state);
       })
 
 -- Such a dropped message changes nothing, and the replica owes nothing for it.
-module _ (r : BothPartsData) (one : AreOne r.orderer r.desk) (bytes : List ℕ) (body : Body) (receives : authentic r.desk.membership r.desk.me bytes ≡ Some body) where
+module _ (r : BothPartsData) (one : AreOne r.orderer r.desk) (bytes : List ℕ) (body : Body) (receives : heard r.orderer bytes ≡ Some body) where
   pub drops_beside : ((c : Configuration) → IsBeside c body)
-      → ((c : Configuration) (past : List Entry) (runs : BothPartsMatchHistory c r past) → members c ≡ r.desk.membership → AnswersInput c (me_of r) past (Got (me_of r) bytes) [] runs.holds.of_desk.point r.desk.executed.state.number)
+      → ((c : Configuration) (past : List Entry) (runs : BothPartsMatchHistory c r past) → Gives c r.orderer → AnswersInput c (me_of r) past (Got (me_of r) bytes) [] runs.holds.of_desk.point r.desk.executed.state.number)
       → TakesBytes bytes r due_work.Nothing r []
   drops_beside beside answers = record {
     party = one_self r;
@@ -88,7 +84,7 @@ module _ (r : BothPartsData) (one : AreOne r.orderer r.desk) (bytes : List ℕ) 
       record {
         is = runs.is_desk;
         fits = subst (λ (m : ℕ). FitsEvent c m (event_of c r past runs bytes) r.orderer (desk_of c r.desk) r.desk.waiting [] []) (sym one.0)
-            (begins r one c past runs bytes body known receives (beside c));
+            (begins r one c past runs bytes body (heard_by r one c bytes body known receives) (beside c));
       },
       (
         rests c r past runs,

@@ -5,12 +5,12 @@ use Rattle.std.specs.Option.{option_map_or}
 use Rattle.wire_format.specs.Messages.{BodyData as Body, FrameData as Frame, MessageData as Message, ViewChangeData, view_change as ViewChange}
 use Rattle.wire_format.specs.Views.{view_change_data}
 use Rattle.wire_format.proofs.Saying.{reads_frames}
-use Rattle.signing.specs.AuthenticBody.{authentic}
-use Rattle.signing.proofs.AuthenticBody.{authentic_was_opened}
+use Rattle.signing.specs.AuthenticBody.{authentic, signed_body}
+use Rattle.signing.proofs.AuthenticBody.{authentic_was_opened, authentic_was_signed}
 use Rattle.events.specs.declared.output.Output.{Output}
 use Rattle.authenticator.specs.Membership.{Membership}
 use Rattle.frame_endpoint.specs.Endpoint.{EndpointState}
-use Rattle.protocol.specs.System.Configuration.{Configuration, members}
+use Rattle.protocol.specs.System.Configuration.{Configuration, members, signers}
 use Rattle.protocol.specs.System.Trace.{Entry}
 use Rattle.protocol.specs.System.Trace.Entry.{Got}
 use Rattle.protocol.specs.Replica.Certificates.{latest_change, new_view_from, taken, target, view}
@@ -22,7 +22,7 @@ use Rattle.protocol.proofs.Words.Moving.{no_time}
 use Rattle.protocol.proofs.Words.Options.{some_injective}
 use Rattle.view_change.specs.declared.change_fault.ChangeFault.{ChangeFault}
 use Rattle.view_change.specs.declared.changes.Change.{Change}
-use Rattle.view_change.specs.Laws.{ChangesAreJudged, HaveOneRule}
+use Rattle.view_change.specs.Laws.{ChangesAreJudged, HaveOneRule, SizesDecide}
 use Rattle.view_change.specs.ReceivedData.{AreHeldFrom, HeldData, IsJoined, held_of, later_views, view_change_refusal, with_held}
 use Rattle.view_change.specs.ReceivedView.{IsHeldIn, judging_configuration, held_as}
 use Rattle.view_change.specs.Sets.{change_pair}
@@ -47,9 +47,8 @@ use Rattle.replica_histories.proofs.Questions.{others_owe_no_part}
 use Rattle.replica_histories.proofs.Reasons.{ahead_are_held, joined_one}
 use Rattle.replica.specs.declared.taking.DueWork.{DueWork}
 use Rattle.replica.specs.declared.taking.DueWork.TheVariants as due_work
-use Rattle.orderer.specs.State.{OrdererData}
-use Rattle.replica.specs.State.{BothPartsData, AreOne}
-use Rattle.desk.specs.State.{DeskData}
+use Rattle.orderer.specs.State.{OrdererData, IsOrderer}
+use Rattle.replica.specs.State.{BothPartsData, AreOne, Gives, heard}
 use Rattle.desk.specs.DeskOf.{desk_of}
 use Rattle.replica.specs.Beginning.{BeginsView, MayBegin, HasNoView}
 use Rattle.orderer.specs.ViewChangeOut.{IsJoinedBy, IsJoinedByNone, IsUnsendable, target_view, change_for}
@@ -65,17 +64,24 @@ use Rattle.orderer.proofs.ChangingViews.{unsaid_spent}
 use Rattle.replica.proofs.Beginning.{heard_by, none_taken, rests}
 use Rattle.replica.proofs.Choosing.{active_begins_none}
 use Rattle.orderer.proofs.Parties.{same_log}
-use Rattle.replica.proofs.Parties.{one_self, ones_twice}
+use Rattle.replica.proofs.Parties.{gives_on, one_self, ones_twice}
 use Rattle.orderer.proofs.Staying.{numbers_alike, numbers_beside, said_on}
 
+-- a configuration where all know this; no keys matter for signed frames
+abbrev known_by_all : Membership → ℕ → Configuration
+known_by_all m period =
+    record { faults = m.faults; clients = m.clients; seed = []; publics = m.publics; period = period; faulty_replicas = []; faulty_clients = [] }
+
+signed_alike : (m : Membership) (period : ℕ) (bytes : List ℕ) → signed_body m bytes ≡ signed_body (signers (known_by_all m period)) bytes
+unfolding signed_body
+signed_alike m period bytes = refl
+
 -- a received view change is signed
-pub heard_is_signed : (o : OrdererData) (d : DeskData) (x : Change) (frame : List ℕ) → JudgesAlike o → AreOne o d
-    → authentic d.membership d.me frame ≡ Some (record { sender = x.sender.0; message = ViewChange (view_change_data x.change) })
+pub heard_is_signed : SizesDecide → (o : OrdererData) (x : Change) (frame : List ℕ) → IsOrderer o → heard o frame ≡ Some (record { sender = x.sender.0; message = ViewChange (view_change_data x.change) })
     → signed_change (judging_configuration o.received) frame ≡ Some (change_pair x)
-heard_is_signed o d x frame rules one h = (rules c one.1 (sym one.2)).signed frame ∙ (received_are_signed c d.me x.sender.0 (view_change_data x.change) frame h).0
-  where
-    c : Configuration
-    c = record { faults = d.membership.faults; clients = d.membership.clients; seed = d.membership.seed; period = d.period; faulty_replicas = []; faulty_clients = [] }
+heard_is_signed decide o x frame own h =
+    (decide (judging_configuration o.received) (known_by_all o.endpoint.membership o.received.sizes.period) (record { publics = own.2; faults = own.3; period = refl })).signed frame
+    ∙ ap (option_and_then change_in) (sym (signed_alike o.endpoint.membership o.received.sizes.period frame) ∙ authentic_was_signed o.endpoint.membership o.endpoint.me frame _ h refl)
 
 -- ---- what the bytes of a signed view change say
 
@@ -83,14 +89,14 @@ heard_is_signed o d x frame rules one h = (rules c one.1 (sym one.2)).signed fra
 abbrev IsChangeAtMost : ℕ × ViewChangeData → Option Body → Type 0
 IsChangeAtMost x said = (said ≡ None) ⊎ (said ≡ Some (record { sender = x.0; message = ViewChange x.1 }))
 
-change_at_most : (c : Configuration) (me : ℕ) (bytes : List ℕ) (x : ℕ × ViewChangeData) → signed_change c bytes ≡ Some x → IsChangeAtMost x (authentic (members c) me bytes)
-change_at_most c me bytes x signed = go (authentic (members c) me bytes) refl
+change_at_most : (c : Configuration) (me : ℕ) (bytes : List ℕ) (x : ℕ × ViewChangeData) → signed_change c bytes ≡ Some x → IsChangeAtMost x (authentic (members c me) me bytes)
+change_at_most c me bytes x signed = go (authentic (members c me) me bytes) refl
   where
-    go : (o : Option Body) → authentic (members c) me bytes ≡ o → IsChangeAtMost x o
+    go : (o : Option Body) → authentic (members c me) me bytes ≡ o → IsChangeAtMost x o
     go None h = inl refl
     go (Some body) h =
         let is = signed_is c bytes x signed in
-        let opened = authentic_was_opened (members c) me bytes body h in
+        let opened = authentic_was_opened (members c me) me bytes body h in
         let same : is.frame ≡ opened.frame =
         some_injective is.frame opened.frame (sym ((reads_frames bytes is.frame).1 is.spelled) ∙ (reads_frames bytes opened.frame).1 opened.opens.spelled) in
         let body_is : body ≡ is.frame.body = sym opened.body_is ∙ ap (λ (f : Frame). f.body) (sym same) in
@@ -126,8 +132,8 @@ module _ (r : BothPartsData) (one : AreOne r.orderer r.desk) (bytes : List ℕ) 
     abbrev e : Entry
     e = Got me bytes
 
-    beside : IsBesideAll c (authentic (members c) me bytes)
-    beside = beside_all c x (authentic (members c) me bytes) (change_at_most c me bytes x signed)
+    beside : IsBesideAll c (authentic (members c me) me bytes)
+    beside = beside_all c x (authentic (members c me) me bytes) (change_at_most c me bytes x signed)
 
     free : taken c past e ≡ None
     free = none_taken c past e beside.views
@@ -169,14 +175,14 @@ some_fault (Some x) h = (x, refl)
 
 module _ (r : BothPartsData) (one : AreOne r.orderer r.desk) (rules : JudgesAlike r.orderer) (bytes : List ℕ) (x : ℕ × ViewChangeData)
     (signed : signed_change (judging_configuration r.orderer.received) bytes ≡ Some x) where
-  rule : (c : Configuration) (past : List Entry) → BothPartsMatchHistory c r past → members c ≡ r.desk.membership → HaveOneRule (judging_configuration r.orderer.received) c
-  rule c past runs known = rules c (known ∙ one.1) (runs.is_desk.period_is ∙ sym one.2)
+  rule : (c : Configuration) (past : List Entry) → BothPartsMatchHistory c r past → Gives c r.orderer → HaveOneRule (judging_configuration r.orderer.received) c
+  rule c past runs known = rules c known (runs.is_desk.period_is ∙ sym one.1)
 
-  signed_in : (c : Configuration) (past : List Entry) → BothPartsMatchHistory c r past → members c ≡ r.desk.membership → signed_change c bytes ≡ Some x
+  signed_in : (c : Configuration) (past : List Entry) → BothPartsMatchHistory c r past → Gives c r.orderer → signed_change c bytes ≡ Some x
   signed_in c past runs known = sym ((rule c past runs known).signed bytes) ∙ signed
 
   -- a refused view change gives no reason to move
-  refused_move : ChangesAreJudged → view_change_refusal (judging_configuration r.orderer.received) r.orderer.log.view r.orderer.received.held x ≢ None → (c : Configuration) (past : List Entry) (runs : BothPartsMatchHistory c r past) → members c ≡ r.desk.membership
+  refused_move : ChangesAreJudged → view_change_refusal (judging_configuration r.orderer.received) r.orderer.log.view r.orderer.received.held x ≢ None → (c : Configuration) (past : List Entry) (runs : BothPartsMatchHistory c r past) → Gives c r.orderer
       → (outputs : List Entry) → OwesViewChange c (me_of r) past (Got (me_of r) bytes) outputs runs.holds.of_desk.point
   refused_move judge faulty c past runs known outputs vc other (inl t) may within says = absurd (no_time c (me_of r) (me_of r) past bytes runs.holds.of_desk.point.waiting vc.view t)
   refused_move judge faulty c past runs known outputs vc other (inr (taken, joins)) may within says = absurd (faulty ((judge (judging_configuration r.orderer.received) r.orderer.log.view r.orderer.received.held x).1 (above, inside, newer)))
@@ -184,7 +190,7 @@ module _ (r : BothPartsData) (one : AreOne r.orderer r.desk) (rules : JudgesAlik
       its : ◌≡◌ {A = ℕ × ViewChangeData} (taken.0, taken.1) x
       its = go (change_at_most c (me_of r) bytes x (signed_in c past runs known))
         where
-          go : IsChangeAtMost x (authentic (members c) (me_of r) bytes) → ◌≡◌ {A = ℕ × ViewChangeData} (taken.0, taken.1) x
+          go : IsChangeAtMost x (authentic (members c (me_of r)) (me_of r) bytes) → ◌≡◌ {A = ℕ × ViewChangeData} (taken.0, taken.1) x
           go (inl none) = let bad : false ≡ true = ap is_some (sym none ∙ taken.2) in absurd cc
           go (inr is) =
               let same : ◌≡◌ {A = Body} (record { sender = taken.0; message = ViewChange taken.1 }) (record { sender = x.0; message = ViewChange x.1 }) = some_injective _ _ (sym taken.2 ∙ is) in
@@ -227,7 +233,7 @@ module _ (r : BothPartsData) (one : AreOne r.orderer r.desk) (rules : JudgesAlik
         );
   }
     where
-      stays : (c : Configuration) (past : List Entry) (runs : BothPartsMatchHistory c r past) → members c ≡ r.desk.membership
+      stays : (c : Configuration) (past : List Entry) (runs : BothPartsMatchHistory c r past) → Gives c r.orderer
           → FitsChanges c (me_of r) r.orderer.log (changes_held r.orderer) (Got (me_of r) bytes ∷ past)
       stays c past runs known =
           changes_stay c (me_of r) past (Got (me_of r) bytes) r.orderer.log r.orderer.log (changes_held r.orderer) r.orderer.pq_sets (passes r one bytes c past runs x is) (record { view = refl; active = refl })
@@ -263,13 +269,13 @@ IsTakenPartless c me s = IsTaken c me s × (brings_part c me s.input ≡ false)
 -- What fits the past fits the event with these outputs, and nothing is left to do.
 record Comes (input : Entry) (old new : BothPartsData) (outs : List Output) : Type 0 where
   party : IsOneParty old new
-  begins : (c : Configuration) (past : List Entry) (runs : BothPartsMatchHistory c old past) → members c ≡ old.desk.membership
+  begins : (c : Configuration) (past : List Entry) (runs : BothPartsMatchHistory c old past) → Gives c old.orderer
       → PartsFitEvent c (event_with c old past runs input) new.orderer new.desk [] outs × NothingIsLeft new × IsAllNumbered new × IsTakenPartless c (me_of new) (event_with c old past runs input)
 
 -- If the replica has to move and its target is this view, the event has what it owes.
 abbrev MovesAt : Entry → BothPartsData → ℕ → Type 0
 MovesAt input old to =
-    (c : Configuration) (past : List Entry) (runs : BothPartsMatchHistory c old past) → members c ≡ old.desk.membership → (outputs : List Entry)
+    (c : Configuration) (past : List Entry) (runs : BothPartsMatchHistory c old past) → Gives c old.orderer → (outputs : List Entry)
     → target (after_outputs (event_with c old past runs input) outputs) ≡ to → OwesViewChange c (me_of old) past input outputs runs.holds.of_desk.point
 
 module _ (input : Entry) (old : BothPartsData) (alone : AreOne old.orderer old.desk) where
@@ -280,7 +286,7 @@ module _ (input : Entry) (old : BothPartsData) (alone : AreOne old.orderer old.d
   moves v a b x y true joined leaves came = record {
     party = ones_twice old a b came.party leaves.party;
     begins = λ c past runs known. let g = came.begins c past runs known in (
-      leaves.stands c (event_with c old past runs input) (known ∙ sym came.party.membership) g.1.0 (inr joined) g.0,
+      leaves.stands c (event_with c old past runs input) (gives_on c old.orderer a.orderer came.party.endpoint known) g.1.0 (inr joined) g.0,
       (leaves.voted, leaves.executed g.1.1),
       λ next. absurd (let none : true ≡ false = sym next.3 ∙ leaves.inactive in cc),
       subst (λ (e : EndpointState). IsTakenPartless c e.me (event_with c old past runs input)) (sym leaves.party.endpoint) g.3,
@@ -288,7 +294,7 @@ module _ (input : Entry) (old : BothPartsData) (alone : AreOne old.orderer old.d
   }
 
   -- then the event has all that the input asks for
-  answered : (a : BothPartsData) (x : List Output) → Comes input old a x → MovesAt input old a.orderer.target → (c : Configuration) (past : List Entry) (runs : BothPartsMatchHistory c old past) → members c ≡ old.desk.membership → (outputs : List Entry) (executed : ℕ)
+  answered : (a : BothPartsData) (x : List Output) → Comes input old a x → MovesAt input old a.orderer.target → (c : Configuration) (past : List Entry) (runs : BothPartsMatchHistory c old past) → Gives c old.orderer → (outputs : List Entry) (executed : ℕ)
       → target (after_outputs (event_with c old past runs input) outputs) ≡ a.orderer.target → AnswersInput c (me_of old) past input outputs runs.holds.of_desk.point executed
   answered a x came moved c past runs known outputs executed at =
       let partless = subst (λ (e : EndpointState). brings_part c e.me input ≡ false) came.party.endpoint (came.begins c past runs known).3.1 in
@@ -300,7 +306,7 @@ module _ (input : Entry) (old : BothPartsData) (alone : AreOne old.orderer old.d
   begins_now a b x y assigned came moved = record {
     party = ones_twice old a b came.party assigned.party;
     begins = λ c past runs known. let g = came.begins c past runs known in (
-      assigned.stands c (event_with c old past runs input) (known ∙ sym came.party.membership) g.1 g.0,
+      assigned.stands c (event_with c old past runs input) (gives_on c old.orderer a.orderer came.party.endpoint known) g.1 g.0,
       (
         assigned.voted g.1,
         (
@@ -326,7 +332,7 @@ module _ (input : Entry) (old : BothPartsData) (alone : AreOne old.orderer old.d
             (subst (λ (m : ℕ). target (after_outputs (event_with c old past runs input) (given m x)) ≡ a.orderer.target) (came.party.me ∙ alone.0) g.0.fits.changes.target)),
         inr g.3.0,
       ),
-      none c g.0.is.members_are g.0.is.period_is,
+      none c (gives_on c old.orderer a.orderer came.party.endpoint known) g.0.is.period_is,
     );
   }
 
@@ -349,12 +355,10 @@ MayJoin a x b y = Joins a x b y ⊎ ((b ≡ a) × (y ≡ x) × IsJoinedByNone a.
 -- ---- the replica takes it
 
 module _ (r : BothPartsData) (x : Change) (bytes : List ℕ) (one : AreOne r.orderer r.desk) (rules : JudgesAlike r.orderer) (judge : ChangesAreJudged)
-    (h : authentic r.desk.membership r.desk.me bytes ≡ Some (record { sender = x.sender.0; message = ViewChange (view_change_data x.change) })) where
+    (h : heard r.orderer bytes ≡ Some (record { sender = x.sender.0; message = ViewChange (view_change_data x.change) }))
+    (signed : signed_change (judging_configuration r.orderer.received) bytes ≡ Some (change_pair x)) where
   abbrev vc : ViewChangeData
   vc = view_change_data x.change
-
-  signed : signed_change (judging_configuration r.orderer.received) bytes ≡ Some (change_pair x)
-  signed = heard_is_signed r.orderer r.desk x bytes rules one h
 
   module _ (right : view_change_refusal (judging_configuration r.orderer.received) r.orderer.log.view r.orderer.received.held (change_pair x) ≡ None) where
     abbrev with_it : BothPartsData
@@ -372,8 +376,8 @@ module _ (r : BothPartsData) (x : Change) (bytes : List ℕ) (one : AreOne r.ord
         go None e = let above = judged.0 in omega (arith, above)
         go (Some last) e = judged.2 last e
 
-    module _ (c : Configuration) (past : List Entry) (runs : BothPartsMatchHistory c r past) (known : members c ≡ r.desk.membership) where
-      receives : authentic (members c) (me_of r) bytes ≡ Some (record { sender = x.sender.0; message = ViewChange vc })
+    module _ (c : Configuration) (past : List Entry) (runs : BothPartsMatchHistory c r past) (known : Gives c r.orderer) where
+      receives : authentic (members c (me_of r)) (me_of r) bytes ≡ Some (record { sender = x.sender.0; message = ViewChange vc })
       receives = heard_by r one c bytes _ known h
 
       counts : Counts c (me_of r) past runs.holds.of_desk.point bytes x.sender.0 (ViewChange vc)
@@ -403,12 +407,12 @@ module _ (r : BothPartsData) (x : Change) (bytes : List ℕ) (one : AreOne r.ord
 
     -- ---- the view to which others move the replica
 
-    module _ (c : Configuration) (past : List Entry) (runs : BothPartsMatchHistory c r past) (known : members c ≡ r.desk.membership) where
+    module _ (c : Configuration) (past : List Entry) (runs : BothPartsMatchHistory c r past) (known : Gives c r.orderer) where
       passed : LogPassesEntry c (me_of r) past (Got (me_of r) bytes) r.orderer.log r.orderer.log
       passed = passes r one bytes c past runs (change_pair x) (signed_in r one rules bytes (change_pair x) signed c past runs known)
 
       faults_are : c.faults ≡ r.orderer.endpoint.membership.faults
-      faults_are = ap (λ (m : Membership). m.faults) (known ∙ one.1)
+      faults_are = ap (λ (m : Membership). m.faults) known
 
       sought_is : sought_view c (Got (me_of r) bytes ∷ past) ≡ target_view with_it.orderer
       sought_is = ap₂ (λ (a b : ℕ). max a b) passed.fits_behind.view (holds c past runs known).target

@@ -5,7 +5,7 @@ use Rattle.wire_format.specs.Messages.{CheckpointEntryData as CheckpointEntry, v
 use Rattle.ordering.specs.Log.{left}
 use Rattle.events.specs.declared.output.Output.{Output}
 use Rattle.frame_endpoint.specs.Endpoint.{says}
-use Rattle.protocol.specs.System.Configuration.{Configuration, members, replicas}
+use Rattle.protocol.specs.System.Configuration.{Configuration, replicas}
 use Rattle.protocol.specs.System.Frames.{IsOutgoing, leaf_of}
 use Rattle.protocol.specs.System.Trace.{Entry}
 use Rattle.protocol.specs.System.Trace.Entry.{Sent}
@@ -26,7 +26,7 @@ use Rattle.replica_histories.proofs.Ending.{steps_leave}
 use Rattle.replica_histories.proofs.Leaves.{next_leaf_is_own, next_is_spent}
 use Rattle.replica_histories.proofs.Reasons.{ticks_are_reasons, held_are_joined}
 use Rattle.orderer.specs.State.{OrdererData, IsOrderer}
-use Rattle.replica.specs.State.{BothPartsData, AreOne}
+use Rattle.replica.specs.State.{BothPartsData, AreOne, Gives}
 use Rattle.desk.specs.declared.waiting.WaitingRequest.{WaitingRequest}
 use Rattle.desk.specs.DeskOf.{waiting_calls, desk_of}
 use Rattle.orderer.specs.Fitting.{given, changes_held, FitsEvent}
@@ -53,7 +53,7 @@ module _ (view : ℕ) (old : BothPartsData) (signed : OrdererData) (frame : List
   abbrev new : OrdererData
   new = gone (record old.orderer { received = record old.orderer.received { held = with_held k.own old.orderer.received.held }; spent = old.orderer.spent + 1 })
 
-  module _ (c : Configuration) (s : Start) (before after : List Output) (known : members c ≡ old.desk.membership) (voted : IsVotedAll old.orderer.log)
+  module _ (c : Configuration) (s : Start) (before after : List Output) (known : Gives c old.orderer) (voted : IsVotedAll old.orderer.log)
       (reason : HasReason c s old view) (f : FitsEvent c me s o (desk_of c old.desk) old.desk.waiting [] before) where
     abbrev desk : Desk
     desk = desk_of c old.desk
@@ -62,7 +62,7 @@ module _ (view : ℕ) (old : BothPartsData) (signed : OrdererData) (frame : List
     past = after_outputs s (given me before)
 
     is_outgoing : IsOutgoing c me (ViewChange k.own.change) [] frame
-    is_outgoing = k.signed c (known ∙ one.1)
+    is_outgoing = k.signed c (ap (λ m. m.publics) known)
 
     is_view : k.own.change.view ≡ view
     is_view = ap (λ x. x.view) k.change
@@ -72,7 +72,7 @@ module _ (view : ℕ) (old : BothPartsData) (signed : OrdererData) (frame : List
 
     -- so many may be faulty, and the replica is in this view or has left it for a later one
     faults_are : o.endpoint.membership.faults ≡ c.faults
-    faults_are = sym (ap (λ m. m.faults) (known ∙ one.1))
+    faults_are = sym (ap (λ m. m.faults) known)
 
     sought : target_view o ≡ sought_view c past
     sought = ap₂ (λ (a b : ℕ). max a b) (sym f.fits.of_log.view) (sym f.changes.target)
@@ -134,7 +134,7 @@ module _ (view : ℕ) (old : BothPartsData) (signed : OrdererData) (frame : List
     goes : MulticastsFrame new frame before after → FitsEvent c me s new desk old.desk.waiting [] after
     goes says =
         fits_behind c me s o new desk desk old.desk.waiting old.desk.waiting [] [] before after (Sent me frame)
-        (emits_one c me before after says.output (Sent me frame) says.given_is says.sends.sends (says.sends.meant c (ViewChange k.own.change) (known ∙ one.1) is_outgoing)) refl f on
+        (emits_one c me before after says.output (Sent me frame) says.given_is says.sends.sends (says.sends.meant c (ViewChange k.own.change) known is_outgoing)) refl f on
         (numbers_beside c me old.desk.waiting o desk past (Sent me frame) f.fits.of_log.faults f.fits.of_log.own (sent_beside c me (ViewChange k.own.change) [] frame past tt is_outgoing) f.numbers) held
 
   pub leaves_view : (before after : List Output) → MulticastsFrame (gone signed) frame before after → LeavesView view old before (record old { orderer = gone signed }) after

@@ -34,7 +34,7 @@ use Rattle.replica_histories.proofs.Questions.{others_owe_none}
 use Rattle.replica.specs.declared.taking.DueWork.TheVariants as due_work
 use Rattle.pq_sets.specs.PqSetsView.{PqSetsData}
 use Rattle.orderer.specs.State.{OrdererData}
-use Rattle.replica.specs.State.{BothPartsData, AreOne}
+use Rattle.replica.specs.State.{BothPartsData, AreOne, Gives, heard}
 use Rattle.desk.specs.State.{DeskData}
 use Rattle.orderer.specs.Checkpoints.{TakesCheckpoint, counting, said_entry}
 use Rattle.replica.specs.Checkpoints.{StartsTransferIfBehind, StabilizesMarks}
@@ -105,14 +105,14 @@ none_more old new i no_more none = go (logs.committed_batch new i) refl
 -- ---- it comes
 
 module _ (r : BothPartsData) (one : AreOne r.orderer r.desk) (s : ℕ) (entry : CheckpointEntry) (bytes : List ℕ)
-    (h : authentic r.desk.membership r.desk.me bytes ≡ Some (record { sender = s; message = Checkpoint entry.number entry.digest })) where
+    (h : heard r.orderer bytes ≡ Some (record { sender = s; message = Checkpoint entry.number entry.digest })) where
   abbrev body : Body
   body = record { sender = s; message = Checkpoint entry.number entry.digest }
 
-  receives : (c : Configuration) → members c ≡ r.desk.membership → authentic (members c) (me_of r) bytes ≡ Some body
+  receives : (c : Configuration) → Gives c r.orderer → authentic (members c (me_of r)) (me_of r) bytes ≡ Some body
   receives c known = heard_by r one c bytes body known h
 
-  no_call : (c : Configuration) → members c ≡ r.desk.membership → IsNoCall c (authentic (members c) (me_of r) bytes)
+  no_call : (c : Configuration) → Gives c r.orderer → IsNoCall c (authentic (members c (me_of r)) (me_of r) bytes)
   no_call c known = subst (IsNoCall c) (sym (receives c known)) (record { call = refl; asks = λ st. refl; parts = refl; views = refl; changes = tt })
 
   -- it is dropped
@@ -150,13 +150,13 @@ module _ (r : BothPartsData) (one : AreOne r.orderer r.desk) (s : ℕ) (entry : 
     checked pq_sets = record r.orderer { log = after; pq_sets = pq_sets }
 
     -- a rule takes it
-    counts : (c : Configuration) (past : List Entry) (runs : BothPartsMatchHistory c r past) → members c ≡ r.desk.membership → IsTakenBeside c (me_of r) (event_of c r past runs bytes)
+    counts : (c : Configuration) (past : List Entry) (runs : BothPartsMatchHistory c r past) → Gives c r.orderer → IsTakenBeside c (me_of r) (event_of c r past runs bytes)
     counts c past runs known = (
       (body, receives c known, checkpoints_count c (me_of r) r.orderer.log past runs.holds.of_desk.point s entry bytes runs.holds.of_log.fits (receives c known) none latest),
       (no_call c known).parts,
     )
 
-    module _ (c : Configuration) (past : List Entry) (runs : BothPartsMatchHistory c r past) (known : members c ≡ r.desk.membership) (pq_sets : PqSetsData)
+    module _ (c : Configuration) (past : List Entry) (runs : BothPartsMatchHistory c r past) (known : Gives c r.orderer) (pq_sets : PqSetsData)
         (cuts : CutsPqSets r.orderer.log.low r.orderer.pq_sets r.orderer.pq_sets → CutsPqSets after.low r.orderer.pq_sets pq_sets) where
       abbrev e : Entry
       e = Got (me_of r) bytes
@@ -200,7 +200,7 @@ module _ (r : BothPartsData) (one : AreOne r.orderer r.desk) (s : ℕ) (entry : 
       desk_is : n.desk ≡ record r.desk { snapshots = n.desk.snapshots }
       desk_is = settled_desk entry with_it n b settles
 
-      stands : (c : Configuration) (past : List Entry) (runs : BothPartsMatchHistory c r past) → members c ≡ r.desk.membership
+      stands : (c : Configuration) (past : List Entry) (runs : BothPartsMatchHistory c r past) → Gives c r.orderer
           → PartsFitEvent c (event_of c r past runs bytes) n.orderer n.desk (fetch_due (desk_of c r.desk) counted entry) []
       stands c past runs known =
           subst (λ (k : OrdererData). PartsFitEvent c (event_of c r past runs bytes) k n.desk (fetch_due (desk_of c r.desk) counted entry) []) (sym orderer_is)
@@ -249,7 +249,7 @@ module _ (r : BothPartsData) (one : AreOne r.orderer r.desk) (s : ℕ) (entry : 
       );
     }
       where
-        alone : (c : Configuration) (past : List Entry) (runs : BothPartsMatchHistory c r past) → members c ≡ r.desk.membership → IsTakenAlone c (me_of r) (event_of c r past runs bytes)
+        alone : (c : Configuration) (past : List Entry) (runs : BothPartsMatchHistory c r past) → Gives c r.orderer → IsTakenAlone c (me_of r) (event_of c r past runs bytes)
         alone c past runs known =
             let t = counts c past runs known in
             (t.0, λ outputs executed. others_owe_none c (me_of r) past (Got (me_of r) bytes) outputs runs.holds.of_desk.point executed t.1)
@@ -289,7 +289,7 @@ module _ (r : BothPartsData) (one : AreOne r.orderer r.desk) (s : ℕ) (entry : 
           over : r.orderer.log.low < entry.number
           over = (checkpoint_free r.orderer.log s entry.number entry.digest none).above
 
-          asked : (c : Configuration) (past : List Entry) (runs : BothPartsMatchHistory c r past) → members c ≡ r.desk.membership
+          asked : (c : Configuration) (past : List Entry) (runs : BothPartsMatchHistory c r past) → Gives c r.orderer
               → PartsFitEvent c (event_of c r past runs bytes) with_it.orderer (with_target entry r.desk) [] outs
           asked c past runs known =
               let due = one_ahead (desk_of c r.desk) counted entry unstable quorum (subst (λ (k : ℕ). k < entry.number) (sym (aimed_same r.desk.executed.state.number r.desk.transfer)) ahead) in
@@ -297,7 +297,7 @@ module _ (r : BothPartsData) (one : AreOne r.orderer r.desk) (s : ℕ) (entry : 
               record {
                 is = aims_desk c (event_of c r past runs bytes) with_it.orderer r.desk r.desk.waiting entry [] outs st.is;
                 fits = subst (λ (m : ℕ). FitsEvent c m (event_of c r past runs bytes) with_it.orderer (desk_of c (with_target entry r.desk)) r.desk.waiting [] outs) (sym one.0)
-                    (aims c (event_of c r past runs bytes) with_it.orderer r.desk r.desk.waiting entry [] outs [] (known ∙ one.1)
+                    (aims c (event_of c r past runs bytes) with_it.orderer r.desk r.desk.waiting entry [] outs [] known
                     (leb-true (2 * counted.faults + 1) (logs.count_checkpoints counted entry) quorum) over ahead says
                     (subst (λ (m : ℕ). FitsEvent c m (event_of c r past runs bytes) with_it.orderer (desk_of c r.desk) r.desk.waiting (Fetch entry.number levels.Root 0 ∷ []) []) one.0 st.fits));
               }

@@ -74,7 +74,7 @@ active_begins_none c o active off own = absurd (let bad : true ≡ false = sym a
 -- ---- no selection exists, or no key is left
 
 of_sizes : ℕ → ℕ → Configuration
-of_sizes faults period = record { faults = faults; clients = 1; seed = []; period = period; faulty_replicas = []; faulty_clients = [] }
+of_sizes faults period = record { faults = faults; clients = 1; seed = []; publics = []; period = period; faulty_replicas = []; faulty_clients = [] }
 
 -- the rules depend on the sizes alone
 meets_sized : (c : Configuration) (s : Sizes) (view start : ℕ) (root : List ℕ) (set : List (ℕ × ViewChangeData)) (batches : List (List ℕ)) → c.faults ≡ s.faults → c.period ≡ s.period
@@ -87,10 +87,10 @@ meets_sized c s view start root set batches faults period =
 pub none_selected : (r : BothPartsData) → AreOne r.orderer r.desk → IsOrderer r.orderer → HasNoSelection r.orderer → HasNoView r
 none_selected r one own none c known period off mine =
     inl (λ part start root batches is order each.
-    meets_sized c r.orderer.received.sizes r.orderer.target start root part batches faults (period ∙ sym one.2) ∙ none off mine part start root batches is order each)
+    meets_sized c r.orderer.received.sizes r.orderer.target start root part batches faults (period ∙ sym one.1) ∙ none off mine part start root batches is order each)
   where
     faults : c.faults ≡ r.orderer.received.sizes.faults
-    faults = ap (λ (m : Membership). m.faults) (known ∙ one.1) ∙ sym own.3
+    faults = ap (λ (m : Membership). m.faults) known ∙ sym own.3
 
 -- so no view begins, and nothing changes
 pub unselected : (r : BothPartsData) (outs : List Output) (o : Option Selection) → AreOne r.orderer r.desk → IsOrderer r.orderer → o ≡ None → IfNone o (HasNoSelection r.orderer) → MayBegin r outs due_work.Nothing r outs

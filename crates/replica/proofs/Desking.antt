@@ -14,7 +14,7 @@ use Rattle.events.specs.Outputs.{entry_of, IsSentAsMeant}
 use Rattle.execution.specs.declared.running.Ran.{Ran}
 use Rattle.execution.specs.Executed.{ExecutedData, IsAfter, told, told_of}
 use Rattle.ordering.specs.Log as logs
-use Rattle.protocol.specs.System.Configuration.{Configuration, members}
+use Rattle.protocol.specs.System.Configuration.{Configuration}
 use Rattle.protocol.specs.System.Trace.{Entry, Has}
 use Rattle.protocol.specs.System.Trace.Entry.{Executed, Sent}
 use Rattle.protocol.specs.Replica.State.{State, IsReplicatedState, Call, call_of, Ran as RanData, execute, kept_of, last_time, ran_in}
@@ -54,7 +54,7 @@ use Rattle.replica.proofs.Closing.{above_same, rests_above}
 -- If an event stands with the messages `due`, it stands with `rest` after these outputs, whatever the orderer.
 abbrev pub Pays : DeskData → List Message → List Output → List Message → List Output → Type 0
 Pays d due before rest after =
-    (c : Configuration) (s : Start) (o : OrdererData) → members c ≡ d.membership → PartsFitEvent c s o d due before
+    (c : Configuration) (s : Start) (o : OrdererData) → PartsFitEvent c s o d due before
     → PartsFitEvent c s o d rest after
 
 -- the reply to a request that ran
@@ -66,13 +66,13 @@ replies_for ran = map (λ r. reply_for (told r)) ran
 
 pub pays_one : (d : DeskData) (client : ClientId) (kept : Kept) (before after : List Output) → SendsReply d client kept before after → (rest : List Message)
     → Pays d (reply_of client.number kept ∷ rest) before rest after
-pays_one d client kept before after r rest c s o known st = record {
+pays_one d client kept before after r rest c s o st = record {
   is = st.is;
   fits = fits_on c d.me s o o (desk_of c d) d.waiting (reply ∷ rest) rest before after (Sent d.me r.sends_frame.bytes)
-      (emits_one c d.me before after r.output (Sent d.me r.sends_frame.bytes) r.given_is r.sends_frame.sends (r.sends_frame.meant c known))
-      (sent_beside c d.me reply ((256 + client.number) ∷ []) r.sends_frame.bytes (after_outputs s (given d.me before)) tt (r.sends_frame.is_outgoing c known))
-      (sent_keep c d.me (after_outputs s (given d.me before)) reply r.sends_frame.bytes (r.sends_frame.is_outgoing c known).says tt (λ signed. absurd cc)) (same_log o.log) refl refl refl refl st.fits
-      (replies_fit c d.me s (desk_of c d) o.log rest (given d.me before) client.number kept r.sends_frame.bytes (r.sends_frame.is_outgoing c known) st.fits.fits);
+      (emits_one c d.me before after r.output (Sent d.me r.sends_frame.bytes) r.given_is r.sends_frame.sends (r.sends_frame.meant c st.is.members_are))
+      (sent_beside c d.me reply ((256 + client.number) ∷ []) r.sends_frame.bytes (after_outputs s (given d.me before)) tt (r.sends_frame.is_outgoing c st.is.members_are))
+      (sent_keep c d.me (after_outputs s (given d.me before)) reply r.sends_frame.bytes (r.sends_frame.is_outgoing c st.is.members_are).says tt (λ signed. absurd cc)) (same_log o.log) refl refl refl refl st.fits
+      (replies_fit c d.me s (desk_of c d) o.log rest (given d.me before) client.number kept r.sends_frame.bytes (r.sends_frame.is_outgoing c st.is.members_are) st.fits.fits);
 }
   where
     reply : Message
@@ -80,9 +80,9 @@ pays_one d client kept before after r rest c s o known st = record {
 
 -- The desk sends each due reply, before all else that is due.
 pays_all : (d : DeskData) (ran : List Ran) (x y : List Output) → RepliesToAll d ran x y → (rest : List Message) → Pays d (replies_for ran ++ rest) x rest y
-pays_all d [] x y same rest c s o known st = subst (λ (outs : List Output). PartsFitEvent c s o d rest outs) (sym same) st
-pays_all d (r ∷ ran) x y (between, says, replies) rest c s o known st =
-    pays_all d ran between y replies rest c s o known (pays_one d r.client (told r).1 x between says (replies_for ran ++ rest) c s o known st)
+pays_all d [] x y same rest c s o st = subst (λ (outs : List Output). PartsFitEvent c s o d rest outs) (sym same) st
+pays_all d (r ∷ ran) x y (between, says, replies) rest c s o st =
+    pays_all d ran between y replies rest c s o (pays_one d r.client (told r).1 x between says (replies_for ran ++ rest) c s o st)
 
 -- The kept reply to the client goes again, if it has this timestamp, and nothing else is due.
 abbrev pub PaysAgain : DeskData → ClientId → Timestamp → List Output → List Output → Type 0
@@ -91,7 +91,7 @@ PaysAgain d client timestamp before after =
 
 pays_again : (d : DeskData) (client : ClientId) (t : ℕ) (kept : Kept) (x y : List Output) → kept_of d.executed.state client.number ≡ Some kept → kept.timestamp ≡ t → SendsReply d client kept x y
     → Pays d (again_for client.number t (kept_of d.executed.state client.number)) x [] y
-pays_again d client t kept x y has same r c s o known st = pays_one d client kept x y r [] c s o known (subst (λ (ms : List Message). PartsFitEvent c s o d ms x) due st)
+pays_again d client t kept x y has same r c s o st = pays_one d client kept x y r [] c s o (subst (λ (ms : List Message). PartsFitEvent c s o d ms x) due st)
   where
     due : again_for client.number t (kept_of d.executed.state client.number) ≡ reply_of client.number kept ∷ []
     due = rw (has, eq-eqb kept.timestamp t same) refl
@@ -217,14 +217,14 @@ run_stands d executed text ran output before after c s o own is_state clients fe
     run : Run c d text ran executed
     run = record { is = st.is; ex = ex; number = number; kept = all_kept c s o d before text executed.state own few number committed st; is_state = is_state; few = clients }
 
-runs_batch : (old new : DeskData) (text : List ℕ) (ran : List Ran) (before after : List Output) → RunsBatch old text before new ran after → (c : Configuration) (s : Start) (o : OrdererData) → members c ≡ old.membership
+runs_batch : (old new : DeskData) (text : List ℕ) (ran : List Ran) (before after : List Output) → RunsBatch old text before new ran after → (c : Configuration) (s : Start) (o : OrdererData)
     → logs.committed_batch o.log (suc old.executed.state.number) ≡ Some text → PartsFitEvent c s o old [] before → PartsFitEvent c s o new (replies_for ran ++ checkpoint_due c new.executed.state) after
-runs_batch old new text ran before after r c s o known committed st =
+runs_batch old new text ran before after r c s o committed st =
     subst (λ (d : DeskData). PartsFitEvent c s o d (replies_for ran ++ checkpoint_due c new.executed.state) after) (sym r.same)
     (run_stands old new.executed text ran r.output before after c s o r.held.is r.held.is_state (subst (λ (n : ℕ). n ≤ 256) (sym clients) r.held.clients) r.held.few (r.executes c clients) r.number r.entry_is r.given_is committed st)
   where
     clients : c.clients ≡ old.executed.clients
-    clients = ap (λ m. m.clients) known ∙ sym r.held.is.0
+    clients = ap (λ m. m.clients) st.is.members_are ∙ sym r.held.is.0
 
 -- What stood at the committed batch of the next number stands, with the checkpoint of the new state due.
 pub record RunsOn (old : DeskData) (text : List ℕ) (before : List Output) (new : DeskData) (after : List Output) : Type 0 where
@@ -232,7 +232,7 @@ pub record RunsOn (old : DeskData) (text : List ℕ) (before : List Output) (new
   pub me : new.me ≡ old.me
   pub waiting : new.waiting ≡ forgotten new.executed.state old.waiting
   pub number : new.executed.state.number ≡ suc old.executed.state.number
-  pub stands : (c : Configuration) (s : Start) (o : OrdererData) → members c ≡ old.membership
+  pub stands : (c : Configuration) (s : Start) (o : OrdererData)
       → logs.committed_batch o.log (suc old.executed.state.number) ≡ Some text → PartsFitEvent c s o old [] before
       → PartsFitEvent c s o new (checkpoint_due c new.executed.state) after
 
@@ -242,7 +242,7 @@ runs_on old new text before after r = record {
   me = ap (λ (d : DeskData). d.me) r.runs.same;
   waiting = ap (λ (d : DeskData). d.waiting) r.runs.same;
   number = r.runs.number;
-  stands = λ c s o known committed st.
-      pays_all new r.ran r.between after r.replies (checkpoint_due c new.executed.state) c s o (known ∙ sym (ap (λ (d : DeskData). d.membership) r.runs.same))
-      (runs_batch old new text r.ran before r.between r.runs c s o known committed st);
+  stands = λ c s o committed st.
+      pays_all new r.ran r.between after r.replies (checkpoint_due c new.executed.state) c s o
+      (runs_batch old new text r.ran before r.between r.runs c s o committed st);
 }

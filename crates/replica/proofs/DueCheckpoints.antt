@@ -8,7 +8,7 @@ use Rattle.events.specs.declared.output.Output.{Output}
 use Rattle.ordering.specs.Log as logs
 use Rattle.ordering.specs.Log.{LogData}
 use Rattle.ordering.specs.Keeping.{IsLog}
-use Rattle.protocol.specs.System.Configuration.{Configuration, is_number, members}
+use Rattle.protocol.specs.System.Configuration.{Configuration, is_number}
 use Rattle.protocol.specs.System.Trace.{Entry, Once, Has}
 use Rattle.protocol.specs.System.Trace.Entry.{Sent}
 use Rattle.protocol.specs.Replica.State.{State, root_of}
@@ -31,7 +31,7 @@ use Rattle.replica_histories.proofs.ChangesPassing.{pq_sets_are_above, outputs_p
 use Rattle.replica_histories.proofs.Giving.{checkpoints_fit, kept_are_above}
 use Rattle.pq_sets.specs.PqSetsView.{PqSetsData}
 use Rattle.orderer.specs.State.{OrdererData}
-use Rattle.replica.specs.State.{BothPartsData, AreOne}
+use Rattle.replica.specs.State.{BothPartsData, AreOne, Gives}
 use Rattle.desk.specs.State.{DeskData}
 use Rattle.desk.specs.Waiting.{WaitingData}
 use Rattle.orderer.specs.Fitting.{given, FitsWaiting, FitsEvent, changes_held}
@@ -113,7 +113,7 @@ same_checked log entry =
     either (λ (m : LogData). IsSameLog log m) (logs.with_checkpoint_of log log.me entry) entry (record { me = refl; faults = refl; span = refl; view = refl; active = refl; low = omega arith })
     (let s = same_cut (logs.with_checkpoint_of log log.me entry) entry.number in record { me = s.me; faults = s.faults; span = s.span; view = s.view; active = s.active; low = s.low })
 
-module _ (c : Configuration) (s : Start) (o : OrdererData) (desk : Desk) (w : WaitingData) (entry : CheckpointEntry) (pq_sets : PqSetsData) (before after : List Output) (known : members c ≡ o.endpoint.membership)
+module _ (c : Configuration) (s : Start) (o : OrdererData) (desk : Desk) (w : WaitingData) (entry : CheckpointEntry) (pq_sets : PqSetsData) (before after : List Output) (known : Gives c o)
     (says : Multicasts o (Checkpoint entry.number entry.digest) before after) (voted : IsVotedAll o.log) (f : FitsEvent c o.endpoint.me s o desk w (Checkpoint entry.number entry.digest ∷ []) before)
     (cuts : CutsPqSets o.log.low o.pq_sets o.pq_sets → CutsPqSets (checked_log o.log o.log.me entry).low o.pq_sets pq_sets) (here : entry.number ≡ desk.state.number) where
   abbrev me : ℕ
@@ -235,7 +235,7 @@ module _ (a : BothPartsData) (o : OrdererData) (n : BothPartsData) (entry : Chec
   abbrev noted : OrdererData
   noted = checking a.orderer entry n.orderer.pq_sets
 
-  due_stands : (c : Configuration) (s : Start) → members c ≡ a.desk.membership → IsVotedAll a.orderer.log
+  due_stands : (c : Configuration) (s : Start) → Gives c a.orderer → IsVotedAll a.orderer.log
       → PartsFitEvent c s a.orderer a.desk (checkpoint_due c a.desk.executed.state) x → PartsFitEvent c s n.orderer n.desk [] y
   due_stands c s known voted st =
       subst (λ (k : OrdererData). PartsFitEvent c s k n.desk [] y) (sym orderer_is)
@@ -250,7 +250,7 @@ module _ (a : BothPartsData) (o : OrdererData) (n : BothPartsData) (entry : Chec
         fits = subst (λ (xs : List Snapshot). FitsEvent c a.desk.me s noted (record (desk_of c a.desk) { snapshots = xs }) a.desk.waiting [] y)
             (snapshots_are (ap (λ (d : Desk). d.snapshots) above))
             (subst (λ (m : ℕ). FitsEvent c m s noted (desk_from noted.log.low (desk_of c a.desk)) a.desk.waiting [] y) (sym one.0)
-            (says_due c s a.orderer (desk_of c a.desk) a.desk.waiting entry n.orderer.pq_sets x y (known ∙ one.1) says.says voted
+            (says_due c s a.orderer (desk_of c a.desk) a.desk.waiting entry n.orderer.pq_sets x y known says.says voted
             (subst (λ (m : ℕ). FitsEvent c m s a.orderer (desk_of c a.desk) a.desk.waiting (Checkpoint entry.number entry.digest ∷ []) x) one.0 fits) pq_sets_are
             (ap (λ (e : CheckpointEntry). e.number) due.is)));
       }))

@@ -8,7 +8,7 @@ use Rattle.ordering.specs.Log.{LogData}
 use Rattle.ordering.specs.Keeping.{IsLog}
 use Rattle.ordering.proofs.Reading.{above_low}
 use Rattle.events.specs.declared.output.Output.{Output}
-use Rattle.protocol.specs.System.Configuration.{Configuration, members}
+use Rattle.protocol.specs.System.Configuration.{Configuration}
 use Rattle.protocol.specs.System.Trace.{Once}
 use Rattle.protocol.specs.Replica.Certificates.{taken}
 use Rattle.protocol.proofs.Words.Options.{some_injective}
@@ -20,7 +20,7 @@ use Rattle.replica_histories.specs.Views.{entered_log, start_due, with_batches}
 use Rattle.replica_histories.proofs.Batches.{stays, entered_log_active, entered_batch, entered_low}
 use Rattle.replica_histories.proofs.Cutting.{cut_same}
 use Rattle.desk.specs.declared.waiting.AssignedCall.{AssignedCall}
-use Rattle.replica.specs.State.{BothPartsData}
+use Rattle.replica.specs.State.{BothPartsData, Gives}
 use Rattle.orderer.specs.State.{OrdererData}
 use Rattle.desk.specs.State.{DeskData, OpenData}
 use Rattle.desk.specs.Waiting.{with_view}
@@ -198,7 +198,7 @@ module _ (new : NewViewData) (own : Option (List ℕ)) (r : BothPartsData) (befo
       (k.votes.voted i (subst (λ (x : OrdererData). ((new.start < i) × (i ≤ new.start + length new.batches)) ⊎ NoVoteIsDue x.log i) (sym from.orderer) (asks_there r.orderer.log new is small i)))
 
   -- What fits once the replica has entered the view, stands in the end.
-  module _ (c : Configuration) (s : Start) (known : members c ≡ r.orderer.endpoint.membership) (own_me : r.desk.me ≡ me) (is : IsDeskOf c r.desk)
+  module _ (c : Configuration) (s : Start) (known : Gives c r.orderer) (own_me : r.desk.me ≡ me) (is : IsDeskOf c r.desk)
       (once : Once (λ past e. taken c past e ≡ Some new) (after_outputs s (given me before)))
       (f : FitsEvent c me s the_orderer (desk_from the_low (desk_of c r.desk)) (with_view k.calls r.desk.waiting) (start_due (desk_of c r.desk) new) before) where
     with_due : (b : Bool) → nat_lt (target_number r.desk) new.start ≡ b

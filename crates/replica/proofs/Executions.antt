@@ -12,7 +12,7 @@ use Rattle.replica.specs.Going.{FitIsKept, ExecutesAll, ExecutesNextBatch, AllIs
 use Rattle.desk.specs.Desking.{RunsWhole}
 use Rattle.replica.specs.Checkpoints.{MulticastsDueCheckpoint}
 use Rattle.replica.proofs.Desking.{RunsOn, runs_on}
-use Rattle.replica.proofs.Parties.{same_party, parties_twice}
+use Rattle.replica.proofs.Parties.{gives_on, same_party, parties_twice}
 use Rattle.orderer.proofs.Voting.{within}
 
 -- ---- committed batches
@@ -72,7 +72,7 @@ pub executes_next : (a : BothPartsData) (d : DeskData) (n : BothPartsData) (text
 executes_next a d n text x y z whole h e =
     let r : RunsOn a.desk text x d y = runs_on a.desk d text x y whole in record {
       proceeds = λ voted c s known st.
-          e.stands c s (known ∙ sym r.membership) voted (r.stands c s a.orderer known h st);
+          e.stands c s known voted (r.stands c s a.orderer h st);
       party = record {
         orderer = e.party.orderer;
         me = e.party.me ∙ r.me;
@@ -121,7 +121,7 @@ low_known a b count party at inside (inl none) = let up = party.orderer.log.low 
 
 pub one_executed : (count : ℕ) (a b d : BothPartsData) (x y z : List Output) → ExecutesSoFar count a x b y → ExecutesNextBatch b y d z → ExecutesSoFar (count + 1) a x d z
 one_executed count a b d x y z f e = record {
-  proceeds = λ voted c s known st. e.proceeds (f.voted voted) c s (known ∙ sym f.party.membership) (f.proceeds voted c s known st);
+  proceeds = λ voted c s known st. e.proceeds (f.voted voted) c s (gives_on c a.orderer b.orderer f.party.orderer.endpoint known) (f.proceeds voted c s known st);
   party = parties_twice a b d f.party e.party;
   used = e.used ∙ f.used;
   waiting = let first = f.waiting in let then = e.waiting in omega (arith, first, then);

@@ -3,7 +3,7 @@ use Rattle.std.proofs.Common.{◌≡◌, inl, inr, List, [], Option, Some, None,
 use Rattle.events.specs.declared.output.Output.{Output}
 use Rattle.state_transfer.specs.declared.place.Place.{Place}
 use Rattle.state_transfer.specs.Transfer.{TransferData, asking}
-use Rattle.protocol.specs.System.Configuration.{Configuration, members}
+use Rattle.protocol.specs.System.Configuration.{Configuration}
 use Rattle.protocol.specs.System.Trace.{Entry}
 use Rattle.protocol.specs.Replica.State.{State, pages_of}
 use Rattle.protocol.specs.Replica.Transfers.{NoneAsked}
@@ -23,6 +23,7 @@ use Rattle.orderer.specs.Multicasting.{Multicasts}
 use Rattle.desk.specs.Transferring.{IsRestedAt, AsksPlace}
 use Rattle.desk.specs.DeskOf.{desk_of, RestsAt, IsDeskOf}
 use Rattle.orderer.proofs.Voting.{asks}
+use Rattle.replica.specs.State.{Gives}
 
 -- ---- what stays while the next part is sought
 
@@ -97,7 +98,7 @@ module _ (c : Configuration) (s : Start) (o : OrdererData) (d : DeskData) (w : W
       some_same a b e = some_injective a b e
 
   -- the next place is asked for
-  pub asks_next : (m : OpenData) (place : Place) (after : List Output) → members c ≡ o.endpoint.membership → AsksPlace d.executed.state n m (Some place) → Multicasts o (fetch_of m.transfer) outs after
+  pub asks_next : (m : OpenData) (place : Place) (after : List Output) → Gives c o → AsksPlace d.executed.state n m (Some place) → Multicasts o (fetch_of m.transfer) outs after
       → IsDeskOf c (with_transfer m d) × FitsEvent c o.endpoint.me s o (desk_of c (with_transfer m d)) w [] after
   asks_next m place after known (rested, rests, next, m_is, all) says =
       let at = ap (λ (x : OpenData). x.rests_at) m_is ∙ rested_at rested rests in

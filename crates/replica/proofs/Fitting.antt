@@ -1,15 +1,14 @@
 -- A new replica fits the empty history.
-use Rattle.std.proofs.Common.{◌≡◌, ℕ, ◌+◌, ◌*◌, ◌<◌, ◌≤◌, [], true, false, refl, sym, ap, arith}
+use Rattle.std.proofs.Common.{◌≡◌, ℕ, ◌+◌, ◌*◌, ◌<◌, ◌≤◌, [], true, false, refl, sym, subst, arith}
 use Rattle.std.proofs.lemmas.Option.{none-some}
 use Rattle.ordering.specs.Log.{new_log}
-use Rattle.protocol.specs.System.Configuration.{Configuration, span}
+use Rattle.protocol.specs.System.Configuration.{Configuration, members, span}
 use Rattle.protocol.specs.Replica.State.{opening}
 use Rattle.replica_histories.specs.Events as histories
 use Rattle.replica_histories.proofs.ChangesPassing.{changes_begin}
 use Rattle.replica_histories.specs.Histories.{first_desk}
 use Rattle.replica_histories.proofs.Starting.{first_hold}
-use Rattle.orderer.specs.State.{OrdererData}
-use Rattle.replica.specs.State.{BothPartsData}
+use Rattle.replica.specs.State.{BothPartsData, Gives}
 use Rattle.orderer.specs.Taking.{IsNewOrderer}
 use Rattle.desk.specs.Desking.{IsNewDesk}
 use Rattle.orderer.proofs.Flags.{flags_first}
@@ -23,9 +22,9 @@ module _ (c : Configuration) (me : ℕ) (some_faults : 1 ≤ c.faults) (most_fau
   first : histories.BothFitBetweenEvents c me first_desk (new_log me c.faults (span c)) []
   first = first_hold c me some_faults most_faults mine few
 
-  pub fits_new : (r : BothPartsData) → IsNewOrderer c me r.orderer → IsNewDesk c me r.desk → BothPartsFitHistory c r []
+  pub fits_new : (r : BothPartsData) → IsNewOrderer (members c me) c.period me r.orderer → IsNewDesk (members c me) c.period me r.desk → BothPartsFitHistory c r []
   fits_new r orders desks = record {
-    members_are = sym (ap (λ (o : OrdererData). o.endpoint.membership) orders.0);
+    members_are = subst (Gives c) (sym orders.0) refl;
     right = tt;
     runs = record {
       is_desk = rw desks (record {

@@ -6,7 +6,7 @@ use Rattle.wire_format.specs.Messages.{MessageData as Message, CheckpointEntryDa
 use Rattle.events.specs.declared.output.Output.{Output}
 use Rattle.ordering.specs.Log as logs
 use Rattle.state_transfer.specs.Transfer.{TransferData}
-use Rattle.protocol.specs.System.Configuration.{Configuration, members}
+use Rattle.protocol.specs.System.Configuration.{Configuration}
 use Rattle.protocol.specs.Replica.State.{State, pages_of}
 use Rattle.protocol.proofs.Words.Options.{some_injective}
 use Rattle.replica_histories.specs.Events.{Start, after_outputs}
@@ -21,6 +21,7 @@ use Rattle.desk.specs.Fetching.{target_number, with_target, fetch_of, targeted_t
 use Rattle.desk.specs.DeskOf.{desk_of, RestsAt, IsDeskOf}
 use Rattle.orderer.specs.Multicasting.{Multicasts}
 use Rattle.orderer.proofs.Voting.{asks_due}
+use Rattle.replica.specs.State.{Gives}
 
 -- ---- the open transfer
 
@@ -70,7 +71,7 @@ module _ (c : Configuration) (s : Start) (o : OrdererData) (d : DeskData) (w : W
       (subst (λ (n : ℕ). n < entry.number) (sym (aimed_same d.executed.state.number d.transfer)) ahead) f.fits)
 
   -- The due fetch is sent, and the transfer is open after it.
-  pub aims : (rest : List Message) → members c ≡ o.endpoint.membership → 2 * o.log.faults + 1 ≤ logs.count_checkpoints o.log entry → o.log.low < entry.number → target_number d < entry.number
+  pub aims : (rest : List Message) → Gives c o → 2 * o.log.faults + 1 ≤ logs.count_checkpoints o.log entry → o.log.low < entry.number → target_number d < entry.number
       → Multicasts o (Fetch entry.number levels.Root 0) before after → FitsEvent c o.endpoint.me s o (desk_of c d) w (Fetch entry.number levels.Root 0 ∷ rest) before
       → FitsEvent c o.endpoint.me s o (desk_of c (with_target entry d)) w rest after
   aims rest known enough over ahead says f =

@@ -4,8 +4,8 @@ use Rattle.std.proofs.lemmas.Bool.{eqb-false}
 use Rattle.events.specs.declared.output.Output.{Output}
 use Rattle.ordering.specs.Log.{LogData}
 use Rattle.orderer.specs.State.{OrdererData}
-use Rattle.replica.specs.State.{BothPartsData, AreOne}
-use Rattle.protocol.specs.System.Configuration.{Configuration, members}
+use Rattle.replica.specs.State.{BothPartsData, AreOne, Gives}
+use Rattle.protocol.specs.System.Configuration.{Configuration}
 use Rattle.replica_histories.specs.Events.{Start}
 use Rattle.replica.specs.Desks.{PartsFitEvent}
 use Rattle.replica.specs.Going.{FitIsKept, ExecutesAll, GoesOnWith}
@@ -14,6 +14,7 @@ use Rattle.desk.specs.DeskOf.{desk_of}
 use Rattle.orderer.specs.Fitting.{FitsEvent}
 use Rattle.orderer.specs.Going.{KeepsFitting, NoVoteIsDue, IsVotedBut, IsVotedAll}
 use Rattle.orderer.proofs.Parties.{orderers_twice}
+use Rattle.replica.proofs.Parties.{gives_on}
 use Rattle.replica.specs.Numbering.{AllAgain}
 
 -- what the orderer sends stands on the same desk
@@ -21,16 +22,16 @@ pub said_stands : (a : BothPartsData) (o : OrdererData) (x y : List Output) → 
 said_stands a o x y one goes c s known st = record {
   is = st.is;
   fits = subst (λ (m : ℕ). FitsEvent c m s o (desk_of c a.desk) a.desk.waiting [] y) (sym one.0)
-      (goes c s (desk_of c a.desk) a.desk.waiting [] (known ∙ one.1) (subst (λ (m : ℕ). FitsEvent c m s a.orderer (desk_of c a.desk) a.desk.waiting [] x) one.0 st.fits));
+      (goes c s (desk_of c a.desk) a.desk.waiting [] known (subst (λ (m : ℕ). FitsEvent c m s a.orderer (desk_of c a.desk) a.desk.waiting [] x) one.0 st.fits));
 }
 
 -- what the replica sends again, from the event's beginning on
-pub again_stands : (a : BothPartsData) (y : List Output) → AreOne a.orderer a.desk → GoesAgain 0 a.orderer [] a.orderer y → (c : Configuration) (s : Start) → members c ≡ a.desk.membership → PartsFitEvent c s a.orderer a.desk [] []
+pub again_stands : (a : BothPartsData) (y : List Output) → AreOne a.orderer a.desk → GoesAgain 0 a.orderer [] a.orderer y → (c : Configuration) (s : Start) → Gives c a.orderer → PartsFitEvent c s a.orderer a.desk [] []
     → PartsFitEvent c s a.orderer a.desk [] y
 again_stands a y one goes c s known st = record {
   is = st.is;
   fits = subst (λ (m : ℕ). FitsEvent c m s a.orderer (desk_of c a.desk) a.desk.waiting [] y) (sym one.0)
-      (goes c s (desk_of c a.desk) a.desk.waiting (known ∙ one.1) tt (subst (λ (m : ℕ). FitsEvent c m s a.orderer (desk_of c a.desk) a.desk.waiting [] []) one.0 st.fits));
+      (goes c s (desk_of c a.desk) a.desk.waiting known tt (subst (λ (m : ℕ). FitsEvent c m s a.orderer (desk_of c a.desk) a.desk.waiting [] []) one.0 st.fits));
 }
 
 -- if the log asks for votes of one number alone, and these are sent, it asks for none
@@ -44,7 +45,7 @@ all_voted number old new others here but i = go (i == number) refl
 pub goes_on_with : (number : ℕ) (a : BothPartsData) (o : OrdererData) (d : BothPartsData) (x y z : List Output) → AreOne a.orderer a.desk → MulticastsVotes number a.orderer x o y
     → ExecutesAll (record a { orderer = o }) y d z → GoesOnWith number a x d z
 goes_on_with number a o d x y z one v e = record {
-  proceeds = λ but c s known st. e.proceeds (voted but) c s known (said_stands a o x y one v.says.goes c s known st);
+  proceeds = λ but c s known st. e.proceeds (voted but) c s (gives_on c a.orderer o v.says.same.endpoint known) (said_stands a o x y one v.says.goes c s known st);
   party = record {
     orderer = orderers_twice a.orderer o d.orderer v.says.same e.party.orderer;
     me = e.party.me;

@@ -4,7 +4,7 @@ use Rattle.std.specs.Prelude.{option_and_then, not, ◌==◌, ◌&&◌, nat_lt}
 use Rattle.std.specs.Option.{option_map_or}
 use Rattle.quorum.specs.Votes.{or_else}
 use Rattle.wire_format.specs.Messages.{BodyData as Body, MessageData as Message, ViewChangeData, request as Request, reply as Reply}
-use Rattle.protocol.specs.System.Configuration.{Configuration, members}
+use Rattle.protocol.specs.System.Configuration.{Configuration, members, signers}
 use Rattle.wire_format.specs.Words.{said, carried}
 use Rattle.signing.specs.AuthenticBody.{authentic, signed_body}
 use Rattle.protocol.specs.System.Trace.{Entry, Once, Has, frames_in}
@@ -86,24 +86,24 @@ only_whole whole frame quiet (inr h) = absurd (go (said whole) quiet h)
 
 module _ (c : Configuration) (me p : ℕ) (bytes : List ℕ) where
   module _ (all : (body : Body) → said bytes ≡ Some body → OrdersNothing body.message) where
-    quiet : (body : Body) → authentic (members c) p bytes ≡ Some body → OrdersNothing body.message
+    quiet : (body : Body) → authentic (members c p) p bytes ≡ Some body → OrdersNothing body.message
     quiet body is = all body (heard_said c p bytes body is)
 
-    signed_quiet : (body : Body) → signed_body (members c) bytes ≡ Some body → OrdersNothing body.message
+    signed_quiet : (body : Body) → signed_body (signers c) bytes ≡ Some body → OrdersNothing body.message
     signed_quiet body is = all body (signed_said c bytes body is)
 
     no_signed : signed_change c bytes ≡ None
-    no_signed = nothing change_in (signed_body (members c) bytes) (λ body q. no_change_in c me body.sender body.message q) signed_quiet
+    no_signed = nothing change_in (signed_body (signers c) bytes) (λ body q. no_change_in c me body.sender body.message q) signed_quiet
 
     pub got_idle : BringsNothing c me (Got p bytes)
     got_idle = record {
-      view = nothing (new_view_from c) (authentic (members c) p bytes) (λ body q. no_view c me body.sender body.message q) quiet;
+      view = nothing (new_view_from c) (authentic (members c p) p bytes) (λ body q. no_view c me body.sender body.message q) quiet;
       change = refl;
-      checkpoint = nothing checkpoint_from (authentic (members c) p bytes) (λ body q. no_checkpoint c me body.sender body.message q) quiet;
+      checkpoint = nothing checkpoint_from (authentic (members c p) p bytes) (λ body q. no_checkpoint c me body.sender body.message q) quiet;
       installed = refl;
-      batch = λ v i. nothing (batch_from c me v i) (authentic (members c) p bytes) (λ body q. no_batch c me body.sender v i body.message q) quiet;
-      prepare = λ s v i. nothing (prepare_from c s v i) (authentic (members c) p bytes) (λ body q. no_prepare c me body.sender s v i body.message q) quiet;
-      commit = λ s v i. nothing (commit_from s v i) (authentic (members c) p bytes) (λ body q. no_commit c me body.sender s v i body.message q) quiet;
+      batch = λ v i. nothing (batch_from c me v i) (authentic (members c p) p bytes) (λ body q. no_batch c me body.sender v i body.message q) quiet;
+      prepare = λ s v i. nothing (prepare_from c s v i) (authentic (members c p) p bytes) (λ body q. no_prepare c me body.sender s v i body.message q) quiet;
+      commit = λ s v i. nothing (commit_from s v i) (authentic (members c p) p bytes) (λ body q. no_commit c me body.sender s v i body.message q) quiet;
       fetch = refl;
       asked = λ past. refl;
       latest = λ past s. ap (λ (o : Option (ℕ × ViewChangeData)). option_map_or (λ (x : ℕ × ViewChangeData). cond ((x.0 == s) && nat_lt (view c past) x.1.view && is_within c x.1) x.1.view 0) o 0) no_signed;

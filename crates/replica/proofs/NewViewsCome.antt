@@ -38,7 +38,7 @@ use Rattle.replica_histories.proofs.Questions.{others_owe_none}
 use Rattle.replica_histories.proofs.ChangesMade.{not_mine}
 use Rattle.replica.specs.declared.taking.DueWork.TheVariants as due_work
 use Rattle.orderer.specs.State.{IsOrderer}
-use Rattle.replica.specs.State.{BothPartsData, AreOne}
+use Rattle.replica.specs.State.{BothPartsData, AreOne, Gives, heard}
 use Rattle.orderer.specs.Fitting.{FitsEvent}
 use Rattle.replica.specs.Desks.{PartsFitEvent}
 use Rattle.replica.specs.Entering.{event_of, IsTakenAnswered, TakesBytes, TakesMessage}
@@ -63,7 +63,7 @@ right_views_are_small judge r v t sender new h =
     (start_small (judging_configuration r) new selected, omega (arith, few, short))
 
 -- the replica takes exactly the received new views that it does not refuse
-module _ (judge : NewViewsAreJudged) (c : Configuration) (me sender : ℕ) (past : List Entry) (new : NewViewData) (bytes : List ℕ) (receives : authentic (members c) me bytes ≡ Some (record { sender = sender; message = NewView new })) where
+module _ (judge : NewViewsAreJudged) (c : Configuration) (me sender : ℕ) (past : List Entry) (new : NewViewData) (bytes : List ℕ) (receives : authentic (members c me) me bytes ≡ Some (record { sender = sender; message = NewView new })) where
   abbrev Later : NewViewData → Bool
   Later x = is_later (view c past) (target past) x
 
@@ -86,7 +86,7 @@ module _ (judge : NewViewsAreJudged) (c : Configuration) (me sender : ℕ) (past
 -- ---- it arrives
 
 module _ (judge : NewViewsAreJudged) (decide : SizesDecide) (r : BothPartsData) (one : AreOne r.orderer r.desk) (own : IsOrderer r.orderer) (sender : ℕ) (new : NewViewData) (bytes : List ℕ)
-    (h : authentic r.desk.membership r.desk.me bytes ≡ Some (record { sender = sender; message = NewView new })) where
+    (h : heard r.orderer bytes ≡ Some (record { sender = sender; message = NewView new })) where
   abbrev me : ℕ
   me = r.orderer.endpoint.me
 
@@ -96,11 +96,11 @@ module _ (judge : NewViewsAreJudged) (decide : SizesDecide) (r : BothPartsData) 
   abbrev e : Entry
   e = Got me bytes
 
-  receives : (c : Configuration) → members c ≡ r.desk.membership → authentic (members c) me bytes ≡ Some body
+  receives : (c : Configuration) → Gives c r.orderer → authentic (members c me) me bytes ≡ Some body
   receives c known = heard_by r one c bytes body known h
 
   -- it is judged as the history's configuration judges it
-  judged : (c : Configuration) (past : List Entry) → BothPartsMatchHistory c r past → members c ≡ r.desk.membership
+  judged : (c : Configuration) (past : List Entry) → BothPartsMatchHistory c r past → Gives c r.orderer
       → new_view_refusal c (view c past) (target past) sender new ≡ new_view_refusal (judging_configuration r.orderer.received) r.orderer.log.view r.orderer.target sender new
   judged c past runs known =
       ap (λ (v : ℕ). new_view_refusal c v (target past) sender new) runs.holds.of_log.fits.view
@@ -109,18 +109,18 @@ module _ (judge : NewViewsAreJudged) (decide : SizesDecide) (r : BothPartsData) 
     where
       alike : AreAlikeConfigurations c (judging_configuration r.orderer.received)
       alike = record {
-        seed = ap (λ (m : Membership). m.seed) (known ∙ one.1) ∙ sym own.2;
-        faults = ap (λ (m : Membership). m.faults) (known ∙ one.1) ∙ sym own.3;
-        period = runs.is_desk.period_is ∙ sym one.2;
+        publics = ap (λ (m : Membership). m.publics) known ∙ sym own.2;
+        faults = ap (λ (m : Membership). m.faults) known ∙ sym own.3;
+        period = runs.is_desk.period_is ∙ sym one.1;
       }
 
   -- it asks for no part of a state
-  asks_no_part : (c : Configuration) → members c ≡ r.desk.membership → has_question (authentic (members c) me bytes) ≡ false
+  asks_no_part : (c : Configuration) → Gives c r.orderer → has_question (authentic (members c me) me bytes) ≡ false
   asks_no_part c known = ap has_question (receives c known)
 
   -- ---- the replica refuses it
 
-  module _ (c : Configuration) (past : List Entry) (runs : BothPartsMatchHistory c r past) (known : members c ≡ r.desk.membership) (free : taken c past e ≡ None) where
+  module _ (c : Configuration) (past : List Entry) (runs : BothPartsMatchHistory c r past) (known : Gives c r.orderer) (free : taken c past e ≡ None) where
     enters : histories.BothFitWithinEvent c me (event_of c r past runs bytes) (desk_of c r.desk) r.orderer.log [] []
     enters = inputs_fit c me (desk_of c r.desk) (desk_of c r.desk) r.orderer.log r.orderer.log [] past bytes runs.holds free (record {
       takes = others_drop c me r.orderer.log past bytes runs.holds.of_log.fits (subst IsBesideLog (sym (receives c known)) tt);
@@ -163,7 +163,7 @@ module _ (judge : NewViewsAreJudged) (decide : SizesDecide) (r : BothPartsData) 
   -- ---- the replica takes it
 
   module _ (clients : r.desk.executed.clients ≡ r.desk.membership.clients) (n : BothPartsData) (outs : List Output) (x : Entered new None r [] n outs) (c : Configuration) (past : List Entry) (runs : BothPartsMatchHistory c r past)
-      (known : members c ≡ r.desk.membership) (t : taken c past e ≡ Some new) where
+      (known : Gives c r.orderer) (t : taken c past e ≡ Some new) where
     begins_it : histories.BothFitWithinEvent c me (event_of c r past runs bytes) (desk_from (entered_log r.orderer.log new).low (desk_of c r.desk)) (entered_log r.orderer.log new) (start_due (desk_of c r.desk) new) []
     begins_it = new_views_enter c me (desk_of c r.desk) r.orderer.log past sender new bytes runs.holds (receives c known) t
 
@@ -171,7 +171,7 @@ module _ (judge : NewViewsAreJudged) (decide : SizesDecide) (r : BothPartsData) 
     passes = inputs_enter c me (desk_of c r.desk) (desk_from (entered_log r.orderer.log new).low (desk_of c r.desk)) r.orderer.log (entered_log r.orderer.log new) (start_due (desk_of c r.desk) new) past e runs.holds begins_it
 
     taken_stands : PartsFitEvent c (event_of c r past runs bytes) n.orderer n.desk [] outs
-    taken_stands = entered_stands c (event_of c r past runs bytes) r new None [] past e sender one clients runs.is_desk refl tt begins_it passes t (receives c known) (not_mine c me past sender new bytes (receives c known) t) (omega arith, λ sent leaf is now. absurd now, λ leaf l. inl l) runs.said runs.changes n outs x
+    taken_stands = entered_stands c (event_of c r past runs bytes) r new None [] past e sender one clients runs.is_desk known refl tt begins_it passes t (receives c known) (not_mine c me past sender new bytes (receives c known) t) (omega arith, λ sent leaf is now. absurd now, λ leaf l. inl l) runs.said runs.changes n outs x
 
     taken_answered : IsTakenAnswered c n (event_of c r past runs bytes)
     taken_answered =
@@ -189,7 +189,7 @@ module _ (judge : NewViewsAreJudged) (decide : SizesDecide) (r : BothPartsData) 
         let t = right_taken judge c me sender past new bytes (receives c known) (judged c past runs known ∙ right) in (
           taken_stands clients n outs x c past runs known t,
           (
-            entered_votes c (event_of c r past runs bytes) r new None [] past e sender one clients runs.is_desk refl tt (begins_it clients n outs x c past runs known t) (passes clients n outs x c past runs known t) t (receives c known) (not_mine c me past sender new bytes (receives c known) t)
+            entered_votes c (event_of c r past runs bytes) r new None [] past e sender one clients runs.is_desk known refl tt (begins_it clients n outs x c past runs known t) (passes clients n outs x c past runs known t) t (receives c known) (not_mine c me past sender new bytes (receives c known) t)
                 (omega arith, λ sent leaf is now. absurd now, λ leaf l. inl l) runs.said runs.changes n outs x,
             taken_answered clients n outs x c past runs known t,
           ),

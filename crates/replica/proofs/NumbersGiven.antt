@@ -8,7 +8,7 @@ use Rattle.wire_format.proofs.Telling.{reads_requests}
 use Rattle.events.specs.declared.output.Output.{Output}
 use Rattle.ordering.specs.Log as logs
 use Rattle.ordering.specs.Log.{LogData}
-use Rattle.protocol.specs.System.Configuration.{Configuration, members}
+use Rattle.protocol.specs.System.Configuration.{Configuration}
 use Rattle.protocol.specs.System.Trace.{Entry, Has, either}
 use Rattle.protocol.specs.Replica.Certificates.{low, is_in_marks}
 use Rattle.protocol.specs.Replica.State.{Call, call_of}
@@ -26,7 +26,7 @@ use Rattle.replica_histories.proofs.Words.{marks_are}
 use Rattle.replica_histories.proofs.Numbers.{next_is_free}
 use Rattle.replica_histories.proofs.NumbersLists.{each_unmapped, has_taken, pairs_kept, pairs_mapped, pairs_unmapped, pairs_front, IsAt, Spells, spelled_at, Differ, frames_differ}
 use Rattle.desk.specs.declared.waiting.WaitingRequest.{WaitingRequest}
-use Rattle.replica.specs.State.{BothPartsData, AreOne}
+use Rattle.replica.specs.State.{BothPartsData, AreOne, Gives}
 use Rattle.desk.specs.State.{DeskData}
 use Rattle.desk.specs.Waiting.{WaitingData, texts, frames_waiting, all_unnumbered, unnumbered, count_unnumbered, all_numbered, with_numbered}
 use Rattle.orderer.specs.Flags.{FitsFlags, flagged}
@@ -41,7 +41,7 @@ use Rattle.orderer.specs.Numbering.{next_number}
 use Rattle.replica.specs.NumbersNext.{NumbersNext, AssignsNumber, NumbersWaitingRequests}
 use Rattle.desk.proofs.WaitingKept.{few_unnumbered}
 use Rattle.orderer.proofs.Flags.{oldest_spelled}
-use Rattle.replica.proofs.Parties.{same_party, parties_twice}
+use Rattle.replica.proofs.Parties.{gives_on, same_party, parties_twice}
 use Rattle.orderer.proofs.Parties.{orderers_twice}
 use Rattle.orderer.proofs.Voting.{none_elsewhere}
 
@@ -181,7 +181,7 @@ module _ (number : ℕ) (a b : BothPartsData) (x y : List Output) (one : AreOne 
       let few = few_unnumbered w in
       reads_requests (texts (unnumbered w)) (omega (arith, same, few)) n.carried
 
-  module _ (c : Configuration) (s : Start) (known : members c ≡ a.desk.membership) (st : PartsFitEvent c s a.orderer a.desk [] x) where
+  module _ (c : Configuration) (s : Start) (known : Gives c a.orderer) (st : PartsFitEvent c s a.orderer a.desk [] x) where
     abbrev me : ℕ
     me = a.orderer.endpoint.me
 
@@ -211,7 +211,7 @@ module _ (number : ℕ) (a b : BothPartsData) (x y : List Output) (one : AreOne 
         subst (λ (k : Desk). FitsEvent c me s b.orderer k more [] y)
         (sym (ap (λ (xs : List Call). record (desk_of c later) { waiting = xs }) (same_numbered (waiting_call c) (λ r. refl) (length (unnumbered w)) w.requests)
         ∙ ap (λ (xs : List (List ℕ)). record (desk_of c a.desk) { frames = xs }) (same_numbered (λ (r : WaitingRequest). r.frame.items) (λ r. refl) (length (unnumbered w)) w.requests)))
-        (n.says.goes c s (desk_of c a.desk) w [] (known ∙ one.1) st.is.calls reads
+        (n.says.goes c s (desk_of c a.desk) w [] known st.is.calls reads
         (may_number c me number a.orderer.used a.orderer.log text w (desk_of c a.desk) past inside active primary free reads refl st.is.calls fits.fits.of_log (fits.numbers primary)) fits)
 
     next_stands : PartsFitEvent c s b.orderer b.desk [] y
@@ -248,7 +248,7 @@ module _ (number : ℕ) (a b : BothPartsData) (x y : List Output) (one : AreOne 
   pub gives_number : (d : BothPartsData) (z : List Output) → GoesOnWith number b y d z → AssignsNumber a x d z
   gives_number d z e = record {
     proceeds = λ rest c s known st.
-        e.proceeds (voted_but rest.0) c s (known ∙ sym (ap (λ (k : DeskData). k.membership) n.waits)) (next_stands c s known st);
+        e.proceeds (voted_but rest.0) c s (gives_on c a.orderer b.orderer same_orderer.endpoint known) (next_stands c s known st);
     party = record {
       orderer = orderers_twice a.orderer b.orderer d.orderer same_orderer e.party.orderer;
       me = e.party.me ∙ ap (λ (k : DeskData). k.me) n.waits;
@@ -274,7 +274,7 @@ none_given a x = record { proceeds = λ rest c s known st. st; party = same_part
 
 pub one_given : (count : ℕ) (a b d : BothPartsData) (x y z : List Output) → NumbersSoFar count a x b y → AssignsNumber b y d z → NumbersSoFar (count + 1) a x d z
 one_given count a b d x y z f g = record {
-  proceeds = λ rest c s known st. g.proceeds (f.rests rest) c s (known ∙ sym f.party.membership) (f.proceeds rest c s known st);
+  proceeds = λ rest c s known st. g.proceeds (f.rests rest) c s (gives_on c a.orderer b.orderer f.party.orderer.endpoint known) (f.proceeds rest c s known st);
   party = parties_twice a b d f.party g.party;
   rises = (let first = f.rises in let then = g.rises in omega (arith, first, then));
   rests = λ r. g.rests (f.rests r);

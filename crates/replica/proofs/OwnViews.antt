@@ -13,7 +13,7 @@ use Rattle.wire_format.specs.Words.{requests_of, requests_of_all, carried}
 use Rattle.wire_format.proofs.Telling.{reads_requests}
 use Rattle.ordering.specs.Keeping.{IsLog}
 use Rattle.events.specs.declared.output.Output.{Output}
-use Rattle.protocol.specs.System.Configuration.{Configuration, members, primary, span}
+use Rattle.protocol.specs.System.Configuration.{Configuration, primary, span}
 use Rattle.protocol.specs.System.Frames.{IsOutgoing}
 use Rattle.protocol.specs.System.Trace.{Entry, Once, Has}
 use Rattle.protocol.specs.System.Trace.Entry.{Sent}
@@ -43,7 +43,7 @@ use Rattle.replica_histories.proofs.NumbersAssigned.{logs_are_of_no_later_view}
 use Rattle.replica_histories.proofs.Seeing.{logged_are_seen}
 use Rattle.replica_histories.proofs.Words.{primary_same}
 use Rattle.orderer.specs.State.{OrdererData, IsOrderer}
-use Rattle.replica.specs.State.{BothPartsData, AreOne}
+use Rattle.replica.specs.State.{BothPartsData, AreOne, Gives}
 use Rattle.desk.specs.Waiting.{with_view}
 use Rattle.desk.specs.DeskOf.{desk_of, IsDeskOf}
 use Rattle.replica.specs.Beginning.{BeginsView}
@@ -111,13 +111,13 @@ module _ (decide : SizesDecide) (o : OrdererData) (start : ℕ) (root frame : Li
   abbrev me : ℕ
   me = o.endpoint.me
 
-  module _ (c : Configuration) (past : List Entry) (known : members c ≡ o.endpoint.membership) (period : c.period ≡ o.received.sizes.period)
+  module _ (c : Configuration) (past : List Entry) (known : Gives c o) (period : c.period ≡ o.received.sizes.period)
       (faults : o.log.faults ≡ c.faults) (is_me : o.log.me ≡ me) (is_view : view c past ≡ o.log.view) (is_active : nat_le (target past) o.log.view ≡ o.log.active) (is_target : target past ≡ o.target) where
     pub is_outgoing : IsOutgoing c me (NewView new) [] frame
-    is_outgoing = signs.signed c known
+    is_outgoing = signs.signed c (ap (λ m. m.publics) known)
 
     alike : AreAlikeConfigurations c (judging_configuration o.received)
-    alike = record { seed = ap (λ m. m.seed) known ∙ sym own.2; faults = ap (λ m. m.faults) known ∙ sym own.3; period = period }
+    alike = record { publics = ap (λ m. m.publics) known ∙ sym own.2; faults = ap (λ m. m.faults) known ∙ sym own.3; period = period }
 
     right : may_select c new ≡ true
     right = (decide c (judging_configuration o.received) alike).selected new ∙ signs.right
@@ -179,7 +179,7 @@ module _ (decide : SizesDecide) (r : BothPartsData) (start : ℕ) (root frame : 
   abbrev low : ℕ
   low = (entered_log o.log its).low
 
-  module _ (c : Configuration) (s : Start) (known : members c ≡ r.desk.membership) (rests : NothingIsLeft r) (is : IsDeskOf c r.desk) (f : FitsEvent c mine s o (desk_of c r.desk) r.desk.waiting [] before) where
+  module _ (c : Configuration) (s : Start) (known : Gives c r.orderer) (rests : NothingIsLeft r) (is : IsDeskOf c r.desk) (f : FitsEvent c mine s o (desk_of c r.desk) r.desk.waiting [] before) where
     abbrev desk : Desk
     desk = desk_of c r.desk
 
@@ -189,23 +189,20 @@ module _ (decide : SizesDecide) (r : BothPartsData) (start : ℕ) (root frame : 
     abbrev e : Entry
     e = Sent mine frame
 
-    to : members c ≡ o.endpoint.membership
-    to = known ∙ one.1
-
     period : c.period ≡ o.received.sizes.period
-    period = is.period_is ∙ sym one.2
+    period = is.period_is ∙ sym one.1
 
     signed : IsOutgoing c mine (NewView its) [] frame
-    signed = is_outgoing decide o start root frame texts own sel signs c past to period f.fits.of_log.faults own.0 f.fits.of_log.view f.fits.of_log.active f.changes.target
+    signed = is_outgoing decide o start root frame texts own sel signs c past known period f.fits.of_log.faults own.0 f.fits.of_log.view f.fits.of_log.active f.changes.target
 
     leads : primary c its.view ≡ mine
-    leads = is_primary decide o start root frame texts own sel signs c past to period f.fits.of_log.faults own.0 f.fits.of_log.view f.fits.of_log.active f.changes.target
+    leads = is_primary decide o start root frame texts own sel signs c past known period f.fits.of_log.faults own.0 f.fits.of_log.view f.fits.of_log.active f.changes.target
 
     takes : taken c past e ≡ Some its
-    takes = is_taken decide o start root frame texts own sel signs c past to period f.fits.of_log.faults own.0 f.fits.of_log.view f.fits.of_log.active f.changes.target
+    takes = is_taken decide o start root frame texts own sel signs c past known period f.fits.of_log.faults own.0 f.fits.of_log.view f.fits.of_log.active f.changes.target
 
     seen : Each (λ bytes. Once (HasSeen bytes) past) (carried (NewView its))
-    seen = is_seen decide o start root frame texts own sel signs c past to period f.fits.of_log.faults own.0 f.fits.of_log.view f.fits.of_log.active f.changes.target f.changes
+    seen = is_seen decide o start root frame texts own sel signs c past known period f.fits.of_log.faults own.0 f.fits.of_log.view f.fits.of_log.active f.changes.target f.changes
 
     on : events.BothFitWithinEvent c mine s (desk_from low desk) (entered_log o.log its) (start_due desk its) (e ∷ given mine before)
     on =
@@ -222,10 +219,10 @@ module _ (decide : SizesDecide) (r : BothPartsData) (start : ℕ) (root frame : 
     numbers own =
         subst (λ (v : ℕ). FitsFlags c mine v assigned.used (with_view k.calls r.desk.waiting) desk.state desk.waiting (e ∷ past)) (sym (entered_view o.log its is_log small))
         (flags_assigned c mine r.desk.waiting k.calls desk.state past e its is.differ takes (logs_are_of_no_later_view c mine o.log past f.fits.of_log)
-        (k.are c (ap (λ m. m.clients) known ∙ sym clients)))
+        (k.are c (ap (λ m. m.clients) is.members_are ∙ sym clients)))
 
     gives : EmitsOne c mine before said e
-    gives = emits_one c mine before said says.output e says.given_is says.sends.sends (says.sends.meant c (NewView its) to signed)
+    gives = emits_one c mine before said says.output e says.given_is says.sends.sends (says.sends.meant c (NewView its) known signed)
 
     fits : FitsEvent c mine s assigned (desk_from low desk) (with_view k.calls r.desk.waiting) (start_due desk its) said
     fits =
@@ -235,7 +232,7 @@ module _ (decide : SizesDecide) (r : BothPartsData) (start : ℕ) (root frame : 
     once = subst (λ (es : List Entry). Once (λ earlier x. taken c earlier x ≡ Some its) (after_outputs s es)) (sym gives.is) (inl takes)
 
     stands : PartsFitEvent c s n.orderer n.desk [] after
-    stands = entered_log_stands its (Some frame) (signing r) said n after k c s to one.0 is once fits
+    stands = entered_log_stands its (Some frame) (signing r) said n after k c s known one.0 is once fits
 
   pub own_view_begins : BeginsView r before n after
   own_view_begins = record {

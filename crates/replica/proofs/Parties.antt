@@ -1,6 +1,9 @@
 -- The party of a replica, from one step to the next.
-use Rattle.std.proofs.Common.{refl, ◌∙◌}
-use Rattle.replica.specs.State.{BothPartsData}
+use Rattle.std.proofs.Common.{◌≡◌, refl, sym, ◌∙◌, subst}
+use Rattle.frame_endpoint.specs.Endpoint.{EndpointState}
+use Rattle.protocol.specs.System.Configuration.{Configuration, members}
+use Rattle.orderer.specs.State.{OrdererData}
+use Rattle.replica.specs.State.{BothPartsData, Gives}
 use Rattle.replica.specs.Going.{IsSameParty, IsOneParty}
 use Rattle.orderer.proofs.Parties.{same_orderer, orderers_twice}
 
@@ -13,6 +16,10 @@ parties_twice a b d first then = record {
   me = then.me ∙ first.me;
   membership = then.membership ∙ first.membership;
 }
+
+-- What a configuration gives a replica, it gives the same replica later.
+pub gives_on : (c : Configuration) (a b : OrdererData) → b.endpoint ≡ a.endpoint → Gives c a → Gives c b
+gives_on c a b same known = subst (λ (e : EndpointState). members c e.me ≡ e.membership) (sym same) known
 
 -- ---- whatever its view
 

@@ -32,7 +32,7 @@ use Rattle.replica_histories.proofs.Transfers.{digests_keep, digests_open}
 use Rattle.replica_histories.proofs.TransfersInstalling.{digests_rest, pages_rest}
 use Rattle.desk.specs.declared.transfer.Taken.{Taken}
 use Rattle.replica.specs.declared.taking.DueWork.TheVariants as due_work
-use Rattle.replica.specs.State.{BothPartsData, AreOne}
+use Rattle.replica.specs.State.{BothPartsData, AreOne, Gives, heard}
 use Rattle.desk.specs.State.{DeskData, OpenData}
 use Rattle.orderer.specs.Fitting.{given, FitsEvent}
 use Rattle.replica.specs.Entering.{event_of, TakesBytes}
@@ -42,8 +42,8 @@ use Rattle.replica.specs.BothParts.{BothPartsMatchHistory, me_of}
 use Rattle.orderer.specs.Multicasting.{Multicasts}
 use Rattle.desk.specs.Transferring.{TakesDigestsOf, TakesPageOf, AsksPlace}
 use Rattle.desk.specs.DeskOf.{desk_of, RestsAt, IsDeskOf}
-use Rattle.replica.proofs.Beginning.{rests}
-use Rattle.replica.proofs.Beside.{IsBeside, changes_beside, heard_so, drops_beside, takes_none}
+use Rattle.replica.proofs.Beginning.{heard_by, rests}
+use Rattle.replica.proofs.Beside.{IsBeside, changes_beside, drops_beside, takes_none}
 use Rattle.replica.proofs.Fetched.{asked_number, asks_next}
 use Rattle.orderer.proofs.Staying.{numbers_beside, said_on}
 use Rattle.orderer.proofs.Voting.{said_in}
@@ -77,7 +77,7 @@ pub record Comes (c : Configuration) (r : BothPartsData) (past : List Entry) (ru
   pub is_open : (desk_of c r.desk).transfer ≡ Some was
   pub number : n.transfer.number ≡ was.number
   pub body : Body
-  pub heard_is : authentic (members c) (me_of r) bytes ≡ Some body
+  pub heard_is : authentic (members c (me_of r)) (me_of r) bytes ≡ Some body
   pub part : is_part body ≡ true
 
 -- after the bytes it is open
@@ -85,7 +85,7 @@ abbrev pub IsOpen : (c : Configuration) (r : BothPartsData) (past : List Entry) 
 IsOpen c r past runs bytes n = FitsStateTransfer c (me_of r) (Some n.transfer) r.desk.executed.state.number (Got (me_of r) bytes ∷ past)
 
 module _ (r : BothPartsData) (one : AreOne r.orderer r.desk) (bytes : List ℕ) (sender : ℕ) (o n : OpenData) (there : r.desk.transfer ≡ Some o) (c : Configuration) (past : List Entry)
-    (runs : BothPartsMatchHistory c r past) (known : members c ≡ r.desk.membership) where
+    (runs : BothPartsMatchHistory c r past) (known : Gives c r.orderer) where
   abbrev me : ℕ
   me = me_of r
 
@@ -93,9 +93,12 @@ module _ (r : BothPartsData) (one : AreOne r.orderer r.desk) (bytes : List ℕ) 
   open_there = ap (option_map (λ (x : OpenData). x.transfer)) there
 
   -- the event that begins with a received part, from which the transfer has this
-  module _ (message : Message) (t : TransferData) (n_is : n ≡ record o { transfer = t }) (receives : authentic r.desk.membership r.desk.me bytes ≡ Some (record { sender = sender; message = message })) where
+  module _ (message : Message) (t : TransferData) (n_is : n ≡ record o { transfer = t }) (receives : heard r.orderer bytes ≡ Some (record { sender = sender; message = message })) where
     abbrev body : Body
     body = record { sender = sender; message = message }
+
+    receives_in : authentic (members c me) me bytes ≡ Some body
+    receives_in = heard_by r one c bytes body known receives
 
     comes : is_part body ≡ true → t.number ≡ o.transfer.number → new_view_from c body ≡ None → IsNoChange (Some body) → (RestsOnState o.transfer r.desk.executed.state → RestsOnState t r.desk.executed.state) → Counts c me past runs.holds.of_desk.point bytes sender message
         → (open_one : Option TransferData) → histories.BothFitWithinEvent c me (event_of c r past runs bytes) (record (desk_of c r.desk) { transfer = open_one }) r.orderer.log [] []
@@ -114,22 +117,22 @@ module _ (r : BothPartsData) (one : AreOne r.orderer r.desk) (bytes : List ℕ) 
       fits = record {
         fits = fits;
         numbers = numbers_beside c me r.desk.waiting r.orderer (desk_of c r.desk) past (Got me bytes) runs.holds.of_log.fits.faults runs.holds.of_log.fits.own
-            (record { here = refl; none = takes_none r one c past runs bytes body known receives views; sends = refl }) runs.numbers;
+            (record { here = refl; none = takes_none r one c past runs bytes body receives_in views; sends = refl }) runs.numbers;
         said = said_on me r.orderer.last_checkpoint past (Got me bytes) runs.said;
-        changes = changes_beside r one c past runs bytes body known receives (record (desk_of c r.desk) { transfer = open_one }) [] views changes fits;
+        changes = changes_beside r one c past runs bytes body receives_in (record (desk_of c r.desk) { transfer = open_one }) [] views changes fits;
         meant = tt;
       };
-      taken = (body, heard_so r one c past runs bytes body known receives, counts);
+      taken = (body, receives_in, counts);
       was = o.transfer;
       is_open = open_there;
       number = number;
       body = body;
-      heard_is = heard_so r one c past runs bytes body known receives;
+      heard_is = receives_in;
       part = part;
     })
 
   -- digests are taken
-  module _ (meta : Meta) (receives : authentic r.desk.membership r.desk.me bytes ≡ Some (record { sender = sender; message = MetaMessage meta.number.0 meta.level meta.index meta.digests.items }))
+  module _ (meta : Meta) (receives : heard r.orderer bytes ≡ Some (record { sender = sender; message = MetaMessage meta.number.0 meta.level meta.index meta.digests.items }))
       (takes : TakesDigestsOf o meta n true) where
     abbrev place : Place
     place = record { level = meta.level; index = meta.index }
@@ -143,11 +146,11 @@ module _ (r : BothPartsData) (one : AreOne r.orderer r.desk) (bytes : List ℕ) 
     wants : wanted o.transfer place ≡ Some (digest_of_children meta.digests.items)
     wants = subst (λ (p : Place). wanted o.transfer p ≡ Some (digest_of_children meta.digests.items)) takes.1 takes.2
 
-    heard_told : authentic r.desk.membership r.desk.me bytes ≡ Some (record { sender = sender; message = told })
-    heard_told = subst (λ (k : ℕ). authentic r.desk.membership r.desk.me bytes ≡ Some (record { sender = sender; message = MetaMessage k meta.level meta.index meta.digests.items })) takes.0 receives
+    heard_told : heard r.orderer bytes ≡ Some (record { sender = sender; message = told })
+    heard_told = subst (λ (k : ℕ). heard r.orderer bytes ≡ Some (record { sender = sender; message = MetaMessage k meta.level meta.index meta.digests.items })) takes.0 receives
 
-    heard_here : authentic (members c) me bytes ≡ Some (record { sender = sender; message = told })
-    heard_here = heard_so r one c past runs bytes (record { sender = sender; message = told }) known heard_told
+    heard_here : authentic (members c me) me bytes ≡ Some (record { sender = sender; message = told })
+    heard_here = heard_by r one c bytes (record { sender = sender; message = told }) known heard_told
 
     pub digests_come : Comes c r past runs bytes n
     digests_come =
@@ -162,23 +165,23 @@ module _ (r : BothPartsData) (one : AreOne r.orderer r.desk) (bytes : List ℕ) 
         (subst (λ (t : Option TransferData). FitsStateTransfer c me t r.desk.executed.state.number past) open_there runs.holds.of_desk.opened))
 
   -- a page is taken
-  pub page_comes : (page : Page) (replaced : Taken) → authentic r.desk.membership r.desk.me bytes ≡ Some (record { sender = sender; message = PageMessage page.number.0 page.index page.text.items })
+  pub page_comes : (page : Page) (replaced : Taken) → heard r.orderer bytes ≡ Some (record { sender = sender; message = PageMessage page.number.0 page.index page.text.items })
       → TakesPageOf o page n (Some replaced) → Comes c r past runs bytes n
   page_comes page replaced receives (number, asked, wants, n_is, from, all, below) =
       let text = page.text.items in
-      let heard_it = subst (λ (k : ℕ). authentic r.desk.membership r.desk.me bytes ≡ Some (record { sender = sender; message = PageMessage k page.index text })) number receives in
+      let heard_it = subst (λ (k : ℕ). heard r.orderer bytes ≡ Some (record { sender = sender; message = PageMessage k page.index text })) number receives in
       let message = PageMessage o.transfer.number page.index text in
       let enters = pages_enter c me (desk_of c r.desk) r.orderer.log past o.transfer sender page.index text bytes runs.holds open_there asked
-      (heard_so r one c past runs bytes (record { sender = sender; message = message }) known heard_it) all.0 all.1 in
+      (heard_by r one c bytes (record { sender = sender; message = message }) known heard_it) all.0 all.1 in
       comes message (with_page o.transfer page.index text) n_is heard_it refl refl refl tt (pages_rest o.transfer r.desk.executed.state page.index text all.1 below)
       (asked_pages_count c me (desk_of c r.desk) r.orderer.log past o.transfer sender page.index text bytes runs.holds open_there asked wants)
       (desk_of c r.desk).transfer enters.0 enters.1 (told_below o.transfer levels.Page page.index (sha256 text) wants (λ same. cc))
 
 -- If more is to be fetched then, the event asks for it.
 module _ (r : BothPartsData) (one : AreOne r.orderer r.desk) (bytes : List ℕ) (n : OpenData)
-    (comes : (c : Configuration) (past : List Entry) (runs : BothPartsMatchHistory c r past) → members c ≡ r.desk.membership → Comes c r past runs bytes n) where
+    (comes : (c : Configuration) (past : List Entry) (runs : BothPartsMatchHistory c r past) → Gives c r.orderer → Comes c r past runs bytes n) where
   -- the fetch is sent
-  fetch_given : (c : Configuration) → members c ≡ r.orderer.endpoint.membership → (m : OpenData) (outs : List Output) → Multicasts r.orderer (fetch_of m.transfer) [] outs → (k : ℕ) → m.transfer.number ≡ k
+  fetch_given : (c : Configuration) → Gives c r.orderer → (m : OpenData) (outs : List Output) → Multicasts r.orderer (fetch_of m.transfer) [] outs → (k : ℕ) → m.transfer.number ≡ k
       → Has (λ e. fetch_sent e ≡ k) (given (me_of r) outs)
   fetch_given c known m outs says k number =
       let said = said_in c r.orderer (fetch_of m.transfer) [] outs known says in
@@ -192,7 +195,7 @@ module _ (r : BothPartsData) (one : AreOne r.orderer r.desk) (bytes : List ℕ) 
     begins = λ c past runs known.
         let came = comes c past runs known in
         let asked = asks_next c (event_of c r past runs bytes) r.orderer (with_transfer n r.desk) r.desk.waiting n [] refl came.is came.open_one came.fits came.may came.told tt m place outs
-        (known ∙ one.1) asks says in (
+        known asks says in (
           record {
             is = asked.0;
             fits = subst (λ (x : ℕ). FitsEvent c x (event_of c r past runs bytes) r.orderer (desk_of c (with_transfer m r.desk)) r.desk.waiting [] outs) (sym one.0) asked.1;
@@ -201,7 +204,7 @@ module _ (r : BothPartsData) (one : AreOne r.orderer r.desk) (bytes : List ℕ) 
             rests c r past runs,
             runs.all,
             fetches_suffice c (me_of r) (desk_of c r.desk) r.orderer.log past came.was came.body bytes (given (me_of r) outs) r.desk.executed.state.number runs.holds came.is_open came.heard_is came.part
-                (fetch_given c (known ∙ one.1) m outs says came.was.number (asked_number r.desk.executed.state n m (Some place) asks ∙ came.number)),
+                (fetch_given c known m outs says came.was.number (asked_number r.desk.executed.state n m (Some place) asks ∙ came.number)),
             inr came.taken,
           ),
           runs.nothing_begins,
@@ -223,8 +226,8 @@ module _ (r : BothPartsData) (one : AreOne r.orderer r.desk) (bytes : List ℕ) 
 
 module _ (r : BothPartsData) (one : AreOne r.orderer r.desk) (bytes : List ℕ) (sender : ℕ) (desk : DeskData) (outs : List Output) where
   -- an input to which the replica owes nothing is dropped, with the same desk
-  dropped : (message : Message) → authentic r.desk.membership r.desk.me bytes ≡ Some (record { sender = sender; message = message }) → ((c : Configuration) → IsBeside c (record { sender = sender; message = message }))
-      → ((c : Configuration) (past : List Entry) (runs : BothPartsMatchHistory c r past) → members c ≡ r.desk.membership → AnswersInput c (me_of r) past (Got (me_of r) bytes) [] runs.holds.of_desk.point r.desk.executed.state.number)
+  dropped : (message : Message) → heard r.orderer bytes ≡ Some (record { sender = sender; message = message }) → ((c : Configuration) → IsBeside c (record { sender = sender; message = message }))
+      → ((c : Configuration) (past : List Entry) (runs : BothPartsMatchHistory c r past) → Gives c r.orderer → AnswersInput c (me_of r) past (Got (me_of r) bytes) [] runs.holds.of_desk.point r.desk.executed.state.number)
       → desk ≡ r.desk → outs ≡ [] → TakesBytes bytes r due_work.Nothing (record r { desk = desk }) outs
   dropped message receives beside answers same silent =
       subst (λ (os : List Output). TakesBytes bytes r due_work.Nothing (record r { desk = desk }) os) (sym silent)
@@ -238,34 +241,34 @@ module _ (r : BothPartsData) (one : AreOne r.orderer r.desk) (bytes : List ℕ) 
       go None e f = absurd cc
       go (Some o) e f = subst P (some_injective o.transfer t f) (each o e)
 
-  pub digests_dropped : (meta : Meta) → authentic r.desk.membership r.desk.me bytes ≡ Some (record { sender = sender; message = MetaMessage meta.number.0 meta.level meta.index meta.digests.items })
+  pub digests_dropped : (meta : Meta) → heard r.orderer bytes ≡ Some (record { sender = sender; message = MetaMessage meta.number.0 meta.level meta.index meta.digests.items })
       → TakesDigests r.desk meta desk false → outs ≡ [] → TakesBytes bytes r due_work.Nothing (record r { desk = desk }) outs
   digests_dropped meta receives (same, others) silent =
       dropped (MetaMessage meta.number.0 meta.level meta.index meta.digests.items) receives (λ c. record { log = tt; call = refl; asks = λ st. refl; views = refl; changes = tt })
       (λ c past runs known.
       other_digests_owe_none c (me_of r) (desk_of c r.desk) r.orderer.log past sender meta.number.0 r.desk.executed.state.number (record { level = meta.level; index = meta.index }) meta.digests.items bytes [] runs.holds
-      (heard_so r one c past runs bytes (record { sender = sender; message = MetaMessage meta.number.0 meta.level meta.index meta.digests.items }) known receives)
+      (heard_by r one c bytes (record { sender = sender; message = MetaMessage meta.number.0 meta.level meta.index meta.digests.items }) known receives)
       (of_open c past runs (λ t. IsOther t meta.number.0 (record { level = meta.level; index = meta.index }) (digest_of_children meta.digests.items)) others)) same silent
 
-  pub page_dropped : (page : Page) → authentic r.desk.membership r.desk.me bytes ≡ Some (record { sender = sender; message = PageMessage page.number.0 page.index page.text.items })
+  pub page_dropped : (page : Page) → heard r.orderer bytes ≡ Some (record { sender = sender; message = PageMessage page.number.0 page.index page.text.items })
       → TakesPage r.desk page desk None → outs ≡ [] → TakesBytes bytes r due_work.Nothing (record r { desk = desk }) outs
   page_dropped page receives (same, others) silent =
       dropped (PageMessage page.number.0 page.index page.text.items) receives (λ c. record { log = tt; call = refl; asks = λ st. refl; views = refl; changes = tt })
       (λ c past runs known.
       other_pages_owe_none c (me_of r) (desk_of c r.desk) r.orderer.log past sender page.number.0 page.index r.desk.executed.state.number page.text.items bytes [] runs.holds
-      (heard_so r one c past runs bytes (record { sender = sender; message = PageMessage page.number.0 page.index page.text.items }) known receives)
+      (heard_by r one c bytes (record { sender = sender; message = PageMessage page.number.0 page.index page.text.items }) known receives)
       (of_open c past runs (λ t. IsOther t page.number.0 (page_place page.index) (sha256 page.text.items)) others)) same silent
 
   module _ (before : List Output) (first : before ≡ []) (new : BothPartsData) (asks : FetchesNextPart (record r { desk = desk }) before new outs true) where
     -- the transfer takes it, and asks for more after it
     asked : (n : OpenData) → desk ≡ with_transfer n r.desk
-        → ((c : Configuration) (past : List Entry) (runs : BothPartsMatchHistory c r past) → members c ≡ r.desk.membership → Comes c r past runs bytes n) → TakesBytes bytes r due_work.Nothing new outs
+        → ((c : Configuration) (past : List Entry) (runs : BothPartsMatchHistory c r past) → Gives c r.orderer → Comes c r past runs bytes n) → TakesBytes bytes r due_work.Nothing new outs
     asked n desk_is comes = asks_on r one bytes n comes new outs (subst (λ (d : DeskData). FetchesNextPart (record r { desk = d }) [] new outs true) desk_is (subst (λ (os : List Output). FetchesNextPart (record r { desk = desk }) os new outs true) first asks))
 
-    pub digests_asked : (meta : Meta) → authentic r.desk.membership r.desk.me bytes ≡ Some (record { sender = sender; message = MetaMessage meta.number.0 meta.level meta.index meta.digests.items })
+    pub digests_asked : (meta : Meta) → heard r.orderer bytes ≡ Some (record { sender = sender; message = MetaMessage meta.number.0 meta.level meta.index meta.digests.items })
         → TakesDigests r.desk meta desk true → TakesBytes bytes r due_work.Nothing new outs
     digests_asked meta receives (o, n, there, desk_is, takes) = asked n desk_is (λ c past runs known. digests_come r one bytes sender o n there c past runs known meta receives takes)
 
-    pub page_asked : (page : Page) (replaced : Taken) → authentic r.desk.membership r.desk.me bytes ≡ Some (record { sender = sender; message = PageMessage page.number.0 page.index page.text.items })
+    pub page_asked : (page : Page) (replaced : Taken) → heard r.orderer bytes ≡ Some (record { sender = sender; message = PageMessage page.number.0 page.index page.text.items })
         → TakesPage r.desk page desk (Some replaced) → TakesBytes bytes r due_work.Nothing new outs
     page_asked page replaced receives (o, n, there, desk_is, takes) = asked n desk_is (λ c past runs known. page_comes r one bytes sender o n there c past runs known page replaced receives takes)

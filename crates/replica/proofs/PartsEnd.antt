@@ -6,10 +6,9 @@ use Rattle.wire_format.specs.declared.messages.Page.{Page}
 use Rattle.terms.specs.declared.parties.ReplicaId.{ReplicaId}
 use Rattle.events.specs.declared.output.Output.{Output}
 use Rattle.partition_tree.specs.Digests.{root_of as root_of_pages}
-use Rattle.signing.specs.AuthenticBody.{authentic}
 use Rattle.state_transfer.specs.declared.replaced.Replaced.{Replaced}
 use Rattle.state_transfer.specs.Transfer.{TransferData, given_back, with_page}
-use Rattle.protocol.specs.System.Configuration.{Configuration, members}
+use Rattle.protocol.specs.System.Configuration.{Configuration}
 use Rattle.protocol.specs.System.Trace.{Entry}
 use Rattle.protocol.specs.System.Trace.Entry.{Got}
 use Rattle.protocol.specs.Replica.State.{State}
@@ -20,7 +19,7 @@ use Rattle.replica_histories.specs.Questions.{AnswersInput}
 use Rattle.replica_histories.proofs.PartsOwed.{fetched_suffice}
 use Rattle.desk.specs.declared.transfer.Taken.{Taken}
 use Rattle.replica.specs.declared.taking.DueWork.TheVariants as due_work
-use Rattle.replica.specs.State.{BothPartsData, AreOne}
+use Rattle.replica.specs.State.{BothPartsData, AreOne, Gives, heard}
 use Rattle.desk.specs.State.{DeskData, OpenData}
 use Rattle.orderer.specs.Fitting.{FitsEvent}
 use Rattle.replica.specs.Entering.{event_of, InputIsAnswered, TakesBytes, TakesMessage}
@@ -69,9 +68,9 @@ rested_so r n a outs (desk, inr (o, m, there, desk_is, asks, root), new_is, give
 )
 
 module _ (r : BothPartsData) (one : AreOne r.orderer r.desk) (bytes : List ℕ) (n m : OpenData)
-    (comes : (c : Configuration) (past : List Entry) (runs : BothPartsMatchHistory c r past) → members c ≡ r.desk.membership → Comes c r past runs bytes n)
+    (comes : (c : Configuration) (past : List Entry) (runs : BothPartsMatchHistory c r past) → Gives c r.orderer → Comes c r past runs bytes n)
     (a b : BothPartsData) (mid outs : List Output) (f : Rested r n m a mid) where
-  fetched : (c : Configuration) (past : List Entry) (runs : BothPartsMatchHistory c r past) → members c ≡ r.desk.membership
+  fetched : (c : Configuration) (past : List Entry) (runs : BothPartsMatchHistory c r past) → Gives c r.orderer
       → IsFetched c (event_of c r past runs bytes) (holding m r) m []
   fetched c past runs known =
       let k = comes c past runs known in
@@ -79,7 +78,7 @@ module _ (r : BothPartsData) (one : AreOne r.orderer r.desk) (bytes : List ℕ) 
       record { is_open = refl; is = now.0; open_one = k.open_one; fits = k.fits; may = now.1; rests = now.2; root = f.root }
 
   -- The replica owes nothing to the part, if pages of a state that can be installed imply that the number is reached.
-  whole : (c : Configuration) (past : List Entry) (runs : BothPartsMatchHistory c r past) → members c ≡ r.desk.membership → (given : List Entry) (executed : ℕ) → TransferReachesState r.desk.executed.state m.transfer executed
+  whole : (c : Configuration) (past : List Entry) (runs : BothPartsMatchHistory c r past) → Gives c r.orderer → (given : List Entry) (executed : ℕ) → TransferReachesState r.desk.executed.state m.transfer executed
       → AnswersInput c (me_of r) past (Got (me_of r) bytes) given runs.holds.of_desk.point executed
   whole c past runs known given executed reaches =
       let k = comes c past runs known in
@@ -89,7 +88,7 @@ module _ (r : BothPartsData) (one : AreOne r.orderer r.desk) (bytes : List ℕ) 
       reaches
 
   -- no state can be installed
-  pub none_owed : CannotInstall a.desk → (c : Configuration) (past : List Entry) (runs : BothPartsMatchHistory c r past) → members c ≡ r.desk.membership
+  pub none_owed : CannotInstall a.desk → (c : Configuration) (past : List Entry) (runs : BothPartsMatchHistory c r past) → Gives c r.orderer
       → AnswersInput c (me_of r) past (Got (me_of r) bytes) [] runs.holds.of_desk.point r.desk.executed.state.number
   none_owed cannot c past runs known =
       whole c past runs known [] r.desk.executed.state.number
@@ -117,7 +116,7 @@ module _ (r : BothPartsData) (one : AreOne r.orderer r.desk) (bytes : List ℕ) 
       party : IsOneParty r b
       party = one_of_same r b (parties_twice r (holding m r) b (same_holding r m) (moved_party (holding m r) b m [] outs refl here))
 
-      taken_on : (c : Configuration) (past : List Entry) (runs : BothPartsMatchHistory c r past) → members c ≡ r.desk.membership
+      taken_on : (c : Configuration) (past : List Entry) (runs : BothPartsMatchHistory c r past) → Gives c r.orderer
           → IsTaken c (me_of b) (event_of c r past runs bytes) × InputIsAnswered c (me_of b) (event_of c r past runs bytes) b.desk.executed.state.number
       taken_on c past runs known =
           subst (λ (k : ℕ). IsTaken c k (event_of c r past runs bytes) × InputIsAnswered c k (event_of c r past runs bytes) b.desk.executed.state.number) (sym (ap (λ e. e.me) party.endpoint)) (
@@ -126,7 +125,7 @@ module _ (r : BothPartsData) (one : AreOne r.orderer r.desk) (bytes : List ℕ) 
           )
 
   -- it is none, and the open transfer stays
-  pub none_comes : ((c : Configuration) (past : List Entry) (runs : BothPartsMatchHistory c r past) → members c ≡ r.desk.membership → IsOpen c r past runs bytes n)
+  pub none_comes : ((c : Configuration) (past : List Entry) (runs : BothPartsMatchHistory c r past) → Gives c r.orderer → IsOpen c r past runs bytes n)
       → InstallsFetchedState a mid b outs false → TakesBytes bytes r due_work.Nothing b outs
   none_comes opened (same, none, cannot) =
       subst (λ (x : BothPartsData). TakesBytes bytes r due_work.Nothing x outs) (sym (same ∙ f.new_is))
@@ -187,8 +186,8 @@ desk_back d e o m back there same (inr (k, x, is_open, e_is, gives)) =
 
 -- So is the replica, and it drops the page.
 pub page_back : (r : BothPartsData) (one : AreOne r.orderer r.desk) (sender : ReplicaId) (page : Page) (bytes : List ℕ) (o n m : OpenData) (back : Taken) (a b : BothPartsData) (d : DeskData) (mid outs : List Output)
-    → authentic r.desk.membership r.desk.me bytes ≡ Some (record { sender = sender.0; message = PageMessage page.number.0 page.index page.text.items })
-    → ((c : Configuration) (past : List Entry) (runs : BothPartsMatchHistory c r past) → members c ≡ r.desk.membership → AnswersInput c (me_of r) past (Got (me_of r) bytes) [] runs.holds.of_desk.point r.desk.executed.state.number)
+    → heard r.orderer bytes ≡ Some (record { sender = sender.0; message = PageMessage page.number.0 page.index page.text.items })
+    → ((c : Configuration) (past : List Entry) (runs : BothPartsMatchHistory c r past) → Gives c r.orderer → AnswersInput c (me_of r) past (Got (me_of r) bytes) [] runs.holds.of_desk.point r.desk.executed.state.number)
     → r.desk.transfer ≡ Some o → TakesPageOf o page n (Some back) → Rested r n m a mid → InstallsFetchedState a mid b outs false → PutsBack b.desk back d
     → TakesBytes bytes r due_work.Nothing (record b { desk = d }) outs
 page_back r one sender page bytes o n m back a b d mid outs receives answers there takes f (same, none, cannot) gives =
@@ -210,10 +209,10 @@ page_back r one sender page bytes o n m back a b d mid outs receives answers the
 
 module _ (r : BothPartsData) (one : AreOne r.orderer r.desk) (sender : ReplicaId) (meta : Meta) (d : DeskData) (a b : BothPartsData) (mid outs : List Output) (takes : TakesDigests r.desk meta d true)
     (asks : FetchesNextPart (record r { desk = d }) [] a mid false) where
-  digests_so : (bytes : List ℕ) → authentic r.desk.membership r.desk.me bytes ≡ Some (record { sender = sender.0; message = MetaMessage meta.number.0 meta.level meta.index meta.digests.items })
+  digests_so : (bytes : List ℕ) → heard r.orderer bytes ≡ Some (record { sender = sender.0; message = MetaMessage meta.number.0 meta.level meta.index meta.digests.items })
       → (n : OpenData) × (m : OpenData) × Rested r n m a mid
-      × ((c : Configuration) (past : List Entry) (runs : BothPartsMatchHistory c r past) → members c ≡ r.desk.membership → Comes c r past runs bytes n)
-      × ((c : Configuration) (past : List Entry) (runs : BothPartsMatchHistory c r past) → members c ≡ r.desk.membership → IsOpen c r past runs bytes n)
+      × ((c : Configuration) (past : List Entry) (runs : BothPartsMatchHistory c r past) → Gives c r.orderer → Comes c r past runs bytes n)
+      × ((c : Configuration) (past : List Entry) (runs : BothPartsMatchHistory c r past) → Gives c r.orderer → IsOpen c r past runs bytes n)
   digests_so bytes receives =
       let there = takes.2 in
       let now = rested_so r takes.1 a mid (subst (λ (x : DeskData). FetchesNextPart (record r { desk = x }) [] a mid false) takes.3 asks) in (

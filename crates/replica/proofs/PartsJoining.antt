@@ -433,7 +433,7 @@ holds_part c r h one are runs = (
     used = λ mine. let f = flags (ap (primary c) s.view ∙ mine) in used_over c me r.orderer.used h g (turned c me g h s) (record { free = f.free; full = f.full });
     said = said_back c me g h (parted c me h) r.orderer.last_checkpoint runs.said;
     changes = changes_back c me g h (parted c me h) r.orderer.log (changes_held r.orderer) are runs.changes;
-    period = runs.is_desk.period_is ∙ sym one.2;
+    period = runs.is_desk.period_is ∙ sym one.1;
     nothing_begins = runs.nothing_begins;
   },
 )

@@ -1,30 +1,27 @@
 -- The parts of a replica fit the histories that their joined replica fits.
-use Rattle.std.proofs.Common.{◌≡◌, ℕ, ◌+◌, ◌*◌, ◌<◌, arith, inr, Bool, true, false, List, [], ◌∷◌, refl, sym, ap, ◌∙◌, subst, Option, Some, None}
+use Rattle.std.proofs.Common.{◌≡◌, ℕ, ◌+◌, ◌*◌, ◌<◌, ◌≤◌, arith, inr, Bool, true, false, List, [], ◌∷◌, refl, sym, ap, ap₂, ◌∙◌, subst, Option, Some, None}
 use Rattle.std.proofs.lemmas.Option.{none-some}
-use Rattle.std.specs.Prelude.{is_none, IsTrue, option_map, replicate}
+use Rattle.std.specs.Prelude.{is_none, IsTrue, option_map}
 use Rattle.authenticator.specs.Membership.{Membership}
-use Rattle.ordering.specs.Log.{new_log}
-use Rattle.pq_sets.specs.PqSetsView.{empty_pq_sets}
+use Rattle.frame_endpoint.specs.Endpoint.{EndpointState}
 use Rattle.events.specs.declared.output.Output.{Output}
 use Rattle.events.specs.Outputs.{after_event, AreSentAsMeant}
-use Rattle.protocol.specs.System.Configuration.{Configuration, IsConfiguration, members}
+use Rattle.protocol.specs.System.Configuration.{Configuration, members}
 use Rattle.protocol.specs.System.Reads.{without_reads}
 use Rattle.protocol.specs.System.Trace.{Entry}
 use Rattle.protocol.specs.Replica.Owed.{IsReplica}
-use Rattle.protocol.specs.Replica.State.{opening}
-use Rattle.replica_histories.specs.Desk.{snapshot_of}
-use Rattle.desk.specs.Waiting.{none_waiting}
 use Rattle.protocol.proofs.Words.Options.{some_injective}
 use Rattle.replica.specs.declared.replica.Event.{Event}
 use Rattle.replica.specs.declared.replica.Event.TheVariants as events
 use Rattle.replica.specs.Fits.{EventLeads, SendsAsMeant}
 use Rattle.orderer.specs.State.{OrdererData}
-use Rattle.replica.specs.State.{MemberData, BothPartsData, OrdererPart, DeskPart, ReplicaData, IsOrdererPart, IsDeskPart, AreOne}
+use Rattle.replica.specs.State.{MemberData, BothPartsData, OrdererPart, DeskPart, ReplicaData, IsOrdererPart, IsDeskPart, AreOne, member_of}
 use Rattle.replica.specs.ReplicaView.{both_of}
 use Rattle.desk.specs.State.{DeskData}
 use Rattle.desk.specs.Desking.{IsNewDesk}
 use Rattle.orderer.specs.Taking.{IsNewOrderer}
 use Rattle.replica.specs.Inputs.{input_of}
+use Rattle.replica.specs.Going.{IsOneParty}
 use Rattle.replica.specs.BothParts.{BothPartsEventLead, BothPartsFitHistory}
 use Rattle.replica.specs.Parted.{DeskMatchesHistory, OrdererMatchesHistory, DeskFitsHistory, OrdererFitsHistory, FitBoth, AreTogether, BothLead, BothSendAsMeant, PartsReact}
 use Rattle.orderer.specs.ViewChangeOut.{AreChanges}
@@ -40,29 +37,31 @@ orders m o = record { member = m; holds = Some o }
 abbrev pub answers : MemberData → DeskData → DeskPart
 answers m d = record { member = m; holds = Some d }
 
-desk_fits : (c : Configuration) (me : ℕ) (m : MemberData) (d : DeskData) (history : List Entry) → m.me ≡ me → members c ≡ m.membership → IsReplica c me history → DeskMatchesHistory c me d history
+desk_fits : (c : Configuration) (me : ℕ) (m : MemberData) (d : DeskData) (history : List Entry) → m.me ≡ me → member_of (members c me) me ≡ m → IsReplica c me history → DeskMatchesHistory c me d history
     → DeskFitsHistory c me (answers m d) history
-desk_fits c me m d history mine members_are right holds = record {
+desk_fits c me m d history mine member_is right holds = record {
   me_is = mine;
-  members_are = members_are;
+  member_is = member_is;
   right = right;
   running = λ x is. subst (λ (y : DeskData). DeskMatchesHistory c me y history) (some_injective d x is) holds;
 }
 
-orderer_fits : (c : Configuration) (me : ℕ) (m : MemberData) (o : OrdererData) (ordering : List Entry) → m.me ≡ me → members c ≡ m.membership → OrdererMatchesHistory c me o ordering
+orderer_fits : (c : Configuration) (me : ℕ) (m : MemberData) (o : OrdererData) (ordering : List Entry) → m.me ≡ me → member_of (members c me) me ≡ m → members c me ≡ o.endpoint.membership → OrdererMatchesHistory c me o ordering
     → OrdererFitsHistory c me (orders m o) ordering
-orderer_fits c me m o ordering mine members_are holds = record {
+orderer_fits c me m o ordering mine member_is known holds = record {
   me_is = mine;
-  members_are = members_are;
+  member_is = member_is;
+  members_are = λ x is. subst (λ (y : OrdererData). members c me ≡ y.endpoint.membership) (some_injective o x is) known;
   running = λ x is. subst (λ (y : OrdererData). OrdererMatchesHistory c me y ordering) (some_injective o x is) holds;
 }
 
 -- both fit the histories that they fit when joined
 both_fit : (c : Configuration) (m : MemberData) (o : OrdererData) (d : DeskData) (history : List Entry) → AreOne o d → AreChanges o.received.held → o.endpoint.me ≡ m.me
-    → members c ≡ m.membership → BothPartsFitHistory c (both_parts o d) history → FitBoth c m.me (orders m o) (answers m d) history
-both_fit c m o d history one are mine members_are fits = (
-  desk_fits c m.me m d history refl members_are (subst (λ (n : ℕ). IsReplica c n history) mine fits.right) (subst (λ (n : ℕ). DeskMatchesHistory c n d history) mine parts.0),
-  orderer_fits c m.me m o (without_reads history) refl members_are (subst (λ (n : ℕ). OrdererMatchesHistory c n o (without_reads history)) mine parts.1),
+    → member_of (members c m.me) m.me ≡ m → BothPartsFitHistory c (both_parts o d) history → FitBoth c m.me (orders m o) (answers m d) history
+both_fit c m o d history one are mine member_is fits = (
+  desk_fits c m.me m d history refl member_is (subst (λ (n : ℕ). IsReplica c n history) mine fits.right) (subst (λ (n : ℕ). DeskMatchesHistory c n d history) mine parts.0),
+  orderer_fits c m.me m o (without_reads history) refl member_is (subst (λ (n : ℕ). members c n ≡ o.endpoint.membership) mine fits.members_are)
+      (subst (λ (n : ℕ). OrdererMatchesHistory c n o (without_reads history)) mine parts.1),
 )
   where
     parts : DeskMatchesHistory c o.endpoint.me d history × OrdererMatchesHistory c o.endpoint.me o (without_reads history)
@@ -70,66 +69,38 @@ both_fit c m o d history one are mine members_are fits = (
 
 -- ---- a replica that begins
 
-pub one_new : (c : Configuration) (me : ℕ) (o : OrdererData) (d : DeskData) → IsNewOrderer c me o → IsNewDesk c me d → AreOne o d
-one_new c me o d new_orderer new_desk = (
+pub one_new : (m : Membership) (period me : ℕ) (o : OrdererData) (d : DeskData) → IsNewOrderer m period me o → IsNewDesk m period me d → AreOne o d
+one_new m period me o d new_orderer new_desk = (
   ap (λ (x : DeskData). x.me) new_desk ∙ sym (ap (λ (x : OrdererData). x.endpoint.me) new_orderer.0),
-  ap (λ (x : DeskData). x.membership) new_desk ∙ sym (ap (λ (x : OrdererData). x.endpoint.membership) new_orderer.0),
   new_orderer.2 ∙ sym (ap (λ (x : DeskData). x.period) new_desk),
 )
 
--- They are new in each configuration of the same members and period.
-abbrev OrderersLooks : OrdererData → ℕ → Membership → ℕ → Type 0
-OrderersLooks o me m period = (o ≡ record {
-  endpoint = record { membership = m; me = me; used = 0 };
-  log = new_log me m.faults (2 * period);
-  used = 0;
-  assigned = 0;
-  target = 0;
-  new_view = None;
-  pq_sets = empty_pq_sets;
-  received = record { seed = m.seed; sizes = o.received.sizes; held = replicate (3 * m.faults + 1) None };
-  last_checkpoint = None;
-  spent = 0;
-}) × (o.received.sizes.faults ≡ m.faults) × (o.received.sizes.period ≡ period)
+-- They are new in each configuration that gives the replica what it knows, and this period.
+pub both_new : (m : Membership) (period me : ℕ) (member : MemberData) (o : OrdererData) (d : DeskData) → 1 ≤ m.faults → m.faults ≤ 3 → period ≤ 16 → me < 3 * m.faults + 1 → member ≡ member_of m me
+    → IsNewOrderer m period me o → IsNewDesk m period me d → AreChanges o.received.held
+    → (e : Configuration) → members e me ≡ m → e.period ≡ period → FitBoth e member.me (orders member o) (answers member d) []
+both_new m period me member o d some few short within same new_orderer new_desk are e known period_is =
+    both_fit e member o d [] (one_new m period me o d new_orderer new_desk) are (ap (λ (x : OrdererData). x.endpoint.me) new_orderer.0 ∙ sym at)
+    (subst (λ (n : ℕ). member_of (members e n) n ≡ member) (sym at) (ap (λ (k : Membership). member_of k me) known ∙ sym same))
+    (fits_new e me (omega (arith, faults, some)) (omega (arith, faults, few)) (omega (arith, period_is, short)) (omega (arith, faults, within)) (both_parts o d)
+    (subst (λ (k : Membership). IsNewOrderer k e.period me o) (sym known) (subst (λ (n : ℕ). IsNewOrderer m n me o) (sym period_is) new_orderer))
+    (subst (λ (k : Membership). IsNewDesk k e.period me d) (sym known) (subst (λ (n : ℕ). IsNewDesk m n me d) (sym period_is) new_desk)))
+  where
+    at : member.me ≡ me
+    at = ap (λ (k : MemberData). k.me) same
 
-abbrev DesksLooks : DeskData → ℕ → Membership → ℕ → Type 0
-DesksLooks d me m period = d ≡ record {
-  me = me;
-  membership = m;
-  period = period;
-  executed = record { state = opening; clients = m.clients };
-  snapshots = snapshot_of opening ∷ [];
-  transfer = None;
-  waiting = none_waiting;
-}
-
-orderer_new : (c e : Configuration) (me : ℕ) (o : OrdererData) → members e ≡ members c → e.period ≡ c.period → IsNewOrderer c me o → IsNewOrderer e me o
-orderer_new c e me o known period new =
-    subst (λ (m : Membership). OrderersLooks o me m e.period) (sym known) (subst (λ (n : ℕ). OrderersLooks o me (members c) n) (sym period) new)
-
-desk_new : (c e : Configuration) (me : ℕ) (d : DeskData) → members e ≡ members c → e.period ≡ c.period → IsNewDesk c me d → IsNewDesk e me d
-desk_new c e me d known period new =
-    subst (λ (m : Membership). DesksLooks d me m e.period) (sym known) (subst (λ (n : ℕ). DesksLooks d me (members c) n) (sym period) new)
-
-pub both_new : (c : Configuration) (m : MemberData) (me : ℕ) (o : OrdererData) (d : DeskData) → IsConfiguration c → me < 3 * c.faults + 1 → m.me ≡ me → m.membership ≡ members c
-    → IsNewOrderer c me o → IsNewDesk c me d → AreChanges o.received.held
-    → (e : Configuration) → members e ≡ members c → e.period ≡ c.period → FitBoth e m.me (orders m o) (answers m d) []
-both_new c m me o d valid few mine membership new_orderer new_desk are e known period =
-    let faults : e.faults ≡ c.faults = ap (λ (x : Membership). x.faults) known in
-    both_fit e m o d [] (one_new c me o d new_orderer new_desk) are (ap (λ (x : OrdererData). x.endpoint.me) new_orderer.0 ∙ sym mine) (known ∙ sym membership)
-    (fits_new e me (let l = valid.some_faults in omega (arith, faults, l)) (let l = valid.most in omega (arith, faults, l))
-    (let l = valid.period_most in omega (arith, period, l)) (omega (arith, faults, few)) (both_parts o d)
-    (orderer_new c e me o known period new_orderer) (desk_new c e me d known period new_desk))
+    faults : e.faults ≡ m.faults
+    faults = ap (λ (k : Membership). k.faults) known
 
 -- ---- an event
 
-module _ (m n : MemberData) (o later_o : OrdererData) (d later_d : DeskData) (event : Event) (outs : List Output) (same : n ≡ m) (mine : o.endpoint.me ≡ m.me) (membership : o.endpoint.membership ≡ m.membership)
+module _ (m n : MemberData) (o later_o : OrdererData) (d later_d : DeskData) (event : Event) (outs : List Output) (same : n ≡ m) (mine : o.endpoint.me ≡ m.me)
     (one : AreOne o d) (later_one : AreOne later_o later_d) (are : AreChanges later_o.received.held) (endpoint : later_o.endpoint ≡ o.endpoint)
     (leads : BothPartsEventLead (both_parts o d) event outs (both_parts later_o later_d)) where
   -- the joined replica fits what both fit
   fits_joined : (c : Configuration) (history : List Entry) → FitBoth c m.me (orders m o) (answers m d) history → BothPartsFitHistory c (both_parts o d) history
   fits_joined c history (fits_desk, fits_orderer) = record {
-    members_are = fits_desk.members_are ∙ sym membership;
+    members_are = subst (λ (k : ℕ). members c k ≡ o.endpoint.membership) (sym mine) (fits_orderer.members_are o refl);
     right = subst (λ (k : ℕ). IsReplica c k history) (sym mine) fits_desk.right;
     runs = parts_join c o d history one (subst (λ (k : ℕ). DeskMatchesHistory c k d history) (sym mine) (fits_desk.running d refl))
         (subst (λ (k : ℕ). OrdererMatchesHistory c k o (without_reads history)) (sym mine) (fits_orderer.running o refl));
@@ -138,7 +109,7 @@ module _ (m n : MemberData) (o later_o : OrdererData) (d later_d : DeskData) (ev
   lead_at : (c : Configuration) (history : List Entry) → FitBoth c m.me (orders m o) (answers m d) history
       → FitBoth c m.me (orders m later_o) (answers m later_d) (after_event m.me (input_of m.me event) outs history)
   lead_at c history fits =
-      both_fit c m later_o later_d (after_event m.me (input_of m.me event) outs history) later_one are (ap (λ e. e.me) endpoint ∙ mine) fits.0.members_are
+      both_fit c m later_o later_d (after_event m.me (input_of m.me event) outs history) later_one are (ap (λ e. e.me) endpoint ∙ mine) fits.0.member_is
       (subst (λ (k : ℕ). BothPartsFitHistory c (both_parts later_o later_d) (after_event k (input_of k event) outs history)) mine (leads c history (fits_joined c history fits)).0)
 
   -- both fit this as parts of one replica
@@ -164,14 +135,14 @@ steps o later_o d later_d x later_x y later_y event outs o_is d_is same are one 
     (subst (λ (q : DeskPart). BothLead (orders o.member x) q event outs later_o later_d) (ap (λ (h : Option DeskData). let q : DeskPart = record { member = d.member; holds = h } in q) (sym d_is))
     (subst (λ (p : OrdererPart). BothLead (orders o.member x) (answers d.member y) event outs p later_d) (sym now_o)
     (subst (λ (q : DeskPart). BothLead (orders o.member x) (answers d.member y) event outs (orders o.member later_x) q) (sym now_d)
-    (both_lead o.member d.member x later_x y later_y event outs (sym same) (are x o_is).0 (are x o_is).1 one r.one r.changes r.endpoint r.leads))))
+    (both_lead o.member d.member x later_x y later_y event outs (sym same) (ap (λ (k : MemberData). k.me) (are x o_is)) one r.one r.changes r.endpoint r.leads))))
 
 pub steps_send : (o : OrdererPart) (d : DeskPart) (x later_x : OrdererData) (y later_y : DeskData) (event : Event) (outs : List Output) → o.holds ≡ Some x → d.holds ≡ Some y → o.member ≡ d.member
     → IsOrdererPart o → AreOne x y → PartsReact x y event outs later_x later_y → BothSendAsMeant o d outs
 steps_send o d x later_x y later_y event outs o_is d_is same are one r =
     subst (λ (p : OrdererPart). BothSendAsMeant p d outs) (ap (λ (h : Option OrdererData). let p : OrdererPart = record { member = o.member; holds = h } in p) (sym o_is))
     (subst (λ (q : DeskPart). BothSendAsMeant (orders o.member x) q outs) (ap (λ (h : Option DeskData). let q : DeskPart = record { member = d.member; holds = h } in q) (sym d_is))
-    (both_send o.member d.member x later_x y later_y event outs (sym same) (are x o_is).0 (are x o_is).1 one r.one r.changes r.endpoint r.leads))
+    (both_send o.member d.member x later_x y later_y event outs (sym same) (ap (λ (k : MemberData). k.me) (are x o_is)) one r.one r.changes r.endpoint r.leads))
 
 -- parts that are together have the same period of checkpoints
 pub one_period : (o : OrdererPart) (d : DeskPart) (x : OrdererData) (y : DeskData) → AreTogether o d → o.holds ≡ Some x → d.holds ≡ Some y → x.received.sizes.period ≡ y.period
@@ -181,8 +152,7 @@ one_period o d x y t o_is d_is =
 -- parts that are together are of one replica
 pub together_one : (o : OrdererPart) (d : DeskPart) (x : OrdererData) (y : DeskData) → AreTogether o d → IsOrdererPart o → IsDeskPart d → o.holds ≡ Some x → d.holds ≡ Some y → AreOne x y
 together_one o d x y t are_o are_d o_is d_is = (
-  (are_d y d_is).0 ∙ sym (ap (λ (m : MemberData). m.me) t.member) ∙ sym (are_o x o_is).0,
-  (are_d y d_is).1 ∙ sym (ap (λ (m : MemberData). m.membership) t.member) ∙ sym (are_o x o_is).1,
+  ap (λ (m : MemberData). m.me) (are_d y d_is ∙ sym t.member ∙ sym (are_o x o_is)),
   one_period o d x y t o_is d_is,
 )
 
@@ -202,18 +172,25 @@ pub joined_steps : (m : MemberData) (h : Option BothPartsData) (x later : BothPa
 joined_steps m h x later event outs is own one leads later_one are endpoint =
     subst (λ (k : Option BothPartsData). EventLeads (both_of m k) event outs (both_of m (Some later)) × SendsAsMeant (both_of m k) outs) (sym is) (
       replica_leads (both_of m (Some x)) (orders m later.orderer) (answers m later.desk) event outs refl
-          (both_lead m m x.orderer later.orderer x.desk later.desk event outs refl mine.0 mine.1 one later_one are endpoint leads),
+          (both_lead m m x.orderer later.orderer x.desk later.desk event outs refl mine one later_one are endpoint leads),
       replica_sends (both_of m (Some x)) outs
-          (both_send m m x.orderer later.orderer x.desk later.desk event outs refl mine.0 mine.1 one later_one are endpoint leads),
+          (both_send m m x.orderer later.orderer x.desk later.desk event outs refl mine one later_one are endpoint leads),
     )
   where
-    mine : (x.orderer.endpoint.me ≡ m.me) × (x.orderer.endpoint.membership ≡ m.membership)
-    mine = own x.orderer (ap (option_map (λ (r : BothPartsData). r.orderer)) is)
+    mine : x.orderer.endpoint.me ≡ m.me
+    mine = ap (λ (k : MemberData). k.me) (own x.orderer (ap (option_map (λ (r : BothPartsData). r.orderer)) is))
+
+-- it is the member's still
+pub still_own : (m : MemberData) (h : Option BothPartsData) (x later : BothPartsData) → h ≡ Some x → IsOrdererPart (both_of m h).orderer × IsDeskPart (both_of m h).desk → IsOneParty x later
+    → IsOrdererPart (both_of m (Some later)).orderer × IsDeskPart (both_of m (Some later)).desk
+still_own m h x later is own party = (
+  λ o e. subst (λ (k : OrdererData). member_of k.endpoint.membership k.endpoint.me ≡ m) (some_injective later.orderer o e)
+      (ap (λ (k : EndpointState). member_of k.membership k.me) party.endpoint ∙ own.0 x.orderer (ap (option_map (λ (r : BothPartsData). r.orderer)) is)),
+  λ d e. subst (λ (k : DeskData). member_of k.membership k.me ≡ m) (some_injective later.desk d e)
+      (ap₂ (λ (k : Membership) (n : ℕ). member_of k n) party.membership party.me ∙ own.1 x.desk (ap (option_map (λ (r : BothPartsData). r.desk)) is)),
+)
 
 -- ---- parts that are not together fit nothing
-
-same_members : (m n : MemberData) → m.me ≡ n.me → m.membership ≡ n.membership → m ≡ n
-same_members m n e f = ap (λ (k : ℕ). let r : MemberData = record { me = k; membership = m.membership } in r) e ∙ ap (λ (k : Membership). let r : MemberData = record { me = n.me; membership = k } in r) f
 
 pub not_so : (b : Bool) → b ≡ false → IsTrue b → ⊥
 not_so true e h = absurd cc
@@ -226,7 +203,7 @@ fit_none o d o_runs d_runs apart c me history (fits_desk, fits_orderer) = go o.h
     go None b a_is b_is h k = absurd cc
     go (Some x) None a_is b_is h k = absurd cc
     go (Some x) (Some y) a_is b_is h k = apart (record {
-      member = same_members o.member d.member (fits_orderer.me_is ∙ sym fits_desk.me_is) (sym fits_orderer.members_are ∙ fits_desk.members_are);
+      member = sym fits_orderer.member_is ∙ fits_desk.member_is;
       orderer = x;
       desk = y;
       orders = a_is;
@@ -240,7 +217,7 @@ stopped_desk : (c : Configuration) (me : ℕ) (d stopped : DeskPart) (history ot
     → DeskFitsHistory c me stopped other
 stopped_desk c me d stopped history other same none fits right = record {
   me_is = ap (λ (m : MemberData). m.me) same ∙ fits.me_is;
-  members_are = fits.members_are ∙ sym (ap (λ (m : MemberData). m.membership) same);
+  member_is = fits.member_is ∙ sym same;
   right = right;
   running = λ x is. absurd (none-some x (sym none ∙ is));
 }
@@ -249,7 +226,8 @@ stopped_orderer : (c : Configuration) (me : ℕ) (o stopped : OrdererPart) (orde
     → OrdererFitsHistory c me stopped other
 stopped_orderer c me o stopped ordering other same none fits = record {
   me_is = ap (λ (m : MemberData). m.me) same ∙ fits.me_is;
-  members_are = fits.members_are ∙ sym (ap (λ (m : MemberData). m.membership) same);
+  member_is = fits.member_is ∙ sym same;
+  members_are = λ x is. absurd (none-some x (sym none ∙ is));
   running = λ x is. absurd (none-some x (sym none ∙ is));
 }
 

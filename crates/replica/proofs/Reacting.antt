@@ -5,10 +5,9 @@ use Rattle.events.specs.declared.output.Output.{Output}
 use Rattle.events.specs.Outputs.{entry_of, after_entries, after_event, AreSentAsMeant}
 use Rattle.ordering.specs.Log as logs
 use Rattle.ordering.specs.Log.{LogData}
-use Rattle.protocol.specs.System.Configuration.{Configuration, members}
+use Rattle.protocol.specs.System.Configuration.{Configuration}
 use Rattle.protocol.specs.System.Trace.{Entry, is_output}
 use Rattle.protocol.specs.Replica.Certificates.{target}
-use Rattle.protocol.specs.Replica.State.{State}
 use Rattle.frame_endpoint.specs.Endpoint.{EndpointState}
 use Rattle.replica_histories.specs.Questions.{AnswersInput}
 use Rattle.replica_histories.specs.Logs.{FitsLog}
@@ -25,7 +24,7 @@ use Rattle.replica_histories.proofs.Questions.{others_owe_none}
 use Rattle.terms.specs.declared.order.Number.{Number}
 use Rattle.replica.specs.declared.taking.DueWork.{DueWork}
 use Rattle.replica.specs.declared.taking.DueWork.TheVariants as due_work
-use Rattle.replica.specs.State.{BothPartsData, AreOne}
+use Rattle.replica.specs.State.{BothPartsData, AreOne, Gives}
 use Rattle.replica.specs.Beginning.{CannotBegin}
 use Rattle.replica.specs.Desks.{PartsFitEvent}
 use Rattle.orderer.specs.Fitting.{given, FitsEvent, FitsWaiting, WasSent, changes_held}
@@ -42,7 +41,7 @@ use Rattle.replica.specs.BothParts.{BothPartsMatchHistory, BothPartsFitHistory, 
 use Rattle.replica.specs.Entering.{event_with, InputIsAnswered, IsTakenBeside, TakesInput}
 use Rattle.replica.proofs.Choosing.{begins_nothing_same}
 use Rattle.orderer.proofs.Flags.{flags_given}
-use Rattle.replica.proofs.Parties.{same_party, one_of_same, ones_twice}
+use Rattle.replica.proofs.Parties.{gives_on, same_party, one_of_same, ones_twice}
 
 -- ---- the outputs, on the history
 
@@ -85,7 +84,7 @@ module _ (old new : BothPartsData) (one : AreOne old.orderer old.desk) (party : 
       → BothPartsFitHistory c new (after_event (me_of old) input outs past) × AreSentAsMeant c (me_of old) outs
   ends c past input outs f runs is st rest all answered nothing_begins why = (
     subst (BothPartsFitHistory c new) (behind_is (map (entry_of (me_of old)) outs) (input ∷ past)) (record {
-      members_are = f.members_are ∙ sym (ap (λ (e : EndpointState). e.membership) party.endpoint);
+      members_are = gives_on c old.orderer new.orderer party.endpoint f.members_are;
       right = subst (λ (e : EndpointState). IsReplica c e.me now) (sym party.endpoint) (held_are_replicas c (me_of old) (desk_of c new.desk) new.orderer.log now held);
       runs = record {
         is_desk = st.is;
@@ -130,8 +129,8 @@ module _ (old new : BothPartsData) (one : AreOne old.orderer old.desk) (party : 
 -- ---- by what the event touched
 
 module _ (input : Entry) (old : BothPartsData) (one : AreOne old.orderer old.desk) (is_input : is_output input ≡ false) where
-  known : (c : Configuration) (past : List Entry) → BothPartsFitHistory c old past → members c ≡ old.desk.membership
-  known c past f = f.members_are ∙ sym one.1
+  known : (c : Configuration) (past : List Entry) (new : BothPartsData) → IsOneParty old new → BothPartsFitHistory c old past → Gives c new.orderer
+  known c past new party f = gives_on c old.orderer new.orderer party.endpoint f.members_are
 
   -- a rule that takes it at the later replica takes it at the earlier one
   taken_then : (c : Configuration) (s : Start) (new : BothPartsData) → IsOneParty old new → IsTaken c (me_of new) s → IsTaken c (me_of old) s
@@ -153,7 +152,7 @@ module _ (input : Entry) (old : BothPartsData) (one : AreOne old.orderer old.des
       → BothPartsFitHistory c new (after_event (me_of old) input outs past) × AreSentAsMeant c (me_of old) outs
   ends_numbered c past mid before new x outs f runs first then n above rest st nothing_begins t =
       let party = ones_twice old mid before first (one_of_same mid before then) in
-      let p = n.proceeds rest c (event_with c old past runs input) (known c past f ∙ sym party.membership) st in
+      let p = n.proceeds rest c (event_with c old past runs input) (known c past before party f) st in
       ends old new one (ones_twice old before new party (one_of_same before new n.party)) c past input outs f runs is_input p (n.rests rest) n.all
       (subst (λ (e : EndpointState). AnswersInput c e.me past input (given (me_of old) outs) runs.holds.of_desk.point new.desk.executed.state.number) first.endpoint
       (t.1 (given (me_of old) outs) new.desk.executed.state.number (let more = n.rises in omega (arith, above, more))))
@@ -163,7 +162,7 @@ module _ (input : Entry) (old : BothPartsData) (one : AreOne old.orderer old.des
   leads_nothing : (new : BothPartsData) (outs : List Output) → TakesInput input old due_work.Nothing new outs → BothPartsStayRight old input outs new
   leads_nothing new outs t c past f =
       let runs = f.runs in
-      let b = t.begins c past runs (known c past f) in
+      let b = t.begins c past runs f.members_are in
       ends old new one t.party c past input outs f runs is_input b.0 b.1.0 b.1.1
       (subst (λ (e : EndpointState). AnswersInput c e.me past input (given e.me outs) runs.holds.of_desk.point new.desk.executed.state.number) t.party.endpoint b.1.2) b.2
       (why c (event_with c old past runs input) new outs t.party b.1.3)
@@ -171,33 +170,33 @@ module _ (input : Entry) (old : BothPartsData) (one : AreOne old.orderer old.des
   leads_waiting : (mid new : BothPartsData) (x outs : List Output) → TakesInput input old due_work.Waiting mid x → NumbersWaitingRequests mid x new outs → BothPartsStayRight old input outs new
   leads_waiting mid new x outs t n c past f =
       let runs = f.runs in
-      let b = t.begins c past runs (known c past f) in
+      let b = t.begins c past runs f.members_are in
       ends_numbered c past mid mid new x outs f runs t.party (same_party mid) n (omega arith) b.1.0 b.0 b.2 (b.1.1.0, λ outputs executed above. b.1.1.1 outputs executed)
 
   leads_row : (number : Number) (mid new : BothPartsData) (x outs : List Output) → TakesInput input old (due_work.Row number) mid x → FollowsUp (due_work.Row number) mid x new outs → BothPartsStayRight old input outs new
   leads_row number mid new x outs t (voted, y, g, n) c past f =
       let runs = f.runs in
-      let b = t.begins c past runs (known c past f) in
-      let st = g.proceeds b.1.0 c (event_with c old past runs input) (known c past f ∙ sym t.party.membership) b.0 in
+      let b = t.begins c past runs f.members_are in
+      let st = g.proceeds b.1.0 c (event_with c old past runs input) (known c past mid t.party f) b.0 in
       ends_numbered c past mid voted new y outs f runs t.party g.party n g.rises (g.rests b.1.0) st b.2
       (beside_answered c (me_of mid) (event_with c old past runs input) mid.desk.executed.state.number b.1.1)
 
   leads_state : (mid new : BothPartsData) (x outs : List Output) → TakesInput input old due_work.State mid x → ExecutesAndNumbers mid x new outs → BothPartsStayRight old input outs new
   leads_state mid new x outs t (run, y, g, n) c past f =
       let runs = f.runs in
-      let b = t.begins c past runs (known c past f) in
-      let st = g.proceeds b.1.0 c (event_with c old past runs input) (known c past f ∙ sym t.party.membership) b.0 in
+      let b = t.begins c past runs f.members_are in
+      let st = g.proceeds b.1.0 c (event_with c old past runs input) (known c past mid t.party f) b.0 in
       ends_numbered c past mid run new y outs f runs t.party g.party n g.rises (g.rests b.1.0) st b.2 (b.1.1, b.1.2)
 
   leads_view : (mid new : BothPartsData) (x outs : List Output) → TakesInput input old due_work.View mid x → ExecutesAndNumbers mid x new outs → BothPartsStayRight old input outs new
   leads_view mid new x outs t (run, y, g, n) c past f =
       let runs = f.runs in
-      let b = t.begins c past runs (known c past f) in
+      let b = t.begins c past runs f.members_are in
       let s = event_with c old past runs input in
       let first = ones_twice old mid run t.party (one_of_same mid run g.party) in
-      let st = g.proceeds b.1.0 c s (known c past f ∙ sym t.party.membership) b.0 in
+      let st = g.proceeds b.1.0 c s (known c past mid t.party f) b.0 in
       let whole = ones_twice old run new first (one_of_same run new n.party) in
-      let p = n.proceeds (g.rests b.1.0) c s (known c past f ∙ sym first.membership) st in
+      let p = n.proceeds (g.rests b.1.0) c s (known c past run first f) st in
       let there : target (histories.after_outputs s (given (me_of old) outs)) ≡ new.orderer.target =
       subst (λ (m : ℕ). target (histories.after_outputs s (given m outs)) ≡ new.orderer.target) (whole.me ∙ one.0) p.fits.changes.target in
       ends old new one whole c past input outs f runs is_input p (n.rests (g.rests b.1.0)) n.all

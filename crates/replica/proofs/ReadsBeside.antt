@@ -68,7 +68,7 @@ addressed c me past client timestamp number a (signature s) h = tt
 -- ---- an answered read
 
 module _ (c : Configuration) (me : ℕ) (h : List Entry) (p : Point) (bytes answer : List ℕ) (client timestamp : ℕ) (op : Operation) (proceeds : HistoryIsPrompt c me h [] p p) (fetched : QuorumsFetched c p.state.number h)
-    (receives : authentic (members c) me bytes ≡ Some (read_from client timestamp op)) (is_read : is_read_only op ≡ true)
+    (receives : authentic (members c me) me bytes ≡ Some (read_from client timestamp op)) (is_read : is_read_only op ≡ true)
     (frame : IsOutgoing c me (read_reply p.state client timestamp op) (client ∷ []) answer) where
   abbrev now : List Entry
   now = Sent me answer ∷ Got me bytes ∷ h
@@ -79,7 +79,7 @@ module _ (c : Configuration) (me : ℕ) (h : List Entry) (p : Point) (bytes answ
   pub waits : waiting_after c me p bytes ≡ p.waiting
   waits = ap (λ (o : Option Body). option_map_or (with_waiting p.state p.waiting) (option_and_then (call_in c) o) p.waiting) receives
 
-  read_only : (b : Body) → authentic (members c) me bytes ≡ Some b → is_read_request b ≡ true
+  read_only : (b : Body) → authentic (members c me) me bytes ≡ Some b → is_read_request b ≡ true
   read_only b other = ap is_read_request (some_injective b (read_from client timestamp op) (sym other ∙ receives))
 
   reply_only : (b : Body) → said answer ≡ Some b → is_read_reply b ≡ true
@@ -135,7 +135,7 @@ module _ (c : Configuration) (me : ℕ) (h : List Entry) (p : Point) (bytes answ
         (can_begin_idle c me (Got me bytes ∷ h) (Sent me answer) sent_quiet (idle_same c me (Sent me answer) sent_quiet (Got me bytes ∷ h)) other can))));
     view_changes = λ vc other moves may within says. absurd (no_reason c me h bytes p.waiting vc.view (λ s x asks. let bad : false ≡ true = read_only (record { sender = s; message = ViewChange x }) asks in absurd cc) moves);
     dropped = λ other got drops. let at : bytes ≡ other = cc in
-        absurd (drops (read_from client timestamp op) (subst (λ (b : List ℕ). authentic (members c) me b ≡ Some (read_from client timestamp op)) at receives) is_read);
+        absurd (drops (read_from client timestamp op) (subst (λ (b : List ℕ). authentic (members c me) me b ≡ Some (read_from client timestamp op)) at receives) is_read);
   }
     where
       no_execution : (k : ℕ) → Has (λ e. Executes k [] e) (Sent me answer ∷ []) → ⊥

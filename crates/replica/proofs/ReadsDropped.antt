@@ -35,18 +35,18 @@ no_call c s _ h = absurd cc
 
 module _ (c : Configuration) (me : ℕ) (h : List Entry) (p : Point) (bytes : List ℕ) (proceeds : HistoryIsPrompt c me h [] p p) (fetched : QuorumsFetched c p.state.number h)
     (says : (body : Body) → said bytes ≡ Some body → is_read_request body ≡ true)
-    (never : (client timestamp : ℕ) (op : Operation) → authentic (members c) me bytes ≡ Some (read_from client timestamp op) → is_read_only op ≡ true → ⊥) where
+    (never : (client timestamp : ℕ) (op : Operation) → authentic (members c me) me bytes ≡ Some (read_from client timestamp op) → is_read_only op ≡ true → ⊥) where
   abbrev now : List Entry
   now = Got me bytes ∷ h
 
-  reads : (body : Body) → authentic (members c) me bytes ≡ Some body → is_read_request body ≡ true
+  reads : (body : Body) → authentic (members c me) me bytes ≡ Some body → is_read_request body ≡ true
   reads body is = says body (heard_said c me bytes body is)
 
   abbrev mid : Point
   mid = record p { ran = []; waiting = waiting_after c me p bytes }
 
   pub waits : waiting_after c me p bytes ≡ p.waiting
-  waits = go (authentic (members c) me bytes) reads
+  waits = go (authentic (members c me) me bytes) reads
     where
       go : (o : Option Body) → ((body : Body) → o ≡ Some body → is_read_request body ≡ true) → option_map_or (with_waiting p.state p.waiting) (option_and_then (call_in c) o) p.waiting ≡ p.waiting
       go None r = refl

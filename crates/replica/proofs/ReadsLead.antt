@@ -24,7 +24,7 @@ use Rattle.replica_histories.specs.Questions.{read_from, read_reply}
 use Rattle.replica_histories.specs.Transfers.{FitsStateTransfer}
 use Rattle.replica_histories.specs.TransfersQuorums.{QuorumsFetched}
 use Rattle.replica_histories.proofs.Transfers.{open_stays, asks_none}
-use Rattle.replica.specs.State.{DeskPart, IsDeskPart}
+use Rattle.replica.specs.State.{MemberData, DeskPart, IsDeskPart}
 use Rattle.desk.specs.State.{DeskData}
 use Rattle.orderer.specs.Flags.{FitsFlags}
 use Rattle.replica.specs.Idle.{BringsNothing}
@@ -79,7 +79,7 @@ module _ (c : Configuration) (me : ℕ) (d : DeskData) (h : List Entry) (bytes :
 
   -- ---- answered
 
-  module _ (client t : ℕ) (op : Operation) (answer : List ℕ) (receives : authentic (members c) me bytes ≡ Some (read_from client t op)) (is_read : is_read_only op ≡ true)
+  module _ (client t : ℕ) (op : Operation) (answer : List ℕ) (receives : authentic (members c me) me bytes ≡ Some (read_from client t op)) (is_read : is_read_only op ≡ true)
       (frame : IsOutgoing c me (read_reply p.state client t op) (client ∷ []) answer) where
     got_quiet : BringsNothing c me (Got me bytes)
     got_quiet = beside.got_quiet c me h p bytes answer client t op hd.holds.proceeds fetched receives is_read frame
@@ -102,7 +102,7 @@ module _ (c : Configuration) (me : ℕ) (d : DeskData) (h : List Entry) (bytes :
 
   -- ---- dropped
 
-  module _ (never : (client t : ℕ) (op : Operation) → authentic (members c) me bytes ≡ Some (read_from client t op) → is_read_only op ≡ true → ⊥) where
+  module _ (never : (client t : ℕ) (op : Operation) → authentic (members c me) me bytes ≡ Some (read_from client t op) → is_read_only op ≡ true → ⊥) where
     says : (body : Body) → said bytes ≡ Some body → is_read_request body ≡ true
     says body is = marked_are_requests bytes body marks is
 
@@ -120,9 +120,9 @@ module _ (c : Configuration) (me : ℕ) (d : DeskData) (h : List Entry) (bytes :
 
   -- ---- whatever the desk gives
 
-  module _ (known : members c ≡ d.membership) (mine : d.me ≡ me) where
-    hears_so : (o : Option Body) → authentic d.membership d.me bytes ≡ o → authentic (members c) me bytes ≡ o
-    hears_so o is = ap (λ m. authentic m me bytes) known ∙ ap (λ n. authentic d.membership n bytes) (sym mine) ∙ is
+  module _ (mine : d.me ≡ me) where
+    hears_so : (o : Option Body) → authentic d.membership d.me bytes ≡ o → authentic (members c me) me bytes ≡ o
+    hears_so o is = subst (λ (n : ℕ). authentic (members c n) n bytes ≡ o) mine (ap (λ m. authentic m d.me bytes) hd.is_desk.members_are ∙ is)
 
     answers : (outs : List Output) → AnswersRead d bytes [] outs → Left c me d h (after_event me (Got me bytes) outs h)
     answers outs a = subst (λ (os : List Output). Left c me d h (after_event me (Got me bytes) os h)) (sym a.says.given_is)
@@ -134,9 +134,9 @@ module _ (c : Configuration) (me : ℕ) (d : DeskData) (h : List Entry) (bytes :
 
         is_outgoing : IsOutgoing c me (read_reply p.state (256 + a.client.number) a.timestamp a.op) ((256 + a.client.number) ∷ []) a.says.sends_frame.bytes
         is_outgoing = subst (λ (s : State). IsOutgoing c me (read_reply s (256 + a.client.number) a.timestamp a.op) ((256 + a.client.number) ∷ []) a.says.sends_frame.bytes) (sym state_is)
-            (subst (λ (m : ℕ). IsOutgoing c m (read_reply d.executed.state (256 + a.client.number) a.timestamp a.op) ((256 + a.client.number) ∷ []) a.says.sends_frame.bytes) mine (a.says.sends_frame.is_outgoing c known))
+            (subst (λ (m : ℕ). IsOutgoing c m (read_reply d.executed.state (256 + a.client.number) a.timestamp a.op) ((256 + a.client.number) ∷ []) a.says.sends_frame.bytes) mine (a.says.sends_frame.is_outgoing c hd.is_desk.members_are))
 
-    never_heard : ReceivesNoRead d bytes → (client t : ℕ) (op : Operation) → authentic (members c) me bytes ≡ Some (read_from client t op) → is_read_only op ≡ true → ⊥
+    never_heard : ReceivesNoRead d bytes → (client t : ℕ) (op : Operation) → authentic (members c me) me bytes ≡ Some (read_from client t op) → is_read_only op ≡ true → ⊥
     never_heard (inl silent) client t op receives is = absurd (none_some (read_from client t op) (sym (hears_so None silent) ∙ receives))
       where
         none_some : (x : Body) → None ≡ Some x → ⊥
@@ -164,7 +164,7 @@ read_leads part later d bytes outs holds are marks same answers = subst (ReadLea
     leads c me h f = (
       record {
         me_is = f.me_is;
-        members_are = f.members_are;
+        member_is = f.member_is;
         right = l.1;
         running = λ x is. subst (λ (y : DeskData). DeskMatchesHistory c me y (after_event me (Got me bytes) outs h)) (some_injective d x (sym holds ∙ is)) l.0;
       },
@@ -172,11 +172,11 @@ read_leads part later d bytes outs holds are marks same answers = subst (ReadLea
     )
       where
         l : Left c me d h (after_event me (Got me bytes) outs h)
-        l = leaves c me d h bytes (f.running d holds) marks (f.members_are ∙ sym (are d holds).1) ((are d holds).0 ∙ f.me_is) outs answers
+        l = leaves c me d h bytes (f.running d holds) marks (ap (λ (m : MemberData). m.me) (are d holds) ∙ f.me_is) outs answers
 
 -- a read's answer goes to its client
 pub read_sends : (part : DeskPart) (d : DeskData) (bytes : List ℕ) (outs : List Output) → part.holds ≡ Some d → IsDeskPart part → AnswersBytes d bytes [] outs → ReadSendsAsMeant part outs
 read_sends part d bytes outs holds are (inl a) c me h f =
     subst (λ (os : List Output). AreSentAsMeant c me os) (sym a.says.given_is)
-    (subst (λ (k : ℕ). AreSentAsMeant c k (a.says.output ∷ [])) ((are d holds).0 ∙ f.me_is) (a.says.sends_frame.meant c (f.members_are ∙ sym (are d holds).1), tt))
+    (subst (λ (k : ℕ). AreSentAsMeant c k (a.says.output ∷ [])) (ap (λ (m : MemberData). m.me) (are d holds) ∙ f.me_is) (a.says.sends_frame.meant c (f.running d holds).is_desk.members_are, tt))
 read_sends part d bytes outs holds are (inr (none, same)) c me h f = subst (λ (os : List Output). AreSentAsMeant c me os) (sym same) tt

@@ -41,7 +41,7 @@ use Rattle.protocol.proofs.Points.Invoking.{call_body}
 use Rattle.desk.specs.declared.waiting.WaitingRequest.{WaitingRequest}
 use Rattle.replica.specs.declared.taking.DueWork.TheVariants as due_work
 use Rattle.orderer.specs.State.{OrdererData}
-use Rattle.replica.specs.State.{BothPartsData, AreOne}
+use Rattle.replica.specs.State.{BothPartsData, AreOne, Gives, heard}
 use Rattle.desk.specs.State.{DeskData}
 use Rattle.desk.specs.Waiting.{WaitingData, frames_waiting, is_assigned, is_of, request_of, with_request, without_client}
 use Rattle.orderer.specs.Flags.{FitsFlags}
@@ -74,28 +74,28 @@ call_for k t op = record { client = k; timestamp = t; op = op }
 back : (k : ℕ) → 256 + k - 256 ≡ k
 back k = omega arith
 
-module _ (c : Configuration) (me : ℕ) (bytes : List ℕ) (k t : ℕ) (op : Operation) (h : authentic (members c) me bytes ≡ Some (body_of k t op)) where
+module _ (c : Configuration) (me : ℕ) (bytes : List ℕ) (k t : ℕ) (op : Operation) (h : authentic (members c me) me bytes ≡ Some (body_of k t op)) where
   -- the call of the request
   call_is : call_in c (body_of k t op) ≡ Some (call_for k t op)
   call_is = go (is_client c (256 + k)) known
     where
       known : is_client c (256 + k) ≡ true
-      known = let o = authentic_was_opened (members c) me bytes (body_of k t op) h in
-          ap (has_sender (members c)) (sym o.body_is) ∙ o.opens.sender
+      known = let o = authentic_was_opened (members c me) me bytes (body_of k t op) h in
+          ap (has_sender (members c me)) (sym o.body_is) ∙ o.opens.sender
 
       go : (b : Bool) → b ≡ true → cond b (Some (call_for (256 + k - 256) t op)) None ≡ Some (call_for k t op)
       go true e = ap (λ (n : ℕ). Some (call_for n t op)) (back k)
       go false e = absurd cc
 
-  call_heard : option_and_then (call_in c) (authentic (members c) me bytes) ≡ Some (call_for k t op)
+  call_heard : option_and_then (call_in c) (authentic (members c me) me bytes) ≡ Some (call_for k t op)
   call_heard = ap (option_and_then (call_in c)) h ∙ call_is
 
   call_of_bytes : call_of c bytes ≡ Some (call_for k t op)
   call_of_bytes =
-      let o = authentic_was_opened (members c) me bytes (body_of k t op) h in
+      let o = authentic_was_opened (members c me) me bytes (body_of k t op) h in
       ap (option_and_then (call_in c)) (reads_said bytes o.frame o.opens.spelled ∙ ap Some o.body_is) ∙ call_is
 
-  asked_is : (st : State) → replies_again st (authentic (members c) me bytes) ≡ again_for k t (kept_of st k)
+  asked_is : (st : State) → replies_again st (authentic (members c me) me bytes) ≡ again_for k t (kept_of st k)
   asked_is st = ap (replies_again st) h ∙ go (nat_le 256 (256 + k)) (le-leb 256 (256 + k) (omega arith))
     where
       go : (b : Bool) → b ≡ true → cond b (again_for (256 + k - 256) t (kept_of st (256 + k - 256))) [] ≡ again_for k t (kept_of st k)
@@ -117,12 +117,12 @@ module _ (c : Configuration) (me : ℕ) (bytes : List ℕ) (k t : ℕ) (op : Ope
     due_is = sym (asked_is desk.state);
   }
     where
-      here : (frame : List ℕ) → Has (λ x. x ≡ frame) desk.frames ⊎ (frame ≡ bytes) → Has (λ x. x ≡ frame) desk.frames ⊎ ((frame ≡ bytes) × (is_some (authentic (members c) me bytes) ≡ true))
+      here : (frame : List ℕ) → Has (λ x. x ≡ frame) desk.frames ⊎ (frame ≡ bytes) → Has (λ x. x ≡ frame) desk.frames ⊎ ((frame ≡ bytes) × (is_some (authentic (members c me) me bytes) ≡ true))
       here frame (inl x) = inl x
       here frame (inr x) = inr (x, ap is_some h)
 
 -- a request older than the waiting one is not the waiting one
-not_behind : (c : Configuration) (me : ℕ) (bytes : List ℕ) (k t : ℕ) (op : Operation) (r : WaitingRequest) → authentic (members c) me bytes ≡ Some (body_of k t op) → call_of c r.frame.items ≡ Some (call_for k t op)
+not_behind : (c : Configuration) (me : ℕ) (bytes : List ℕ) (k t : ℕ) (op : Operation) (r : WaitingRequest) → authentic (members c me) me bytes ≡ Some (body_of k t op) → call_of c r.frame.items ≡ Some (call_for k t op)
     → waiting_call c r ≡ call_for k t op → IsBehind r t bytes → ⊥
 not_behind c me bytes k t op r receives spells is (inl below) = let same = ap (λ (x : Call). x.timestamp) is in omega (arith, below, same)
 not_behind c me bytes k t op r receives spells is (inr (same, other)) = other (call_body c r.frame.items (call_for k t op) spells ∙ sym (heard_said c me bytes (body_of k t op) receives))
@@ -137,7 +137,7 @@ seen_of_kept st k t kept has same = go (kept_of st k) has
     go (Some x) e = let one : x.timestamp ≡ kept.timestamp = cc in omega (arith, one, same)
 
 module _ (old : BothPartsData) (client : ClientId) (timestamp : Timestamp) (bytes : List ℕ) (one : AreOne old.orderer old.desk) (op : Operation)
-    (receives : authentic old.desk.membership old.desk.me bytes ≡ Some (body_of client.number timestamp.0 op)) where
+    (receives : heard old.orderer bytes ≡ Some (body_of client.number timestamp.0 op)) where
   abbrev k : ℕ
   k = client.number
 
@@ -148,15 +148,15 @@ module _ (old : BothPartsData) (client : ClientId) (timestamp : Timestamp) (byte
   abbrev due : List Message
   due = again_for k t (kept_of old.desk.executed.state k)
 
-  module _ (c : Configuration) (past : List Entry) (runs : BothPartsMatchHistory c old past) (known : members c ≡ old.desk.membership) where
+  module _ (c : Configuration) (past : List Entry) (runs : BothPartsMatchHistory c old past) (known : Gives c old.orderer) where
     abbrev start : Start
     start = event_of c old past runs bytes
 
     abbrev input : Entry
     input = Got (me_of old) bytes
 
-    h : authentic (members c) (me_of old) bytes ≡ Some (body_of k t op)
-    h = ap (λ m. authentic m (me_of old) bytes) known ∙ ap (λ (n : ℕ). authentic old.desk.membership n bytes) (sym one.0) ∙ receives
+    h : authentic (members c (me_of old)) (me_of old) bytes ≡ Some (body_of k t op)
+    h = ap (λ m. authentic m (me_of old) bytes) known ∙ receives
 
     -- it brings no new view
     free : taken c past input ≡ None
@@ -259,7 +259,7 @@ module _ (old : BothPartsData) (client : ClientId) (timestamp : Timestamp) (byte
   takes_kept outs pays (kept, has, same) = record {
     party = one_self old;
     begins = λ c past runs known. (
-      pays c (start c past runs known) old.orderer known (stands_seen c past runs known (seen_of_kept old.desk.executed.state k t kept has same)),
+      pays c (start c past runs known) old.orderer (stands_seen c past runs known (seen_of_kept old.desk.executed.state k t kept has same)),
       leaves c past runs known outs (owes_none c past runs known (seen_fresh c past runs known (seen_of_kept old.desk.executed.state k t kept has same)) (given (me_of old) outs) old.desk.executed.state.number)
           (inr (counts c past runs known (inl (kept, has, same)))),
       runs.nothing_begins,
@@ -294,11 +294,11 @@ module _ (old : BothPartsData) (client : ClientId) (timestamp : Timestamp) (byte
     );
   }
     where
-      given_again : (c : Configuration) (past : List Entry) (runs : BothPartsMatchHistory c old past) (known : members c ≡ old.desk.membership)
+      given_again : (c : Configuration) (past : List Entry) (runs : BothPartsMatchHistory c old past) (known : Gives c old.orderer)
           → AnswersInput c (me_of old) past (Got (me_of old) bytes) (given (me_of old) outs) runs.holds.of_desk.point old.desk.executed.state.number
       given_again c past runs known =
           resending_suffices c (me_of old) (desk_of c old.desk) old.orderer.log past (Got (me_of old) bytes) (given (me_of old) outs) (changes_held old.orderer) (call_for k t op) old.desk.executed.state.number runs.holds runs.changes (h c past runs known)
-          (all_goes c old.orderer outs (known ∙ one.1) runs.holds.of_log.fits.own old.desk.executed.state.number again.active again.inactive)
+          (all_goes c old.orderer outs known runs.holds.of_log.fits.own old.desk.executed.state.number again.active again.inactive)
 
   -- a newer request waits
   module _ (outs : List Output) (desk : DeskData) (none : due ≡ []) (silent : outs ≡ []) (newer : IsNewer old.desk k t) (waits : RequestWaits client timestamp bytes old.desk desk) where
@@ -311,7 +311,7 @@ module _ (old : BothPartsData) (client : ClientId) (timestamp : Timestamp) (byte
     abbrev waiting_desk : DeskData
     waiting_desk = record old.desk { waiting = more }
 
-    module _ (c : Configuration) (past : List Entry) (runs : BothPartsMatchHistory c old past) (known : members c ≡ old.desk.membership) where
+    module _ (c : Configuration) (past : List Entry) (runs : BothPartsMatchHistory c old past) (known : Gives c old.orderer) where
       abbrev calls : List Call
       calls = waiting_calls c old.desk.waiting.requests
 

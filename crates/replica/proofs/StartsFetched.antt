@@ -4,7 +4,7 @@ use Rattle.terms.specs.declared.state.Level.TheVariants as levels
 use Rattle.wire_format.specs.Messages.{MessageData as Message, CheckpointEntryData as CheckpointEntry, NewViewData, fetch as Fetch}
 use Rattle.events.specs.declared.output.Output.{Output}
 use Rattle.state_transfer.specs.Transfer.{TransferData}
-use Rattle.protocol.specs.System.Configuration.{Configuration, members}
+use Rattle.protocol.specs.System.Configuration.{Configuration}
 use Rattle.protocol.specs.System.Trace.{Once}
 use Rattle.protocol.specs.Replica.Certificates.{taken}
 use Rattle.protocol.specs.Replica.State.{pages_of}
@@ -20,6 +20,7 @@ use Rattle.orderer.specs.Multicasting.{Multicasts}
 use Rattle.replica.proofs.Following.{aim_of, aimed_same, opened_same, asks_root}
 use Rattle.orderer.specs.Fitting.{given, FitsEvent}
 use Rattle.orderer.proofs.Voting.{asks_due}
+use Rattle.replica.specs.State.{Gives}
 
 module _ (c : Configuration) (s : Start) (o : OrdererData) (d : DeskData) (w : WaitingData) (new : NewViewData) (before after : List Output) where
   abbrev pub start_of : CheckpointEntry
@@ -35,7 +36,7 @@ module _ (c : Configuration) (s : Start) (o : OrdererData) (d : DeskData) (w : W
       (subst (λ (n : ℕ). n < new.start) (sym (aimed_same d.executed.state.number d.transfer)) ahead) f.fits)
 
   -- The due fetch is sent, and the transfer is open after it.
-  pub start_aims : (rest : List Message) → members c ≡ o.endpoint.membership → Once (λ past e. taken c past e ≡ Some new) (after_outputs s (given o.endpoint.me before)) → target_number d < new.start
+  pub start_aims : (rest : List Message) → Gives c o → Once (λ past e. taken c past e ≡ Some new) (after_outputs s (given o.endpoint.me before)) → target_number d < new.start
       → Multicasts o (fetch_of (aim_of start_of d).transfer) before after → FitsEvent c o.endpoint.me s o (desk_of c d) w (Fetch new.start levels.Root 0 ∷ rest) before
       → FitsEvent c o.endpoint.me s o (desk_of c (with_target start_of d)) w rest after
   start_aims rest known once ahead says f =

@@ -3,7 +3,7 @@ use Rattle.std.proofs.Common.{◌≡◌, ◌≢◌, ℕ, suc, ◌+◌, ◌^◌, 
 use Rattle.std.proofs.Common.{refl, sym, ap, ap₂, ◌∙◌, subst, arith}
 use Rattle.std.proofs.lemmas.Bool.{leb-false, leb-true, ltb-true}
 use Rattle.events.specs.declared.output.Output.{Output}
-use Rattle.protocol.specs.System.Configuration.{Configuration, members}
+use Rattle.protocol.specs.System.Configuration.{Configuration}
 use Rattle.protocol.specs.System.Trace.{Entry}
 use Rattle.protocol.specs.System.Trace.Entry.{Tick}
 use Rattle.protocol.specs.Replica.Certificates.{view, target}
@@ -30,7 +30,7 @@ use Rattle.replica.specs.declared.taking.DueWork.{DueWork}
 use Rattle.replica.specs.declared.taking.DueWork.TheVariants as due_work
 use Rattle.state_transfer.specs.Transfer.{TransferData}
 use Rattle.orderer.specs.State.{OrdererData}
-use Rattle.replica.specs.State.{BothPartsData, AreOne}
+use Rattle.replica.specs.State.{BothPartsData, AreOne, Gives}
 use Rattle.desk.specs.State.{OpenData}
 use Rattle.desk.specs.DeskOf.{waiting_calls, desk_of}
 use Rattle.replica.specs.Beginning.{MayBegin, HasNoView}
@@ -48,7 +48,7 @@ use Rattle.orderer.proofs.Voting.{asks_again}
 use Rattle.replica.proofs.Beginning.{rests}
 use Rattle.replica.proofs.Choosing.{active_begins_none}
 use Rattle.orderer.proofs.ChangingViews.{unsaid_spent}
-use Rattle.replica.proofs.Parties.{one_self, ones_twice}
+use Rattle.replica.proofs.Parties.{gives_on, one_self, ones_twice}
 use Rattle.orderer.proofs.Staying.{numbers_beside, said_on}
 
 module _ (r : BothPartsData) (one : AreOne r.orderer r.desk) where
@@ -91,7 +91,7 @@ module _ (r : BothPartsData) (one : AreOne r.orderer r.desk) where
     open_is x there = ap (option_map (λ (y : OpenData). y.transfer)) there
 
     -- an open transfer asks again
-    goes_on : (outs : List Output) → members c ≡ o.endpoint.membership → MulticastsFetch r [] outs
+    goes_on : (outs : List Output) → Gives c o → MulticastsFetch r [] outs
         → FitsEvent c me start o (desk_of c r.desk) r.desk.waiting [] outs
     goes_on outs known (inl (none, same)) =
         let closed : (desk_of c r.desk).transfer ≡ None = ap (option_map (λ (y : OpenData). y.transfer)) none in
@@ -104,12 +104,12 @@ module _ (r : BothPartsData) (one : AreOne r.orderer r.desk) where
         asks_again c start o (desk_of c r.desk) r.desk.waiting [] outs x.transfer known says [] (open_is x there) again.0 again.1
         (subst (λ (t : Option TransferData). FitsEvent c me start o (desk_of c r.desk) r.desk.waiting (again_due t) []) (open_is x there) begins)
 
-    stands : (outs : List Output) → members c ≡ r.desk.membership → MulticastsFetch r [] outs
+    stands : (outs : List Output) → Gives c r.orderer → MulticastsFetch r [] outs
         → PartsFitEvent c start o r.desk [] outs
     stands outs known says = record {
       is = runs.is_desk;
       fits = subst (λ (m : ℕ). FitsEvent c m start o (desk_of c r.desk) r.desk.waiting [] outs) (sym one.0)
-          (goes_on outs (known ∙ one.1) says);
+          (goes_on outs known says);
     }
 
     -- ---- whether a view change is due
@@ -150,7 +150,7 @@ module _ (r : BothPartsData) (one : AreOne r.orderer r.desk) where
     view_due v w due reason = let next = (times w reason).1 in let is = sought_is in let due_is = due.1 in omega (arith, next, is, due_is)
 
     -- nor if it can't be sent
-    unsaid_move : (v : ℕ) → JudgesAlike o → ChangesAreJudged → members c ≡ r.desk.membership → IsDue r v → IsUnsendable o (change_for v (entries_of r.desk.snapshots) o) → (outputs : List Entry)
+    unsaid_move : (v : ℕ) → JudgesAlike o → ChangesAreJudged → Gives c r.orderer → IsDue r v → IsUnsendable o (change_for v (entries_of r.desk.snapshots) o) → (outputs : List Entry)
         → OwesViewChange c me past tick outputs point
     unsaid_move v alike judge known due unsaid outputs vc bytes reason may within says = inr (all_are_spent c me o.log (changes_held o) past spent runs.changes)
       where
@@ -163,7 +163,7 @@ module _ (r : BothPartsData) (one : AreOne r.orderer r.desk) where
         spent : o.spent ≡ 64
         spent =
             unsaid_spent c me (desk_of c r.desk) o (tick ∷ past) point passes.new v passes.fits_behind passes.goes (rests c r past runs).0 kept held runs.holds.of_log.fits.own refl judge
-            (λ x. sym ((alike c (known ∙ one.1) (runs.is_desk.period_is ∙ sym one.2)).within x))
+            (λ x. sym ((alike c known (runs.is_desk.period_is ∙ sym one.1)).within x))
             unsaid vc bytes (view_due v vc.view due reason) may within says
 
     -- what a tick asks for
@@ -234,7 +234,7 @@ module _ (r : BothPartsData) (one : AreOne r.orderer r.desk) where
     none_numbered : IsAllNumbered mid
     none_numbered next = absurd (let active = next.3 in let inactive = left.inactive in cc)
 
-    stands_left : (c : Configuration) (past : List Entry) (runs : BothPartsMatchHistory c r past) → members c ≡ r.desk.membership
+    stands_left : (c : Configuration) (past : List Entry) (runs : BothPartsMatchHistory c r past) → Gives c r.orderer
         → PartsFitEvent c (start c past runs) mid.orderer mid.desk [] y
     stands_left c past runs known =
         left.stands c (start c past runs) known (rests c r past runs).0 (has_reason v due c past runs) (stands c past runs x known says)
@@ -248,7 +248,7 @@ module _ (r : BothPartsData) (one : AreOne r.orderer r.desk) where
     mine : mid.desk.me ≡ me
     mine = left.party.me ∙ one.0
 
-    target_left : (c : Configuration) (past : List Entry) (runs : BothPartsMatchHistory c r past) → members c ≡ r.desk.membership → target (after_outputs (start c past runs) (given me y)) ≡ v
+    target_left : (c : Configuration) (past : List Entry) (runs : BothPartsMatchHistory c r past) → Gives c r.orderer → target (after_outputs (start c past runs) (given me y)) ≡ v
     target_left c past runs known =
         subst (λ (m : ℕ). target (after_outputs (start c past runs) (given m y)) ≡ mid.orderer.target) mine (stands_left c past runs known).fits.changes.target ∙ left.target
 
@@ -261,7 +261,7 @@ module _ (r : BothPartsData) (one : AreOne r.orderer r.desk) where
         leaves c past runs mid y (at_rest c past runs) none_numbered
             (subst (λ (e : EndpointState). AnswersInput c e.me past tick (given e.me y) runs.holds.of_desk.point mid.desk.executed.state.number) (sym left.party.endpoint)
             (moved c past runs (given me y) mid.desk.executed.state.number (target_left c past runs known))),
-        none c (stands_left c past runs known).is.members_are (stands_left c past runs known).is.period_is,
+        none c (gives_on c o mid.orderer left.party.endpoint known) (stands_left c past runs known).is.period_is,
       );
     }
 
@@ -274,7 +274,7 @@ module _ (r : BothPartsData) (one : AreOne r.orderer r.desk) where
     begins_then due_work.View new outs b = record {
       party = ones_twice r mid new left.party b.party;
       begins = λ c past runs known. (
-        b.stands c (start c past runs) (known ∙ sym left.party.membership) (at_rest c past runs)
+        b.stands c (start c past runs) (gives_on c o mid.orderer left.party.endpoint known) (at_rest c past runs)
             (stands_left c past runs known),
         (
           b.voted (at_rest c past runs),

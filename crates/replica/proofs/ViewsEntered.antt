@@ -15,7 +15,7 @@ use Rattle.ordering.specs.Keeping.{IsLog}
 use Rattle.ordering.proofs.Reading.{above_low}
 use Rattle.authenticator.specs.Membership.{Membership}
 use Rattle.pq_sets.specs.PqSetsView.{PqSetsData}
-use Rattle.protocol.specs.System.Configuration.{Configuration, members}
+use Rattle.protocol.specs.System.Configuration.{Configuration}
 use Rattle.protocol.specs.System.Trace.{Entry, Once}
 use Rattle.protocol.specs.Replica.Certificates.{brought, taken}
 use Rattle.protocol.proofs.Words.Options.{some_injective}
@@ -32,7 +32,7 @@ use Rattle.replica_histories.proofs.Cutting.{cut_same}
 use Rattle.replica_histories.proofs.NumbersAssigned.{logs_are_of_no_later_view}
 use Rattle.replica_histories.proofs.Words.{given_not}
 use Rattle.desk.specs.declared.waiting.AssignedCall.{AssignedCall}
-use Rattle.replica.specs.State.{BothPartsData, AreOne}
+use Rattle.replica.specs.State.{BothPartsData, AreOne, Gives}
 use Rattle.orderer.specs.State.{OrdererData}
 use Rattle.desk.specs.State.{OpenData, DeskData}
 use Rattle.desk.specs.Waiting.{WaitingData, with_view}
@@ -157,7 +157,7 @@ entered_party new own r before n after x = record {
     so : FetchedSo (entered_parts new own x.pq_sets x.calls r) x.fetched
     so = fetched_so (start_in new) (entered_parts new own x.pq_sets x.calls r) x.fetched before x.said x.fetches
 
-module _ (c : Configuration) (s : Start) (r n : BothPartsData) (new : NewViewData) (before after : List Output) (known : members c ≡ r.orderer.endpoint.membership) (mine : r.desk.me ≡ r.orderer.endpoint.me)
+module _ (c : Configuration) (s : Start) (r n : BothPartsData) (new : NewViewData) (before after : List Output) (known : Gives c r.orderer) (mine : r.desk.me ≡ r.orderer.endpoint.me)
     (is : IsDeskOf c r.desk) (once : Once (λ past e. taken c past e ≡ Some new) (after_outputs s (given r.orderer.endpoint.me before)))
     (f : FitsEvent c r.orderer.endpoint.me s r.orderer (desk_of c r.desk) r.desk.waiting (start_due (desk_of c r.desk) new) before) where
   -- the fetch is due, if the start is above the fetched number
@@ -250,7 +250,7 @@ entered_active new own r before n after is small x =
 
 -- What fits after the new view, before any fetch: the numbers are those of its calls, and its batches are in Q.
 module _ (c : Configuration) (s : Start) (r : BothPartsData) (new : NewViewData) (own : Option (List ℕ)) (before : List Output) (past : List Entry) (e : Entry) (sender : ℕ)
-    (one : AreOne r.orderer r.desk) (clients : r.desk.executed.clients ≡ r.desk.membership.clients) (is : IsDeskOf c r.desk)
+    (one : AreOne r.orderer r.desk) (clients : r.desk.executed.clients ≡ r.desk.membership.clients) (is : IsDeskOf c r.desk) (known : Gives c r.orderer)
     (at : after_outputs s (given r.orderer.endpoint.me before) ≡ e ∷ past) (meant : AreSentAsMeant c r.orderer.endpoint.me before)
     (fits : histories.BothFitWithinEvent c r.orderer.endpoint.me s (desk_from (entered_log r.orderer.log new).low (desk_of c r.desk)) (entered_log r.orderer.log new) (start_due (desk_of c r.desk) new) (given r.orderer.endpoint.me before))
     (passes : LogPassesEntry c r.orderer.endpoint.me past e r.orderer.log (entered_log r.orderer.log new)) (t : taken c past e ≡ Some new) (brings : brought c e ≡ Some (record { sender = sender; message = NewView new }))
@@ -302,7 +302,7 @@ module _ (c : Configuration) (s : Start) (r : BothPartsData) (new : NewViewData)
 
     fetched : PartsFitEvent c s x.fetched.orderer x.fetched.desk [] x.said
     fetched =
-        fetched_stands c s assigned x.fetched new before x.said (is.members_are ∙ one.1) one.0 (assigned_is c low x.calls r.desk is) (subst (Once (λ past e. taken c past e ≡ Some new)) (sym at) (inl t))
+        fetched_stands c s assigned x.fetched new before x.said known one.0 (assigned_is c low x.calls r.desk is) (subst (Once (λ past e. taken c past e ≡ Some new)) (sym at) (inl t))
         (subst (λ (desk : Desk). FitsEvent c me s o desk w (start_due later new) before) (sym desk_is) fits_event) x.fetches
 
     same : FetchedSo assigned x.fetched
@@ -311,14 +311,14 @@ module _ (c : Configuration) (s : Start) (r : BothPartsData) (new : NewViewData)
     mine : x.fetched.desk.me ≡ x.fetched.orderer.endpoint.me
     mine = same.me ∙ one.0 ∙ ap (λ (k : OrdererData). k.endpoint.me) (sym same.orderer)
 
-    known : members c ≡ x.fetched.orderer.endpoint.membership
-    known = is.members_are ∙ one.1 ∙ ap (λ (k : OrdererData). k.endpoint.membership) (sym same.orderer)
+    still_known : Gives c x.fetched.orderer
+    still_known = subst (Gives c) (sym same.orderer) known
 
     pub entered_stands : PartsFitEvent c s n.orderer n.desk [] after
     entered_stands = subst (λ (y : BothPartsData). PartsFitEvent c s y.orderer y.desk [] after) (sym x.new_is) (record {
       is = fetched.is;
       fits = subst (λ (m : ℕ). FitsEvent c m s x.orderer (desk_of c x.fetched.desk) x.fetched.desk.waiting [] after) (sym mine)
-          (x.votes.goes c s (desk_of c x.fetched.desk) x.fetched.desk.waiting [] known (subst (λ (m : ℕ). FitsEvent c m s x.fetched.orderer (desk_of c x.fetched.desk) x.fetched.desk.waiting [] x.said) mine fetched.fits));
+          (x.votes.goes c s (desk_of c x.fetched.desk) x.fetched.desk.waiting [] still_known (subst (λ (m : ℕ). FitsEvent c m s x.fetched.orderer (desk_of c x.fetched.desk) x.fetched.desk.waiting [] x.said) mine fetched.fits));
     })
 
     pub entered_votes : IsVotedAll n.orderer.log

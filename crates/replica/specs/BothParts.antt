@@ -1,15 +1,15 @@
 -- How a replica with joined parts, within an event, fits a history.
-use Rattle.std.specs.Prelude.{◌≡◌, ℕ, List}
+use Rattle.std.specs.Prelude.{ℕ, List}
 use Rattle.events.specs.Outputs.{after_event, AreSentAsMeant}
 use Rattle.events.specs.declared.output.Output.{Output}
-use Rattle.protocol.specs.System.Configuration.{Configuration, members}
+use Rattle.protocol.specs.System.Configuration.{Configuration}
 use Rattle.protocol.specs.System.Trace.{Entry}
 use Rattle.replica_histories.specs.Events as histories
 use Rattle.protocol.specs.Replica.Owed.{IsReplica}
 use Rattle.replica_histories.specs.Changes.{FitsChanges}
 use Rattle.replica.specs.declared.replica.Event.{Event}
 use Rattle.replica.specs.Inputs.{input_of}
-use Rattle.replica.specs.State.{BothPartsData}
+use Rattle.replica.specs.State.{BothPartsData, Gives}
 use Rattle.desk.specs.DeskOf.{desk_of, IsDeskOf}
 use Rattle.orderer.specs.State.{OrdererData}
 use Rattle.desk.specs.State.{DeskData}
@@ -37,7 +37,7 @@ pub record BothPartsMatchHistory (c : Configuration) (r : BothPartsData) (histor
 
 -- The history is that of a replica that orders requests, and the replica holds what the history says.
 pub record BothPartsFitHistory (c : Configuration) (r : BothPartsData) (history : List Entry) : Type 0 where
-  pub members_are : members c ≡ r.orderer.endpoint.membership
+  pub members_are : Gives c r.orderer
   pub right : IsReplica c (me_of r) history
   pub runs : BothPartsMatchHistory c r history
 

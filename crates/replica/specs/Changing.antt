@@ -1,13 +1,13 @@
 -- The replica's own view changes (Castro and Liskov, TOCS 2002, on view changes).
 use Rattle.std.specs.Prelude.{◌≡◌, ◌≢◌, ℕ, suc, ◌+◌, ◌^◌, ◌≤◌, ◌<◌, ◌⊎◌, Bool, true, false, List, []}
 use Rattle.events.specs.declared.output.Output.{Output}
-use Rattle.protocol.specs.System.Configuration.{Configuration, members}
+use Rattle.protocol.specs.System.Configuration.{Configuration}
 use Rattle.protocol.specs.System.Trace.Entry.{Tick}
 use Rattle.protocol.specs.Replica.Certificates.{view, target}
 use Rattle.protocol.specs.Replica.RightReplica.{sought_view}
 use Rattle.replica_histories.specs.Events.{Start}
 use Rattle.replica_histories.specs.Views.{entries_of}
-use Rattle.replica.specs.State.{BothPartsData}
+use Rattle.replica.specs.State.{BothPartsData, Gives}
 use Rattle.replica.specs.Desks.{PartsFitEvent}
 use Rattle.orderer.specs.ViewChangeOut.{IsJoinedBy, IsUnsendable, target_view, change_for}
 use Rattle.orderer.specs.Going.{IsVotedAll}
@@ -38,7 +38,7 @@ HasReason c s old v =
 -- and the log asks for nothing more.
 pub record LeavesView (v : ℕ) (old : BothPartsData) (before : List Output) (new : BothPartsData) (after : List Output)
     : Type 0 where
-  pub stands : (c : Configuration) (s : Start) → members c ≡ old.desk.membership → IsVotedAll old.orderer.log
+  pub stands : (c : Configuration) (s : Start) → Gives c old.orderer → IsVotedAll old.orderer.log
       → HasReason c s old v → PartsFitEvent c s old.orderer old.desk [] before
       → PartsFitEvent c s new.orderer new.desk [] after
   pub party : IsOneParty old new

@@ -5,11 +5,11 @@ use Rattle.terms.specs.declared.state.Level.TheVariants as levels
 use Rattle.wire_format.specs.Messages.{CheckpointEntryData as CheckpointEntry, fetch as FetchMessage}
 use Rattle.events.specs.declared.output.Output.{Output}
 use Rattle.ordering.specs.Log as logs
-use Rattle.protocol.specs.System.Configuration.{Configuration, members}
+use Rattle.protocol.specs.System.Configuration.{Configuration}
 use Rattle.protocol.specs.Replica.State.{root_of}
 use Rattle.replica_histories.specs.Events.{Start}
 use Rattle.replica_histories.specs.Outputs.{checkpoint_due}
-use Rattle.replica.specs.State.{BothPartsData}
+use Rattle.replica.specs.State.{BothPartsData, Gives}
 use Rattle.desk.specs.State.{DeskData}
 use Rattle.replica.specs.Desks.{PartsFitEvent}
 use Rattle.desk.specs.Desking.{checkpoint_is_due, newest_entry}
@@ -34,7 +34,7 @@ IsDueKept d = checkpoint_is_due d ≡ true
 pub record MulticastsDueCheckpoint (old : BothPartsData) (before : List Output) (new : BothPartsData)
     (after : List Output)
     : Type 0 where
-  pub stands : (c : Configuration) (s : Start) → members c ≡ old.desk.membership → IsVotedAll old.orderer.log
+  pub stands : (c : Configuration) (s : Start) → Gives c old.orderer → IsVotedAll old.orderer.log
       → PartsFitEvent c s old.orderer old.desk (checkpoint_due c old.desk.executed.state) before
       → PartsFitEvent c s new.orderer new.desk [] after
   pub party : IsSameParty old new

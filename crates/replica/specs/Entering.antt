@@ -7,9 +7,8 @@ use Rattle.terms.specs.declared.parties.ReplicaId.{ReplicaId}
 use Rattle.terms.specs.declared.order.Mode.TheVariants as modes
 use Rattle.terms.specs.declared.order.Timestamp.{Timestamp}
 use Rattle.wire_format.specs.Messages.{MessageData as Message, request as Request}
-use Rattle.signing.specs.AuthenticBody.{authentic}
 use Rattle.events.specs.declared.output.Output.{Output}
-use Rattle.protocol.specs.System.Configuration.{Configuration, members}
+use Rattle.protocol.specs.System.Configuration.{Configuration}
 use Rattle.protocol.specs.System.Trace.{Entry}
 use Rattle.protocol.specs.System.Trace.Entry.{Got, Tick}
 use Rattle.protocol.specs.Replica.Certificates.{target}
@@ -19,7 +18,7 @@ use Rattle.replica_histories.specs.Events.{Start, after_outputs, IsTaken}
 use Rattle.desk.specs.DeskOf.{desk_of}
 use Rattle.replica.specs.declared.taking.DueWork.{DueWork}
 use Rattle.replica.specs.declared.taking.DueWork.TheVariants as due_work
-use Rattle.replica.specs.State.{BothPartsData}
+use Rattle.replica.specs.State.{BothPartsData, Gives, heard}
 use Rattle.replica.specs.Beginning.{CannotBegin}
 use Rattle.orderer.specs.Fitting.{given}
 use Rattle.replica.specs.Desks.{PartsFitEvent}
@@ -78,7 +77,7 @@ pub record TakesInput (input : Entry) (old : BothPartsData) (due_work : DueWork)
     (outs : List Output) : Type 0 where
   pub party : IsOneParty old new
   pub begins : (c : Configuration) (past : List Entry) (runs : BothPartsMatchHistory c old past)
-      → members c ≡ old.desk.membership
+      → Gives c old.orderer
       → PartsFitEvent c (event_with c old past runs input) new.orderer new.desk [] outs
       × IsLeftToDo c (event_with c old past runs input) due_work new outs × CannotBegin c new.orderer
 
@@ -94,7 +93,7 @@ abbrev pub TakesRequest :
     ClientId → Timestamp → List ℕ → BothPartsData → DueWork → BothPartsData → List Output → Type 0
 TakesRequest client timestamp bytes old due_work new outs =
     (op : Operation)
-    → authentic old.desk.membership old.desk.me bytes
+    → heard old.orderer bytes
     ≡ Some (record { sender = client_party client.number; message = Request timestamp.0 modes.Ordered op })
     → TakesBytes bytes old due_work new outs
 
@@ -102,5 +101,5 @@ TakesRequest client timestamp bytes old due_work new outs =
 abbrev pub TakesMessage : ReplicaId → Message → BothPartsData → DueWork → BothPartsData → List Output → Type 0
 TakesMessage sender message old due_work new outs =
     (bytes : List ℕ)
-    → authentic old.desk.membership old.desk.me bytes ≡ Some (record { sender = sender.0; message = message })
+    → heard old.orderer bytes ≡ Some (record { sender = sender.0; message = message })
     → TakesBytes bytes old due_work new outs

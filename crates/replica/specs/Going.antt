@@ -3,10 +3,10 @@ use Rattle.std.specs.Prelude.{◌≡◌, ℕ, suc, ◌≤◌, Bool, true, false,
 use Rattle.events.specs.declared.output.Output.{Output}
 use Rattle.ordering.specs.Log as logs
 use Rattle.ordering.specs.Log.{LogData}
-use Rattle.protocol.specs.System.Configuration.{Configuration, members}
+use Rattle.protocol.specs.System.Configuration.{Configuration}
 use Rattle.replica_histories.specs.Events.{Start}
 use Rattle.orderer.specs.Going.{IsVotedAll, IsVotedBut, CommitsNoMore, IsSameOrderer}
-use Rattle.replica.specs.State.{BothPartsData}
+use Rattle.replica.specs.State.{BothPartsData, Gives}
 use Rattle.desk.specs.State.{DeskData}
 use Rattle.desk.specs.Waiting.{count_unnumbered}
 use Rattle.replica.specs.Desks.{PartsFitEvent}
@@ -26,7 +26,7 @@ pub record IsSameParty (old new : BothPartsData) : Type 0 where
 -- what stands with the earlier outputs, stands with the later ones
 abbrev pub FitIsKept : BothPartsData → List Output → BothPartsData → List Output → Type 0
 FitIsKept old before new after =
-    (c : Configuration) (s : Start) → members c ≡ old.desk.membership → PartsFitEvent c s old.orderer old.desk [] before
+    (c : Configuration) (s : Start) → Gives c old.orderer → PartsFitEvent c s old.orderer old.desk [] before
     → PartsFitEvent c s new.orderer new.desk [] after
 
 -- no batch is committed for the next number

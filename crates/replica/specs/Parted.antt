@@ -13,7 +13,7 @@ use Rattle.protocol.specs.Replica.Owed.{IsReplica}
 use Rattle.replica_histories.specs.Events as histories
 use Rattle.replica_histories.specs.Changes.{FitsChanges}
 use Rattle.replica.specs.declared.replica.Event.{Event}
-use Rattle.replica.specs.State.{OrdererPart, DeskPart, AreOne}
+use Rattle.replica.specs.State.{OrdererPart, DeskPart, AreOne, member_of}
 use Rattle.desk.specs.DeskOf.{desk_of, waiting_calls, IsDeskOf}
 use Rattle.orderer.specs.State.{OrdererData}
 use Rattle.desk.specs.State.{DeskData}
@@ -58,14 +58,16 @@ pub record OrdererMatchesHistory (c : Configuration) (me : ℕ) (o : OrdererData
 -- The desk is the replica's, and the history a correct one's. Unless the desk stopped, it holds the history's point.
 pub record DeskFitsHistory (c : Configuration) (me : ℕ) (d : DeskPart) (history : List Entry) : Type 0 where
   pub me_is : d.member.me ≡ me
-  pub members_are : members c ≡ d.member.membership
+  pub member_is : member_of (members c me) me ≡ d.member
   pub right : IsReplica c me history
   pub running : ForSome d.holds (λ x. DeskMatchesHistory c me x history)
 
--- The orderer is the replica's. Unless it stopped, it holds what the entries of ordering certify.
+-- The orderer is the replica's. Unless it stopped, it knows what the configuration gives that, and holds what the
+-- entries of ordering certify.
 pub record OrdererFitsHistory (c : Configuration) (me : ℕ) (o : OrdererPart) (ordering : List Entry) : Type 0 where
   pub me_is : o.member.me ≡ me
-  pub members_are : members c ≡ o.member.membership
+  pub member_is : member_of (members c me) me ≡ o.member
+  pub members_are : ForSome o.holds (λ x. members c me ≡ x.endpoint.membership)
   pub running : ForSome o.holds (λ x. OrdererMatchesHistory c me x ordering)
 
 -- both fit one history

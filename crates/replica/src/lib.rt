@@ -39,9 +39,9 @@
 //! # What is proved
 //!
 //! If a history fits a replica before an event, the history with the event's entries fits it afterwards.
-//! [`Replica::new`] fits the empty history, and [`Replica::step`] extends the history by its outputs, also if it stops.
-//! A history that fits is that of a correct replica (`IsReplica`): safe, with all that the replica owes (`Owes`), in
-//! each view.
+//! [`Replica::new`] fits the empty history of each configuration that gives the replica its keys, whoever is faulty
+//! there, and [`Replica::step`] extends the history by its outputs, also if it stops. A history that fits is that of a
+//! correct replica (`IsReplica`): safe, with all that the replica owes (`Owes`), in each view.
 //!
 //! A replica owes numbers, prepares, commits, executions, replies, checkpoints, view changes, new views, and answers to
 //! reads and fetches. It owes the fetches of a state part by part until it is installed, and on a timeout the open
@@ -50,8 +50,9 @@
 //!
 //! If memory runs out, the replica has stopped: it emits nothing, then and later. The parts extend the same histories,
 //! steps and reads in any order: the desk fits the whole history, the orderer fits it without what stands beside
-//! ordering. An orderer and a desk of another replica emit nothing together, and neither changes. Each frame that a
-//! step or a read sends goes exactly to the parties for whom it is.
+//! ordering. An orderer and a desk of another replica emit nothing together, and neither changes. A part is told by its
+//! replica's number, the numbers of its system, and a code that its keys give (`MemberData`). Each frame that a step or
+//! a read sends goes exactly to the parties for whom it is.
 //!
 //! # How some events go on
 //!
@@ -78,6 +79,8 @@
 //! - The contracts are relations that any history passes through. If a history fitted the outputs before the call, it
 //!   fits those after it: `KeepsFitting` of the orderer, `FitIsKept` of both parts. So two calls compose, and a loop's
 //!   invariant is its contract.
+//! - What each part knows is told with the history: its configuration gives it to the orderer (`Gives`) and to the desk
+//!   (`IsDeskOf`). So no step compares the keys of both.
 //! - Within an event `PartsFitEvent` ties both parts, with the messages that are still due, to that history.
 //!   Between events `Fits` ties a replica to a history, and `HistoryStaysRight` hands every such history on.
 //! - The desk's data tell the desk of the history (`desk_of` in `desk/specs/DeskOf.antt`). `IsDeskOf` says what is
@@ -114,4 +117,4 @@ pub use parted::{Desk, Orderer};
 pub use parted_laws::{
     marks_tell_reads, parts_are_whole, reads_are_idle, running_replicas_are_prompt,
 };
-pub use replica::{Event, Replica};
+pub use replica::{Event, Numbers, Replica};

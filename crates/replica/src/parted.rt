@@ -6,6 +6,7 @@
 ghost use Rattle.std.specs.Prelude.{◌≡◌, ◌⊎◌, ◌↔◌, true, false, [], None, Some, Err, is_none, IfOk, IsOk, OnErr, OnOk, IsTrue};
 ghost use Rattle.events.specs.declared.output.Stop.TheVariants as Stop;
 ghost use Rattle.replica.specs.MemberView.{member_data};
+ghost use Rattle.replica.specs.State.{member_of};
 ghost use Rattle.replica.specs.Parted.{AreTogether, BothLead, BothSendAsMeant, DeskStops, OrdererStops, ReadLeads, ReadSendsAsMeant};
 ghost use Rattle.wire.specs.Marks.{asks_read};
 
@@ -62,8 +63,8 @@ impl Model for Desk {
 
 impl Orderer {
     pub(crate) fn new(member: Member, orderer: OrdererState) -> Orderer
-        requires me { orderer.endpoint.me ≡ (member_data member).me }
-        requires membership { orderer.endpoint.membership ≡ (member_data member).membership }
+        requires member { member_of orderer.endpoint.membership orderer.endpoint.me
+            ≡ member_data member }
         ensures { result ≡ record { member = member_data member; holds = Some orderer } }
     {
         Orderer {
@@ -214,8 +215,7 @@ fn take_desk(holds: &mut Option<DeskState>) -> DeskState
 
 impl Desk {
     pub(crate) fn new(member: Member, desk: DeskState) -> Desk
-        requires me { desk.me ≡ (member_data member).me }
-        requires membership { desk.membership ≡ (member_data member).membership }
+        requires member { member_of desk.membership desk.me ≡ member_data member }
         ensures { result ≡ record { member = member_data member; holds = Some desk } }
     {
         Desk {

@@ -1,8 +1,11 @@
 //! A replica.
 
-ghost use Rattle.std.specs.Prelude.{◌≡◌, ◌↔◌, ◌+◌, ◌*◌, ◌<◌, true, false, [], Err, IfOk, IfSome, OnErr, is_none};
+ghost use Rattle.std.specs.Prelude.{◌≡◌, ◌↔◌, ◌+◌, ◌*◌, ◌<◌, ◌≤◌, true, false, [], Some, Err, IfOk, IfSome, OnErr, is_none, slice_get};
 ghost use Rattle.events.specs.declared.output.Stop.TheVariants as Stop;
 ghost use Rattle.protocol.specs.System.Configuration.{Configuration, members};
+ghost use Rattle.signing.specs.Publics.{knows};
+ghost use Rattle.signing.specs.Signatures.{public_key};
+ghost use Rattle.terms.specs.declared.parties.TheConstants.{MAX_CLIENTS};
 ghost use Rattle.replica.specs.State.{IsReplicaData, has_stopped};
 ghost use Rattle.replica.specs.Fits.{EventLeads, Fits, SendsAsMeant, me_of};
 ghost use Rattle.replica.specs.Standing.{TellsStanding};
@@ -10,14 +13,27 @@ ghost use Rattle.replica.specs.Standing.{TellsStanding};
 use crate::both_parts::BothParts;
 use crate::member::Member;
 use crate::parted::{Desk, Orderer};
+use authenticator::Ring;
 use desk::Desk as DeskState;
-use events::{Config, Outputs, Stop};
+use events::{Outputs, Stop};
 use orderer::Orderer as OrdererState;
 use patience::Standing;
-use signing::PublicKeys;
+use signing::{PublicKeys, Signer};
 use std::alloc::Global;
 use std::marker::Model;
 use terms::{NoMemory, ReplicaId};
+use view_change::Sizes;
+
+/// The numbers of a system that each of its parties knows.
+#[derive(Clone, Copy, Drop)]
+pub struct Numbers {
+    /// How many of `3 * faults + 1` replicas may be faulty, 1 to 3.
+    pub faults: u8,
+    /// How many clients there are, at most 256.
+    pub clients: u16,
+    /// How many batches go from one checkpoint to the next, 1 to 16.
+    pub period: u8,
+}
 
 /// The input of a replica.
 #[derive(Drop)]
@@ -51,8 +67,9 @@ impl Model for Replica {
 }
 
 impl Replica {
-    /// A replica of this configuration before its first event. The public keys are the configuration's. It fits the
-    /// empty history of each configuration with the same members and period: no replica knows who is faulty.
+    /// The replica `me` before its first event. It has a ring of its own keys, its own signer, which has signed nothing
+    /// yet, and the public keys. It fits the empty history of each configuration that gives it these keys and this
+    /// period, whoever is faulty there: no replica knows that.
     ///
     /// # Errors
     ///
@@ -60,21 +77,37 @@ impl Replica {
     #[tactic(auto, using(crate::proofs::PartsLead::one_new))]
     pub fn new(
         alloc: Global,
-        config: &Config,
+        numbers: Numbers,
         me: ReplicaId,
+        mut ring: Ring,
+        signer: Signer,
         publics: PublicKeys,
     ) -> Result<Replica, NoMemory>
-        requires known { me.0 < 3 * config.now.faults + 1 }
-        requires keys { publics ≡ config.now.seed }
-        ensures fits { IfOk result (λ r. (c : Configuration) → members c ≡ members config.now
-            → c.period ≡ config.now.period → Fits c r []) }
+        requires some { 1 ≤ numbers.faults }
+        requires few { numbers.faults ≤ 3 }
+        requires clients { numbers.clients ≤ MAX_CLIENTS }
+        requires period { 1 ≤ numbers.period }
+        requires short { numbers.period ≤ 16 }
+        requires known { me.0 < 3 * numbers.faults + 1 }
+        requires ring_faults { ring.faults ≡ numbers.faults }
+        requires ring_clients { ring.clients ≡ numbers.clients }
+        requires keys { slice_get publics me.0 ≡ Some (public_key signer.seed) }
+        requires unused { signer.used ≡ 0 }
+        ensures fits { IfOk result (λ r. (c : Configuration) → members c me.0 ≡ knows ring publics
+            → c.period ≡ numbers.period → Fits c r []) }
         ensures number { IfOk result (λ r. me_of r ≡ me.0) }
         ensures runs { IfOk result (λ r. has_stopped r ≡ false) }
     {
-        let member = Member::new(config, me);
-        let orderer = OrdererState::new(alloc, config, me, publics)?;
+        let Numbers {
+            faults,
+            clients,
+            period,
+        } = numbers;
+        let member = Member::new(me, faults, clients, &mut ring);
+        let desk = DeskState::new(alloc, me, ring.share()?, publics.share()?, clients, period)?;
+        let sizes = Sizes { faults, period };
+        let orderer = OrdererState::new(alloc, me, sizes, ring, publics, signer)?;
         orderer.note_changes();
-        let desk = DeskState::new(alloc, config, me)?;
         Ok(Replica {
             member,
             holds: Some(BothParts { orderer, desk }),

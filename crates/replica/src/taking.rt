@@ -7,9 +7,9 @@ ghost use Rattle.wire.specs.Marks.{has_type_of_requests};
 ghost use Rattle.wire_format.specs.Messages.{pre_prepare, prepare, commit};
 ghost use Rattle.wire_format.specs.Spelling.{IsBatch};
 ghost use Rattle.wire_format.specs.Views.{message_data};
-ghost use Rattle.signing.specs.AuthenticBody.{authentic};
 ghost use Rattle.read_only.specs.Receiving.{NobodyReceivesRead};
 ghost use Rattle.replica.specs.Going.{IsOneParty};
+ghost use Rattle.replica.specs.State.{heard};
 ghost use Rattle.replica.specs.Entering.{TakesBytes, TakesMessage};
 
 use crate::both_parts::BothParts;
@@ -96,7 +96,7 @@ impl BothParts {
 
     // Drops a client's message, which arrived in this frame: clients send requests alone.
     fn on_client(&self, client: ClientId, message: Message, frame: &[u8]) -> DueWork
-        requires authentic { authentic self.now.desk.membership self.now.desk.me frame.now
+        requires authentic { heard self.now.orderer frame.now
             ≡ Some (record { sender = client_party client.number; message = message_data message }) }
         requires other { has_type_of_requests frame.now ≡ false }
         ensures { TakesBytes frame.now self.now result self.now [] }
@@ -115,7 +115,7 @@ impl BothParts {
         outputs: &mut Outputs,
     ) -> Result<DueWork, Stop>
         requires first { outputs.old.items ≡ [] }
-        requires authentic { authentic self.old.desk.membership self.old.desk.me frame.now
+        requires authentic { heard self.old.orderer frame.now
             ≡ Some (record { sender = sender.0; message = message_data message }) }
         ensures ok { IfOk result (λ due_work. TakesBytes frame.now self.old
             due_work self.new outputs.new.items) }

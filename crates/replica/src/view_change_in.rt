@@ -6,15 +6,15 @@ ghost use Rattle.wire_format.specs.Views.{view_change_data};
 ghost use Rattle.view_change.specs.Laws.{ChangesAreJudged};
 ghost use Rattle.orderer.specs.Receiving.{JudgesAlike};
 ghost use Rattle.replica.specs.Going.{IsOneParty};
+ghost use Rattle.replica.specs.State.{heard};
 ghost use Rattle.replica.specs.Entering.{TakesBytes};
-ghost use Rattle.signing.specs.AuthenticBody.{authentic};
 
 use crate::both_parts::BothParts;
 use crate::taking::DueWork;
 use events::{Outputs, Stop};
 use std::alloc::Global;
 use terms::ReplicaId;
-use view_change::Change;
+use view_change::{Change, sizes_decide};
 use wire::ViewChange;
 
 impl BothParts {
@@ -29,13 +29,16 @@ impl BothParts {
         outputs: &mut Outputs,
     ) -> Result<DueWork, Stop>
         requires first { outputs.old.items ≡ [] }
-        requires authentic { authentic self.old.desk.membership self.old.desk.me frame.now
+        requires authentic { heard self.old.orderer frame.now
             ≡ Some (record { sender = sender.0; message = view_change (view_change_data message) }) }
         ensures ok { IfOk result (λ due_work. TakesBytes frame.now self.old
             due_work self.new outputs.new.items) }
         ensures party { IsOneParty self.old self.new }
     {
         self.orderer.judges();
+        self.orderer.keeps();
+        // Tells a proof that no key of the replica's own matters for a signature.
+        sizes_decide();
         let change = Change {
             sender,
             change: message,

@@ -1,8 +1,12 @@
 -- The stage before the first step.
-use Rattle.std.proofs.Common.{◌≡◌, ℕ, ◌+◌, ◌<◌, Bool, true, false, ◌==◌, List, [], ◌∷◌, ◌++◌, length, get_or, refl, sym, ap, ◌∙◌, subst, arith, eqb-true}
+use Rattle.std.proofs.Common.{◌≡◌, ℕ, ◌+◌, ◌<◌, Bool, true, false, ◌==◌, List, [], ◌∷◌, ◌++◌, length, get_or, Some, refl, sym, ap, ◌∙◌, subst, arith, eqb-true}
+use Rattle.std.specs.Prelude.{slice_get}
 use Rattle.std.proofs.lemmas.List.{length-append, get_or_push, get_or_append_left}
 use Rattle.std.proofs.lemmas.Bool.{both_ways}
-use Rattle.protocol.specs.System.Configuration.{Configuration, IsConfiguration}
+use Rattle.authenticator.specs.Keys.{signing_seed}
+use Rattle.signing.specs.Signatures.{public_key}
+use Rattle.signing.proofs.Publics.{one_within}
+use Rattle.protocol.specs.System.Configuration.{Configuration, IsConfiguration, replicas}
 use Rattle.protocol.specs.System.Schedule.{new_world}
 use Rattle.schedule_world.specs.declared.stage.Stage.{Stage}
 use Rattle.schedule_world.specs.Opening.{AreNewReplicas, AreNewStageClients}
@@ -40,6 +44,12 @@ more_first {X} P xs n x h right = record {
         let before : p < n = below p lt apart in
         let within : p < length xs = omega (arith, before, h.count) in
         rw (get_or_append_left xs (x ∷ []) d p within) (h.each p d before)
+
+-- the public key of a replica's signer is among those of the configuration
+pub own_public : (c : Configuration) → IsConfiguration c → (publics : List (List ℕ)) (p : ℕ) (seed : List ℕ) → publics ≡ c.publics → seed ≡ signing_seed c.seed p
+    → p < replicas c → slice_get publics p ≡ Some (public_key seed)
+own_public c valid publics p seed known own below =
+    ap (λ (keys : List (List ℕ)). slice_get keys p) (known ∙ valid.publics) ∙ one_within c.seed c.faults p below ∙ ap (λ (s : List ℕ). Some (public_key s)) (sym own)
 
 pub placed_first : (c : Configuration) (s : Stage) → IsConfiguration c → AreNewReplicas c s.replicas.items → AreNewStageClients c s.stage_clients.items → PartiesArePlaced c s
 placed_first c s valid rs stage_clients = record {

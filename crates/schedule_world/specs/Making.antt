@@ -4,15 +4,15 @@ use Rattle.terms.specs.Parties.{party_number}
 use Rattle.terms.specs.declared.parties.Party.{Party}
 use Rattle.wire_format.specs.Messages.{macs, signature}
 use Rattle.wire_format.specs.Spelling.{piece, authenticator_spelling}
-use Rattle.authenticator.specs.Keys.{signing_seed}
+use Rattle.authenticator.specs.Keys.{dealt, signing_seed}
 use Rattle.authenticator.specs.Sealing.{entry_for}
 use Rattle.signing.specs.Signatures.{signature_of}
 
--- the bytes of a frame with MACs under the keys that the sender has of this seed
+-- the bytes of a frame with MACs under the keys that this seed gives its sender, for whatever receivers
 abbrev pub sealed_text : List ℕ → Party → List Party → List ℕ → List ℕ
 sealed_text seed sender receivers body =
     piece body
-    ++ authenticator_spelling (macs (map (entry_for seed (party_number sender) body) (map party_number receivers)))
+    ++ authenticator_spelling (macs (map (entry_for (dealt seed) (party_number sender) body) (map party_number receivers)))
 
 -- the seed of the keys by which a replica signs
 abbrev pub seed_of : List ℕ → Party → List ℕ

@@ -1,10 +1,15 @@
 -- The parties before the first step.
 use Rattle.std.specs.Prelude.{◌≡◌, ℕ, ◌<◌, false, List, [], length, slice_index_or}
-use Rattle.protocol.specs.System.Configuration.{Configuration, replicas}
+use Rattle.authenticator.specs.Membership.{Membership}
+use Rattle.protocol.specs.System.Configuration.{Configuration, members, replicas}
 use Rattle.replica.specs.State.{ReplicaData, has_stopped}
 use Rattle.replica.specs.Fits as replica_fits
 use Rattle.schedule_world.specs.declared.stage.StageClient.{StageClient}
 use Rattle.schedule_world.specs.Stages.{FitsStageClient}
+
+-- a party's own keys
+abbrev pub own_ring : Configuration → ℕ → Membership
+own_ring c me = record (members c me) { publics = [] }
 
 -- a replica of number p, with an empty history
 pub record IsNewReplica (c : Configuration) (p : ℕ) (r : ReplicaData) : Type 0 where

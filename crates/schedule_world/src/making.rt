@@ -3,7 +3,7 @@
 ghost use Rattle.std.specs.Prelude.{◌≡◌, ◌<◌, ◌≤◌, length, map, IfOk, IfSome};
 ghost use Rattle.terms.specs.Parties.{party_number};
 ghost use Rattle.authenticator.specs.Results.{AreMacsFor};
-ghost use Rattle.authenticator.specs.Keys.{key_between, signing_seed};
+ghost use Rattle.authenticator.specs.Keys.{dealt, derived_key, signing_seed};
 ghost use Rattle.signing.specs.Signatures.{signature_of};
 ghost use Rattle.wire_format.specs.Spelling.{piece};
 ghost use Rattle.schedule_world.specs.Making.{sealed_text, seed_of, signed_text};
@@ -16,7 +16,7 @@ use terms::{NoMemory, Party};
 use wire::{Authenticator, MAX_RECEIVERS, ReceiverMac, put_authenticator};
 
 /// The bytes of a frame with these bytes as its body, whatever they spell, and a MAC for each of up to 10 receivers
-/// under the sender's own keys.
+/// under the keys that the seed gives the sender.
 pub(crate) fn seal_bytes(
     alloc: Global,
     seed: &[u8; 32],
@@ -52,7 +52,7 @@ fn macs_for(
     body: &[u8],
 ) -> ArrayVec<ReceiverMac, MAX_RECEIVERS>
     requires { length receivers.now ≤ 10 }
-    ensures { AreMacsFor seed.now (party_number sender) body.now receivers.now result.items }
+    ensures { AreMacsFor (dealt seed.now) (party_number sender) body.now receivers.now result.items }
 {
     let mut macs = ArrayVec::new();
     for receiver in receivers {
@@ -67,7 +67,7 @@ fn macs_for(
 
 // The key from one party to another.
 fn key_between(seed: &[u8; 32], from: Party, to: Party) -> [u8; 32]
-    ensures { result ≡ key_between seed.now (party_number from) (party_number to) }
+    ensures { result ≡ derived_key seed.now (party_number from) (party_number to) }
 {
     let [from_high, from_low] = from.number().to_be_bytes();
     let [to_high, to_low] = to.number().to_be_bytes();

@@ -5,10 +5,10 @@ ghost use Rattle.std.specs.Prelude.{IfOk, MatchOption, OnOk};
 ghost use Rattle.terms.specs.Parties.{party_number, client_party};
 ghost use Rattle.tuple_codec.specs.OperationView.{operation_of};
 ghost use Rattle.events.specs.EntryView.{entry_of_kind};
-ghost use Rattle.protocol.specs.System.Configuration.{is_correct, is_correct_client};
+ghost use Rattle.protocol.specs.System.Configuration.{is_correct, is_correct_client, replicas};
 ghost use Rattle.protocol.specs.System.Trace.Entry.{Got, Sent, Tick};
 ghost use Rattle.protocol.specs.System.Schedule.Step.{flush};
-ghost use Rattle.schedule_world.specs.Opening.{AreNewReplicas, AreNewStageClients, IsNewStageClient};
+ghost use Rattle.schedule_world.specs.Opening.{AreNewReplicas, AreNewStageClients, IsNewReplica, IsNewStageClient, own_ring};
 ghost use Rattle.schedule_world.specs.Moving.{StageAddsEntry, AddsAccepted, AddsAllIfMeant, AddsIfMeant, AddsSent, AreOf};
 ghost use Rattle.schedule_world.specs.Moving.{IsOutputOf, IsPlainEntry, KeepsParties};
 ghost use Rattle.schedule_world.specs.Moving.{entries_by, entry_by};
@@ -22,11 +22,11 @@ ghost use Rattle.schedule_world.specs.Stopped.{stopped_clients, stopped_parties,
 use crate::pool::Pool;
 use crate::receivers::{correct_of, keep_correct};
 use crate::report::Acceptance;
-use authenticator::Ring;
+use authenticator::{Ring, deal, signing_seed};
 use client_cert::{Client, Event as ClientEvent};
 use events::{Config, Entry, EntryKind, Output, Outputs, SharedBytes};
-use replica::{Event, Replica};
-use signing::PublicKeys;
+use replica::{Event, Numbers, Replica};
+use signing::{PublicKeys, Signer};
 use std::alloc::Global;
 use std::sync::Arc;
 use terms::{ClientId, NoMemory, Party, ReplicaId, Timestamp};
@@ -64,9 +64,7 @@ impl Stage {
         ensures placed { IfOk result (λ s. PartiesArePlaced config.now s) }
         ensures stands { IfOk result (λ s. StageIsAfterSteps config.now [] [] s) }
     {
-        // The call shows that the configuration is valid.
-        let _faults = config.faults();
-        let publics = PublicKeys::new(alloc, config.seed())?;
+        let publics = PublicKeys::new(alloc, config.seed(), config.faults())?;
         Ok(Stage {
             replicas: new_replicas(alloc, config, &publics)?,
             stage_clients: new_stage_clients(alloc, config, &publics)?,
@@ -483,15 +481,34 @@ fn new_replicas(
     config: &Config,
     publics: &PublicKeys,
 ) -> Result<Vec<Replica>, NoMemory>
-    requires keys { publics.now ≡ config.now.seed }
+    requires keys { publics.now ≡ config.now.publics }
     ensures { IfOk result (λ rs. AreNewReplicas config.now rs.items) }
 {
     let mut replicas = Vec::new(alloc);
     for number in 0..config.replicas() {
-        let replica = Replica::new(alloc, config, ReplicaId(number), publics.share()?)?;
-        replicas.push(replica)?;
+        replicas.push(new_replica(alloc, config, publics, ReplicaId(number))?)?;
     }
     Ok(replicas)
+}
+
+fn new_replica(
+    alloc: Global,
+    config: &Config,
+    publics: &PublicKeys,
+    id: ReplicaId,
+) -> Result<Replica, NoMemory>
+    requires keys { publics.now ≡ config.now.publics }
+    requires known { id.0 < replicas config.now }
+    ensures { IfOk result (λ r. IsNewReplica config.now id.0 r) }
+{
+    let ring = own_ring(alloc, config, Party::Replica(id))?;
+    let signer = Signer::from_seed(&signing_seed(config.seed(), Party::Replica(id)));
+    let numbers = Numbers {
+        faults: config.faults(),
+        clients: config.clients(),
+        period: config.period(),
+    };
+    Replica::new(alloc, numbers, id, ring, signer, publics.share()?)
 }
 
 fn new_stage_clients(
@@ -499,7 +516,7 @@ fn new_stage_clients(
     config: &Config,
     publics: &PublicKeys,
 ) -> Result<Vec<StageClient>, NoMemory>
-    requires keys { publics.now ≡ config.now.seed }
+    requires keys { publics.now ≡ config.now.publics }
     ensures { IfOk result (λ stage_clients. AreNewStageClients config.now stage_clients.items) }
 {
     let mut stage_clients = Vec::new(alloc);
@@ -515,10 +532,24 @@ fn new_stage_client(
     publics: &PublicKeys,
     id: ClientId,
 ) -> Result<StageClient, NoMemory>
-    requires keys { publics.now ≡ config.now.seed }
+    requires keys { publics.now ≡ config.now.publics }
     ensures { IfOk result (λ stage_client. IsNewStageClient config.now id.number stage_client) }
 {
-    let ring = Ring::new(alloc, config.seed(), config.faults(), config.clients());
+    let ring = own_ring(alloc, config, Party::Client(id))?;
     let client = Client::new(id, config.faults(), ring, publics.share()?);
     Ok(StageClient { client, calls: 0 })
+}
+
+// The keys that the seed gives a party, and no other.
+fn own_ring(alloc: Global, config: &Config, party: Party) -> Result<Ring, NoMemory>
+    ensures { IfOk result (λ ring. ring ≡ own_ring config.now (party_number party)) }
+{
+    let keys = deal(
+        alloc,
+        config.seed(),
+        config.faults(),
+        config.clients(),
+        party,
+    )?;
+    Ring::of_party(alloc, config.faults(), config.clients(), keys)
 }

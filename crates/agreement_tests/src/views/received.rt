@@ -96,7 +96,7 @@ fn is_so(
 }
 
 pub fn none_received(alloc: Global) -> Result<Received, NoMemory> {
-    let publics = PublicKeys::new(alloc, &SEED)?;
+    let publics = PublicKeys::new(alloc, &SEED, 1)?;
     Received::new(alloc, publics, SIZES)
 }
 

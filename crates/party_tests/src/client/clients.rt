@@ -4,7 +4,8 @@ ghost use Rattle.std.specs.Prelude.{◌≡◌, false, IfSome};
 ghost use Rattle.wire_format.specs.Spelling.{IsBody, is_signed};
 ghost use Rattle.wire_format.specs.Views.{body_data, message_data};
 
-use authenticator::{Ring, SealFault};
+use crate::rings::own_ring;
+use authenticator::SealFault;
 use client_cert::{Client, Event, InvokeFault};
 use events::{Output, Outputs, Stop};
 use hex::FromHex;
@@ -67,9 +68,8 @@ pub type Row<'a> = (Input, Given<'a>);
 
 /// The client lies in a box: a function that owns all of it takes long to prove.
 pub fn new_client(alloc: Global) -> Result<Box<Client>, NoMemory> {
-    let seed = seed();
-    let publics = PublicKeys::new(alloc, &seed)?;
-    let ring = Ring::new(alloc, &seed, 1, 2);
+    let publics = PublicKeys::new(alloc, &seed(), 1)?;
+    let ring = own_ring(alloc, 2, Party::Client(CLIENT))?;
     Ok(Box::new(alloc, Client::new(CLIENT, 1, ring, publics))?)
 }
 
@@ -118,8 +118,14 @@ fn sealed(alloc: Global, body: &Body) -> Result<Option<Vec<u8>>, SealFault>
     requires body { IsBody (body_data body.now) }
     requires unsigned { is_signed (message_data body.now.message) ≡ false }
 {
-    let mut ring = Ring::new(alloc, &seed(), 1, 2);
-    Ok(Some(ring.seal(alloc, body, &[Party::Client(CLIENT)])?))
+    match own_ring(alloc, 2, body.sender) {
+        Ok(mut ring) => {
+            let frame = ring.seal(alloc, body, &[Party::Client(CLIENT)]);
+            drop(ring);
+            Ok(Some(frame?))
+        }
+        Err(NoMemory) => Err(SealFault::NoMemory),
+    }
 }
 
 /// The frame of the reply that comes, if one does. The body is dropped by a call, as are frames and outputs below: a

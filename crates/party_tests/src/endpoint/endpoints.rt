@@ -4,7 +4,8 @@ ghost use Rattle.std.specs.Prelude.{◌≡◌, ◌≤◌, true, false};
 ghost use Rattle.wire_format.specs.Spelling.{IsMessage, is_signed};
 ghost use Rattle.wire_format.specs.Views.{message_data};
 
-use authenticator::{Ring, SealFault, signing_seed};
+use crate::rings::own_ring;
+use authenticator::{SealFault, signing_seed};
 use events::Output;
 use frame_endpoint::{Endpoint, SendFault, view_change_message};
 use signing::{PublicKeys, Signer};
@@ -15,20 +16,16 @@ use wire::{Message, ViewChange};
 
 pub const DIGEST: Digest = [7; 32];
 
-// The keys of all MACs. There are two clients.
-pub fn new_ring(alloc: Global) -> Ring {
-    Ring::new(alloc, &seed(), 1, 2)
-}
-
-// In a box: a function that owns all of an endpoint takes long to prove.
+// In a box: a function that owns all of an endpoint takes long to prove. There are two clients.
 pub fn new_endpoint(alloc: Global, me: u8) -> Result<Box<Endpoint>, NoMemory>
     requires { me ≤ 3 }
 {
     let seed = seed();
     let me = ReplicaId(me);
-    let publics = PublicKeys::new(alloc, &seed)?;
-    let ring = Ring::new(alloc, &seed, 1, 2);
-    let signer = Signer::from_seed(&signing_seed(&seed, Party::Replica(me)));
+    let party = Party::Replica(me);
+    let publics = PublicKeys::new(alloc, &seed, 1)?;
+    let ring = own_ring(alloc, 2, party)?;
+    let signer = Signer::from_seed(&signing_seed(&seed, party));
     Ok(Box::new(alloc, Endpoint::new(me, 1, ring, publics, signer))?)
 }
 

@@ -6,8 +6,9 @@ ghost use Rattle.wire_format.specs.Spelling.{IsBatch, IsBody, IsCarried, is_orde
 ghost use Rattle.wire_format.specs.Views.{body_data, message_data};
 
 use crate::answers::{all_hold, holds};
-use crate::endpoint::endpoints::{new_endpoint, new_ring};
+use crate::endpoint::endpoints::new_endpoint;
 use crate::endpoint::sending::goes_out;
+use crate::rings::own_ring;
 use authenticator::SealFault;
 use frame_endpoint::{Endpoint, pre_prepare_message};
 use std::alloc::Global;
@@ -17,6 +18,8 @@ use wire::{Batch, Body, Message, Request, is_ordered_request};
 
 // The SHA-256 of replica 0's pre-prepare of the batch at number 1 in view 0, by Python's hashlib and hmac.
 const PRE_PREPARE: &str = "7fd8420733c143bacbb1108c1e75ea8bedde1432e5da7a37bfe3e8b06fd41740";
+
+const CLIENT: Party = Party::Client(ClientId { number: 0 });
 
 fn replicas() -> [Party; 4]
     ensures { map party_number result ≡ 0 ∷ 1 ∷ 2 ∷ 3 ∷ [] }
@@ -39,18 +42,24 @@ fn request(alloc: Global) -> Result<Body, Bad>
         mode: Mode::Ordered,
         op,
     });
-    let sender = Party::Client(ClientId { number: 0 });
-    Ok(Body { sender, message })
+    Ok(Body {
+        sender: CLIENT,
+        message,
+    })
 }
 
 fn sealed(alloc: Global, body: &Body) -> Result<Vec<u8>, SealFault>
     requires said { IsBody (body_data body.now) }
     requires unsigned { is_signed (message_data body.now.message) ≡ false }
 {
-    let mut ring = new_ring(alloc);
-    let frame = ring.seal(alloc, body, &replicas());
-    drop(ring);
-    frame
+    match own_ring(alloc, 2, CLIENT) {
+        Ok(mut ring) => {
+            let frame = ring.seal(alloc, body, &replicas());
+            drop(ring);
+            frame
+        }
+        Err(NoMemory) => Err(SealFault::NoMemory),
+    }
 }
 
 // The request's frame for the four replicas. The body is dropped by a call: a drop at the function's end has a case

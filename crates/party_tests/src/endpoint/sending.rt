@@ -6,7 +6,8 @@ ghost use Rattle.wire_format.specs.Spelling.{IsMessage, is_signed};
 ghost use Rattle.wire_format.specs.Views.{message_data};
 
 use crate::answers::{all_hold, holds};
-use crate::endpoint::endpoints::{DIGEST, new_endpoint, new_ring, signed, without_frame};
+use crate::endpoint::endpoints::{DIGEST, new_endpoint, signed, without_frame};
+use crate::rings::own_ring;
 use authenticator::SealFault;
 use events::Output;
 use frame_endpoint::{
@@ -194,7 +195,7 @@ fn reply_goes_out(alloc: Global) -> Result<bool, NoMemory> {
 
 // The same by a ring.
 fn reply_goes_out_by_ring(alloc: Global) -> Result<bool, NoMemory> {
-    let mut ring = new_ring(alloc);
+    let mut ring = own_ring(alloc, 2, Party::Replica(ReplicaId(0)))?;
     let sent = seal_for_one(
         &mut ring,
         alloc,

@@ -1,8 +1,4 @@
-//! A worked frame, and the keys of those who receive it.
-
-use authenticator::Ring;
-use std::alloc::Global;
-use test_bytes::seed;
+//! A worked frame.
 
 /// The read-only request `rdp (*)` of client 1 with the timestamp 9, sealed for replicas 0 and 1 under the seed 00 01
 /// .. 1f. The body stands at 4 to 18, and its MACs at 23 and at 57, each after its receiver. They are Python's
@@ -15,8 +11,3 @@ pub static FRAME: [u8; 89] = [
     0xfa, 0x9a, 0x7a, 0x0e, 0x22, 0x0d, 0x7f, 0xc6, 0xe1, 0xd4, 0x38, 0xea, 0xba, 0x11, 0xe7, 0xc1,
     0x55, 0x18, 0x69, 0xff, 0xf6, 0x59, 0x12, 0x92, 0x89,
 ];
-
-/// One replica of four may be faulty, and there are so many clients.
-pub fn new_ring(alloc: Global, clients: u16) -> Ring {
-    Ring::new(alloc, &seed(), 1, clients)
-}

@@ -21,6 +21,8 @@ loop-index-preserved c =
     let xs = c.loop-index.keys.items in
     let x = c.in_ok-key_in.field-0 in (
       one_more c.args.items.now c.loop-index.index c.index-items-index.result xs c.push.new.self.items x c.loop-index-test.true c.index-items-index.is c.loop-index.invariant.0 key.0 pushed,
-      (ap length pushed ∙ length-append xs (x ∷ []) ∙ ap (λ n. n + 1) c.loop-index.invariant.1.0,
-       subst (All IsKey) (sym pushed) (All-append IsKey xs (x ∷ []) c.loop-index.invariant.1.1 (All-cons IsKey x [] key.1 (All-nil IsKey)))),
+      (
+        ap length pushed ∙ length-append xs (x ∷ []) ∙ ap (λ n. n + 1) c.loop-index.invariant.1.0,
+        subst (All IsKey) (sym pushed) (All-append IsKey xs (x ∷ []) c.loop-index.invariant.1.1 (All-cons IsKey x [] key.1 (All-nil IsKey))),
+      ),
     )

@@ -12,9 +12,9 @@ loop-party-preserved c =
     let done = others_among (range_with_len 0 c.loop-party.party) c.args.me in
     elim c.if-party-me.branch [
       | then-party-me+in_ok-push w ↦ ap (λ v. v.items) w.parties-is ∙ (w.in_ok-push.ensures {u = tt}).items
-        ∙ ap (λ xs. xs ++ c.loop-party.party ∷ []) c.loop-party.invariant
-        ∙ append_assoc old done (c.loop-party.party ∷ [])
-        ∙ ap (λ xs. old ++ xs) (sym (other_more c.args.me c.loop-party.party w.if-party-me.true))
+          ∙ ap (λ xs. xs ++ c.loop-party.party ∷ []) c.loop-party.invariant
+          ∙ append_assoc old done (c.loop-party.party ∷ [])
+          ∙ ap (λ xs. old ++ xs) (sym (other_more c.args.me c.loop-party.party w.if-party-me.true))
       | else-party-me w ↦ ap (λ v. v.items) w.parties-is ∙ c.loop-party.invariant
-        ∙ ap (λ xs. old ++ xs) (sym (same_more c.args.me c.loop-party.party w.if-party-me.false))
+          ∙ ap (λ xs. old ++ xs) (sym (same_more c.args.me c.loop-party.party w.if-party-me.false))
     ]

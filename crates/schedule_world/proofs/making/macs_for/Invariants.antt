@@ -1,6 +1,7 @@
 use Rattle.std.proofs.Common.{◌≡◌, ◌≤◌, length, map, take}
 use Rattle.terms.specs.Parties.{party_number}
 use Rattle.wire_format.specs.Views.{mac_data}
+use Rattle.authenticator.specs.Keys.{dealt}
 use Rattle.authenticator.specs.Sealing.{entry_for}
 use Rattle.schedule_world.proofs.making.macs_for.Given as goal
 
@@ -8,6 +9,6 @@ abbrev pub invariant-loop-receiver : goal.invariant-loop-receiver
 invariant-loop-receiver l = record {
   made :
       map mac_data l.macs.items
-      ≡ map (entry_for l.seed (party_number l.sender) l.body) (map party_number (take l.receiver-index l.receivers));
+      ≡ map (entry_for (dealt l.seed) (party_number l.sender) l.body) (map party_number (take l.receiver-index l.receivers));
   few : length l.macs.items ≤ l.receiver-index;
 }

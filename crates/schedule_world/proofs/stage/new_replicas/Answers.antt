@@ -1,4 +1,4 @@
-use Rattle.std.proofs.Common.{◌≡◌, ◌+◌, refl, sym, ◌∙◌, subst, arith}
+use Rattle.std.proofs.Common.{◌≡◌, ◌+◌, sym, ◌∙◌, subst, arith}
 use Rattle.protocol.specs.System.Configuration.{replicas}
 use Rattle.schedule_world.specs.Opening.{IsNewReplica}
 use Rattle.schedule_world.proofs.FirstStage.{AreFirst, none_first, more_first}
@@ -10,8 +10,7 @@ loop-number-init c = rw c.new-replicas.ensures.items (none_first (IsNewReplica c
 pub loop-number-preserved : goal.loop-number-preserved
 loop-number-preserved c =
     subst (λ xs. AreFirst (IsNewReplica c.args.config.now) xs (c.loop-number.number + 1)) (sym c.in_ok-push.ensures.items)
-    (more_first (IsNewReplica c.args.config.now) c.loop-number.replicas.items c.loop-number.number c.in_ok-replica.replica c.loop-number.invariant
-    (record { number = c.in_ok-replica.ensures.number; fits = c.in_ok-replica.ensures.fits c.args.config.now refl refl; runs = c.in_ok-replica.ensures.runs }))
+    (more_first (IsNewReplica c.args.config.now) c.loop-number.replicas.items c.loop-number.number c.in_ok-new_replica.field-0 c.loop-number.invariant c.in_ok-new_replica.ensures)
 
 pub returns : goal.returns
 returns c =

@@ -6,7 +6,7 @@ use Rattle.replica.proofs.both_parts.BothParts.on_replica.Goals as goal
 
 pub on_fetch-requires-clause-place : goal.on_fetch-requires-clause-place
 on_fetch-requires-clause-place c =
-    fetch_within c.args.self.now.desk.membership c.args.self.now.desk.me c.args.frame.now c.args.sender.0 c.args.message c.in-Fetch.message c.requires.authentic c.in-Fetch.is
+    fetch_within c.args.self.now.orderer.endpoint.membership c.args.self.now.orderer.endpoint.me c.args.frame.now c.args.sender.0 c.args.message c.in-Fetch.message c.requires.authentic c.in-Fetch.is
 
 pub returns : goal.returns
 returns c = record {
@@ -27,13 +27,13 @@ returns c = record {
 
 pub on_pre_prepare-requires : goal.on_pre_prepare-requires
 on_pre_prepare-requires c = record {
-  batch = heard_batch c.args.self.now.desk.membership c.args.self.now.desk.me c.args.sender.0 c.args.frame.now c.args.message c.in-PrePrepare.message c.requires.authentic c.in-PrePrepare.is;
+  batch = heard_batch c.args.self.now.orderer.endpoint.membership c.args.self.now.orderer.endpoint.me c.args.sender.0 c.args.frame.now c.args.message c.in-PrePrepare.message c.requires.authentic c.in-PrePrepare.is;
 }
 
 pub on_new_view-requires-clause-batches : goal.on_new_view-requires-clause-batches
 on_new_view-requires-clause-batches c =
-    heard_batches c.args.self.now.desk.membership c.args.self.now.desk.me c.args.sender.0 c.args.frame.now c.args.message c.in-NewView.message c.requires.authentic c.in-NewView.is
+    heard_batches c.args.self.now.orderer.endpoint.membership c.args.self.now.orderer.endpoint.me c.args.sender.0 c.args.frame.now c.args.message c.in-NewView.message c.requires.authentic c.in-NewView.is
 
 pub on_meta-requires-clause-said : goal.on_meta-requires-clause-said
 on_meta-requires-clause-said c =
-    heard_digests c.args.self.now.desk.membership c.args.self.now.desk.me c.args.sender.0 c.args.frame.now c.args.message c.in-Meta.message c.requires.authentic c.in-Meta.is
+    heard_digests c.args.self.now.orderer.endpoint.membership c.args.self.now.orderer.endpoint.me c.args.sender.0 c.args.frame.now c.args.message c.in-Meta.message c.requires.authentic c.in-Meta.is

@@ -1,7 +1,6 @@
-use Rattle.std.proofs.Common.{◌+◌, ℕ, Some, ap, refl, ◌∙◌}
+use Rattle.std.proofs.Common.{◌+◌, Some, ap, refl, ◌∙◌}
 use Rattle.terms.specs.declared.order.Mode.{Mode}
 use Rattle.wire_format.specs.Messages.{request}
-use Rattle.signing.specs.AuthenticBody.{authentic}
 use Rattle.replica.specs.BothPartsView.{both_parts_data}
 use Rattle.replica.proofs.Beginning.{silence_dropped}
 use Rattle.replica.proofs.Carrying.{request_carried}
@@ -11,9 +10,7 @@ pub returns-in_default-clause-ok : goal.returns-in_default-clause-ok
 returns-in_default-clause-ok c =
     rw (c.requires.first, c.authenticate_request.ensures.same, ← c.self.view_is)
     (silence_dropped (both_parts_data c.self.inside) c.args.bytes.now c.self.invariant
-    (ap (λ m. authentic m c.self.inside.desk.me c.args.bytes.now) c.self.invariant.1
-    ∙ ap (λ (x : ℕ). authentic c.self.inside.orderer.endpoint.membership x c.args.bytes.now) c.self.invariant.0
-    ∙ c.in_default.ensures.none refl))
+    (c.in_default.ensures.none refl))
 
 pub on_request-requires-clause-carried : goal.on_request-requires-clause-carried
 on_request-requires-clause-carried c =

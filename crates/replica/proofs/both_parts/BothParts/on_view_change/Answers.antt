@@ -3,8 +3,7 @@ use Rattle.wire_format.specs.Messages.{view_change}
 use Rattle.wire_format.specs.Views.{view_change_data}
 use Rattle.events.specs.declared.output.Output.{Output}
 use Rattle.view_change.specs.ReceivedView.{held_as}
-use Rattle.signing.specs.AuthenticBody.{authentic}
-use Rattle.replica.specs.State.{BothPartsData}
+use Rattle.replica.specs.State.{BothPartsData, heard}
 use Rattle.replica.specs.BothPartsView.{both_parts_data}
 use Rattle.terms.specs.declared.order.View.{View}
 use Rattle.orderer.specs.ViewChangeOut.{IsJoinedBy, IsJoinedByNone}
@@ -18,13 +17,15 @@ use Rattle.replica.proofs.both_parts.BothParts.on_view_change.Goals as goal
 
 pub receive-requires : goal.receive-requires
 receive-requires c =
-    heard_is_signed c.self.inside.orderer c.self.inside.desk (record { sender = c.args.sender; change = c.args.message }) c.args.frame.now c.judges.ensures.alike c.self.invariant
-    (subst (λ (a : BothPartsData). authentic a.desk.membership a.desk.me c.args.frame.now ≡ Some (record { sender = c.args.sender.0; message = view_change (view_change_data c.args.message) })) (sym c.self.view_is) c.requires.authentic)
+    heard_is_signed c.sizes_decide.ensures.decide c.self.inside.orderer (record { sender = c.args.sender; change = c.args.message }) c.args.frame.now c.keeps.ensures.own
+    (subst (λ (a : BothPartsData). heard a.orderer c.args.frame.now ≡ Some (record { sender = c.args.sender.0; message = view_change (view_change_data c.args.message) })) (sym c.self.view_is) c.requires.authentic)
 
 pub returns-then-not-branch-clause-ok : goal.returns-then-not-branch-clause-ok
 returns-then-not-branch-clause-ok c = rw (← c.self.view_is, c.requires.first)
     (change_refused (both_parts_data c.self.inside) (record { sender = c.args.sender; change = c.args.message }) c.args.frame.now c.self.invariant c.judges.ensures.alike c.judges.ensures.changes
-    (subst (λ (a : BothPartsData). authentic a.desk.membership a.desk.me c.args.frame.now ≡ Some (record { sender = c.args.sender.0; message = view_change (view_change_data c.args.message) })) (sym c.self.view_is) c.requires.authentic)
+    (subst (λ (a : BothPartsData). heard a.orderer c.args.frame.now ≡ Some (record { sender = c.args.sender.0; message = view_change (view_change_data c.args.message) })) (sym c.self.view_is) c.requires.authentic)
+    (heard_is_signed c.sizes_decide.ensures.decide c.self.inside.orderer (record { sender = c.args.sender; change = c.args.message }) c.args.frame.now c.keeps.ensures.own
+    (subst (λ (a : BothPartsData). heard a.orderer c.args.frame.now ≡ Some (record { sender = c.args.sender.0; message = view_change (view_change_data c.args.message) })) (sym c.self.view_is) c.requires.authentic))
     c.receive.new.self
     (subst (λ (b : Bool). ReceivesViewChange (held_as (record { sender = c.args.sender; change = c.args.message }) c.args.frame.now) c.self.inside.orderer c.receive.new.self b) c.if-not-branch.true c.in_ok-receive.ensures.ok))
 
@@ -48,7 +49,9 @@ returns-clause-ok c =
     ] in
     rw (← c.self.view_is)
     (if_ok_on _ _ c.begin_view.result (λ what begins. change_taken r (record { sender = c.args.sender; change = c.args.message }) c.args.frame.now c.self.invariant c.judges.ensures.alike c.judges.ensures.changes
-    (subst (λ (a : BothPartsData). authentic a.desk.membership a.desk.me c.args.frame.now ≡ Some (record { sender = c.args.sender.0; message = view_change (view_change_data c.args.message) })) (sym c.self.view_is) c.requires.authentic)
+    (subst (λ (a : BothPartsData). heard a.orderer c.args.frame.now ≡ Some (record { sender = c.args.sender.0; message = view_change (view_change_data c.args.message) })) (sym c.self.view_is) c.requires.authentic)
+    (heard_is_signed c.sizes_decide.ensures.decide c.self.inside.orderer (record { sender = c.args.sender; change = c.args.message }) c.args.frame.now c.keeps.ensures.own
+    (subst (λ (a : BothPartsData). heard a.orderer c.args.frame.now ≡ Some (record { sender = c.args.sender.0; message = view_change (view_change_data c.args.message) })) (sym c.self.view_is) c.requires.authentic))
     c.receive.new.self moved c.begin_view.new.self said c.begin_view.new.outputs.items what
     (subst (λ (b : Bool). ReceivesViewChange (held_as (record { sender = c.args.sender; change = c.args.message }) c.args.frame.now) c.self.inside.orderer c.receive.new.self b) c.if-not-branch.false c.in_ok-receive.ensures.ok)
     moves begins) c.begin_view.ensures.ok)

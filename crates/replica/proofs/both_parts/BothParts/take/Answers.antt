@@ -1,6 +1,5 @@
-use Rattle.std.proofs.Common.{rules, ℕ, ap, ◌∙◌, option_map}
+use Rattle.std.proofs.Common.{rules, ap, ◌∙◌, option_map}
 use Rattle.wire_format.specs.Views.{body_data}
-use Rattle.signing.specs.AuthenticBody.{authentic}
 use Rattle.replica.specs.BothPartsView.{both_parts_data}
 use Rattle.replica.proofs.Beginning.{silence_dropped}
 use Rattle.replica.proofs.ChangesCome.{change_held}
@@ -10,9 +9,7 @@ pub returns-in_default : goal.returns-in_default
 returns-in_default c = record {
   ok = rw (c.requires.first, c.in_ok-sender.ensures.same, ← c.self.view_is)
       (silence_dropped (both_parts_data c.self.inside) c.args.bytes.now c.self.invariant
-      (ap (λ m. authentic m c.self.inside.desk.me c.args.bytes.now) c.self.invariant.1
-      ∙ ap (λ (x : ℕ). authentic c.self.inside.orderer.endpoint.membership x c.args.bytes.now) c.self.invariant.0
-      ∙ c.in_ok-sender.ensures.authentic ∙ ap (option_map body_data) c.in_default.is));
+      (c.in_ok-sender.ensures.authentic ∙ ap (option_map body_data) c.in_default.is));
   party = search rules;
 }
 

@@ -18,11 +18,11 @@ returns-in_default-step-clause-stops c = rw (← c.self.view_is) (joined_stops (
 pub returns-clause-leads : goal.returns-clause-leads
 returns-clause-leads c =
     rw (← c.self.view_is)
-    (joined_steps (member_data c.self.inside.member) c.self.inside.holds c.in-Some.both_parts c.step.new.self c.args.event c.in-Ok.outputs.items c.in-Some.is c.self.invariant
+    (joined_steps (member_data c.self.inside.member) c.self.inside.holds c.in-Some.both_parts c.step.new.self c.args.event c.in-Ok.outputs.items c.in-Some.is c.self.invariant.0
     c.in-Ok.ensures.before c.in-Ok.ensures.leads c.in-Ok.ensures.after c.in-Ok.ensures.changes c.in-Ok.ensures.party.endpoint).0
 
 pub returns-clause-meant : goal.returns-clause-meant
 returns-clause-meant c =
     rw (← c.self.view_is)
-    (joined_steps (member_data c.self.inside.member) c.self.inside.holds c.in-Some.both_parts c.step.new.self c.args.event c.in-Ok.outputs.items c.in-Some.is c.self.invariant
+    (joined_steps (member_data c.self.inside.member) c.self.inside.holds c.in-Some.both_parts c.step.new.self c.args.event c.in-Ok.outputs.items c.in-Some.is c.self.invariant.0
     c.in-Ok.ensures.before c.in-Ok.ensures.leads c.in-Ok.ensures.after c.in-Ok.ensures.changes c.in-Ok.ensures.party.endpoint).1

@@ -1,0 +1,4 @@
+pub mod Configuring
+pub mod Faults
+pub mod Files
+pub mod Folders
