@@ -33,14 +33,12 @@ is_authentic_to m party frame =
 
 -- the body of the frame in the bytes, if it is authentic to the party
 unfoldable pub authentic : Membership → ℕ → List ℕ → Option BodyData
-authentic m party bytes =
-    option_and_then (λ frame. if is_authentic_to m party frame then Some frame.body else None)
+authentic m party bytes = option_and_then (λ frame. if is_authentic_to m party frame then Some frame.body else None)
     (frame_of bytes)
 
 -- the frame is a view change or new view from a party that sends such messages, with its signature
 abbrev pub is_signed_frame : Membership → FrameData → Bool
-is_signed_frame m frame =
-    is_signed frame.body.message && (has_sender m frame.body && has_signature m.publics frame)
+is_signed_frame m frame = is_signed frame.body.message && (has_sender m frame.body && has_signature m.publics frame)
 
 -- the body of a view change or new view, whoever gets the bytes, its sender too
 unfoldable pub signed_body : Membership → List ℕ → Option BodyData
