@@ -3,6 +3,7 @@
 //! Made by tools/manual of what the program answers. Where it isn't built, ./btspace takes its answers from here, and
 //! tools/manual makes the completions and the man page of them. The words of each command stand in a file of their own.
 
+mod keys;
 mod local;
 mod program;
 mod run;
@@ -11,10 +12,11 @@ mod show;
 
 /// Words as in a terminal, and the answer below them. In brackets stands what the answer names. A mistake begins with
 /// `error: `, and goes to standard error.
-pub static TABLES: [&str; 5] = [
+pub static TABLES: [&str; 6] = [
     program::ANSWERS,
     local::ANSWERS,
     run::ANSWERS,
     schedule::ANSWERS,
+    keys::ANSWERS,
     show::ANSWERS,
 ];

@@ -114,6 +114,7 @@ Commands:
   local     Runs a script on a space of its own and prints a result line for each operation
   run       Runs a script on a running cluster and prints a result line for each operation
   schedule  Runs a schedule in a world of replicas and clients and prints what was accepted
+  keys      Writes a file for each party, with the keys that it may have
   show      Prints the tuple that is encoded by these bytes
   help      Print this message or the help of the given subcommand(s)
 
@@ -134,6 +135,7 @@ Commands:
   local     Runs a script on a space of its own and prints a result line for each operation
   run       Runs a script on a running cluster and prints a result line for each operation
   schedule  Runs a schedule in a world of replicas and clients and prints what was accepted
+  keys      Writes a file for each party, with the keys that it may have
   show      Prints the tuple that is encoded by these bytes
   help      Print this message or the help of the given subcommand(s)
 
@@ -184,7 +186,7 @@ Options:
         why: NoWords::Wrong,
         output: "",
         errors: "error: 'btspace' requires a subcommand but one was not provided
-  [subcommands: local, run, schedule, show, help]
+  [subcommands: local, run, schedule, keys, show, help]
 
 Usage: btspace <COMMAND>
 

@@ -2,7 +2,7 @@
 
 pub const ANSWERS: &str = r#"$ btspace
 error: 'btspace' requires a subcommand but one was not provided
-  [subcommands: local, run, schedule, show, help]
+  [subcommands: local, run, schedule, keys, show, help]
 
 Usage: btspace <COMMAND>
 
@@ -18,6 +18,7 @@ Commands:
   local     Runs a script on a space of its own and prints a result line for each operation
   run       Runs a script on a running cluster and prints a result line for each operation
   schedule  Runs a schedule in a world of replicas and clients and prints what was accepted
+  keys      Writes a file for each party, with the keys that it may have
   show      Prints the tuple that is encoded by these bytes
   help      Print this message or the help of the given subcommand(s)
 
@@ -78,6 +79,14 @@ error: unrecognized subcommand 'schedlue'
 Usage: btspace <COMMAND>
 
 For more information, try '--help'.
+$ btspace [keyss]
+error: unrecognized subcommand 'keyss'
+
+  tip: a similar subcommand exists: 'keys'
+
+Usage: btspace <COMMAND>
+
+For more information, try '--help'.
 $ btspace [showw]
 error: unrecognized subcommand 'showw'
 
@@ -122,6 +131,14 @@ $ btspace -- schedule
 error: unexpected argument 'schedule' found
 
   tip: subcommand 'schedule' exists; to use it, remove the '--' before it
+
+Usage: btspace <COMMAND>
+
+For more information, try '--help'.
+$ btspace -- keys
+error: unexpected argument 'keys' found
+
+  tip: subcommand 'keys' exists; to use it, remove the '--' before it
 
 Usage: btspace <COMMAND>
 
@@ -213,6 +230,20 @@ Options:
       --from <POSITION>  The position of the first entry that the chart shows [default: 0]
       --to <POSITION>    The position of the last entry that the chart shows [default: the last one]
   -h, --help             Print help
+$ btspace help keys
+Writes a file for each party, with the keys that it may have
+
+Usage: btspace keys <CONFIG> <FOLDER>
+
+Arguments:
+  <CONFIG>  The file of the configuration, in TOML, or -
+  <FOLDER>  The folder of the files r0.toml .. and c0.toml .., which is made if it isn't there
+
+Options:
+  -h, --help  Print help
+
+The seed gives all keys, so no party may have it. Without a seed in the configuration a fresh one is drawn from
+/dev/urandom, and kept nowhere.
 $ btspace help show
 Prints the tuple that is encoded by these bytes
 
