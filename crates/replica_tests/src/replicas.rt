@@ -55,12 +55,7 @@ fn boxed<T: Drop>(alloc: Global, value: T) -> Result<Box<T>, Stop> {
     }
 }
 
-fn boxed_in(
-    alloc: Global,
-    seed: &[u8; 32],
-    period: u8,
-    me: ReplicaId,
-) -> Result<Box<Replica>, Stop>
+fn boxed_in(alloc: Global, seed: &[u8; 32], period: u8, me: ReplicaId) -> Result<Box<Replica>, Stop>
     requires known { me.0 ≤ 3 }
     requires some { 1 ≤ period }
     requires short { period ≤ 16 }
