@@ -17,8 +17,8 @@ manual = tool("manual")
 
 # Words that ./btspace answers before anything is built.
 QUICK = (
-    "", "--help", "-h", "--version", "-V", "help", "help local", "help run", "help schedule", "help show",
-    "local --help", "run --help", "schedule --help", "show --help", "nope", "help nope", "--nope", "-q", "local",
+    "", "--help", "-h", "--version", "-V", "help", "help local", "help run", "help schedule", "help keys", "help show",
+    "local --help", "run --help", "schedule --help", "keys --help", "show --help", "nope", "help nope", "--nope", "-q", "local",
     "run one", "local --space 3 one", "schedule --trace --trace one", "show one two",
 )
 # An answer at once takes less, in seconds, on a slow machine too.

@@ -8,10 +8,12 @@ import os
 import re
 import shlex
 import tempfile
+import tomllib
 from pathlib import Path
 from typing import NamedTuple
 from xml.etree import ElementTree
 
+import party_files
 from processes import TOP, Row, bounded, run, shown, tool
 
 refusals = tool("refusals")
@@ -226,7 +228,16 @@ SCHEDULE = (
     Case("a part of no picture", "schedule --from 1 examples/cluster.toml -", READ, "", 2, MISTAKE),
 )
 
-CASES = (*LOCAL, *SHOW, *RUN, *SCHEDULE)
+KEYS = (
+    refused("a configuration that isn't there", "keys nothing folder", "",
+            "cannot read nothing\nNo such file or directory (os error 2)\n"),
+    refused("a script is no configuration", "keys - folder", SCRIPT, NO_CONFIGURATION),
+    refused("a mistake beside no seed", "keys - folder", "f = 1\nclients = 1\nperiod = 2\n",
+            "refused 25\n`period` is no key of a configuration\n"),
+    Case("a folder that can't be made", "keys examples/cluster.toml /dev/null/keys", "", "", 3, STOPPED),
+)
+
+CASES = (*LOCAL, *SHOW, *RUN, *SCHEDULE, *KEYS)
 
 
 def agrees(wanted, text):
@@ -390,7 +401,97 @@ def others(programs):
         yield Row(name, lambda it=options.split(), one=first, other=last: fault_of_picture(program, it, one, other))
 
 
+# What `keys` says at its end, and what it refuses.
+KEPT_APART = "the seed of the configuration gives all keys: keep it apart, and give each party its own file alone\n"
+KEPT_NOWHERE = "the keys are of a fresh seed, which is kept nowhere: give each party its own file alone\n"
+SEED = "000102030405060708090a0b0c0d0e0f101112131415161718191a1b1c1d1e1f"
+
+
+def files_in(folder):
+    return {it.name: it.read_text() for it in folder.iterdir()}
+
+
+def dealt(program, room, text, folder="keys"):
+    """Runs `keys` on the configuration of this text, from standard input."""
+    return run([program, "keys", "-", folder], room, text.encode())
+
+
+def in_room(test):
+    with tempfile.TemporaryDirectory() as room:
+        return test(Path(room))
+
+
+def fault_of_files(program, faults, clients, period):
+    """The files are those that Python makes, for their owner alone, and nothing else lies beside them."""
+
+    def test(room):
+        text = f'f = {faults}\nclients = {clients}\ncheckpoint = {period}\nseed = "{SEED}"\n'
+        ended = dealt(program, room, text, "some/keys")
+        if (ended.status, ended.results, ended.said.decode()) != (0, b"", KEPT_APART):
+            return ended.as_text()
+        folder = room / "some" / "keys"
+        found, wanted = files_in(folder), party_files.files_of(bytes.fromhex(SEED), faults, clients, period)
+        wrong = sorted(it for it in {*found, *wanted} if found.get(it) != wanted.get(it))
+        shared = sorted(it.name for it in folder.iterdir() if it.stat().st_mode & 0o777 != 0o600)
+        return f"wrong files {wrong}, of other modes {shared}" if wrong or shared else None
+
+    return in_room(test)
+
+
+def fault_of_overwriting(program):
+    """One file that is there is enough: no other is written, and it stays."""
+
+    def test(room):
+        folder = room / "keys"
+        folder.mkdir()
+        for name in ("r0.toml", "r3.toml", "c0.toml"):
+            (folder / name).write_text("mine")
+            ended = dealt(program, room, config())
+            said = f"error: {name} is there already, and no file is written over\n"
+            if (ended.status, ended.said.decode(), files_in(folder)) != (2, said, {name: "mine"}):
+                return f"{name}: {ended.as_text()}, {sorted(files_in(folder))}"
+            (folder / name).unlink()
+        first, again = dealt(program, room, config()), dealt(program, room, config())
+        is_kept = files_in(folder) == party_files.files_of(bytes.fromhex(SEED), 1, 1)
+        return None if (first.status, again.status, is_kept) == (0, 2, True) else again.as_text()
+
+    return in_room(test)
+
+
+def fault_of_fresh_seed(program):
+    """Without a seed the keys of two parties agree, and those of two runs differ."""
+
+    def test(room):
+        text = "f = 1\nclients = 2\n"
+        ended = [dealt(program, room, text, it) for it in ("one", "two")]
+        if any((it.status, it.said.decode()) != (0, KEPT_NOWHERE) for it in ended):
+            return ended[0].as_text()
+        one, two = (files_in(room / it) for it in ("one", "two"))
+        keys = {name: tomllib.loads(it) for name, it in one.items()}
+        is_shared = keys["r0.toml"]["to"][0] == keys["r1.toml"]["from"][0] and keys["c1.toml"]["to"][3] == keys["r3.toml"]["from"][4]
+        is_public = all(it["public"] == keys["c0.toml"]["public"] for it in keys.values())
+        is_own = all(
+            party_files.public_key(bytes.fromhex(keys[f"r{it}.toml"]["signing_seed"])).hex() == keys["c0.toml"]["public"][it]
+            for it in range(4)
+        )
+        is_fresh = not any(one[it] == two[it] for it in one)
+        return None if (is_shared, is_public, is_own, is_fresh) == (True,) * 4 else "wrong keys"
+
+    return in_room(test)
+
+
+def keys(programs):
+    """The rows of the word `keys`."""
+    program = programs.whole
+    for faults, clients, period in ((1, 1, 16), (1, 3, 4), (2, 2, 16), (3, 256, 1)):
+        name = f"the files of {3 * faults + 1} replicas and {clients} clients: btspace keys"
+        yield Row(name, lambda f=faults, k=clients, p=period: fault_of_files(program, f, k, p))
+    yield Row("no file is written over: btspace keys", lambda: fault_of_overwriting(program))
+    yield Row("a fresh seed: btspace keys", lambda: fault_of_fresh_seed(program))
+
+
 def all_rows(programs):
     yield from cases(programs)
     yield from outputs(programs)
     yield from others(programs)
+    yield from keys(programs)
