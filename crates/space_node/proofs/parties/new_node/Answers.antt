@@ -1,6 +1,6 @@
-use Rattle.std.proofs.Common.{◌≡◌, ◌<◌, ◌+◌, ◌*◌, ◌∙◌, ap, sym, refl, [], subst, rules}
-use Rattle.authenticator.specs.Membership.{Membership}
-use Rattle.protocol.specs.System.Configuration.{Configuration, members}
+use Rattle.std.proofs.Common.{◌≡◌, ◌<◌, ◌+◌, ◌*◌, ◌∙◌, sym, refl, [], rules}
+use Rattle.authenticator.specs.Keys.{signing_seed}
+use Rattle.protocol.specs.System.Configuration.{members}
 use Rattle.signing.proofs.Publics.{one_within}
 use Rattle.signing.specs.Publics.{knows}
 use Rattle.replica.specs.Fits.{Fits, me_of}
@@ -9,7 +9,8 @@ use Rattle.space_node.proofs.parties.new_node.Goals as goal
 pub new-requires-clause-keys : goal.new-requires-clause-keys
 new-requires-clause-keys g c =
     let less : c.args.replica.0 < 3 * c.args.config.now.faults + 1 = search rules in
-    rw (c.in_ok-keys.ensures, c.requires.keys, c.faults.ensures.valid.publics) (one_within c.args.config.now.seed c.args.config.now.faults c.args.replica.0 less)
+    let own : c.from_seed-signer.result.seed ≡ signing_seed c.args.config.now.seed c.args.replica.0 = search rules in
+    rw (c.in_ok-keys.ensures, c.requires.keys, c.faults.ensures.valid.publics, own) (one_within c.args.config.now.seed c.args.config.now.faults c.args.replica.0 less)
 
 pub new-requires-2 : goal.new-requires-2
 new-requires-2 g c =
