@@ -8,6 +8,7 @@ use Rattle.std.specs.contracts.boxed.Box as box
 use Rattle.std.proofs.boxed.Box.TheSendSync.{the_send as box_send}
 use Rattle.std.proofs.option.Option.TheSendSync.{the_send as option_send}
 use Rattle.authenticator.proofs.ring.Ring.TheSendSync.{the_send as ring_send}
+use Rattle.signing.proofs.public_keys.PublicKeys.TheSendSync.{the_send as publics_send}
 use Rattle.replica.proofs.member.Member.TheSendSync.{the_send as member_send}
 use Rattle.desk.proofs.snapshots.Snapshots.TheSendSync.{the_send as snapshots_send}
 use Rattle.desk.proofs.transfer.StateTransfer.TheSendSync.{the_send as transfer_send}
@@ -36,12 +37,15 @@ in_state_send = declared_send in_state.the_type (
   (
     keys_send,
     (
-      search sendable,
+      search (sendable, publics_send),
       (
-        boxed_send,
+        search sendable,
         (
-          search (sendable, snapshots_send),
-          (option_send transfer.the_row (search (sendable, transfer_send)), (search (sendable, waiting_send), tt)),
+          boxed_send,
+          (
+            search (sendable, snapshots_send),
+            (option_send transfer.the_row (search (sendable, transfer_send)), (search (sendable, waiting_send), tt)),
+          ),
         ),
       ),
     ),

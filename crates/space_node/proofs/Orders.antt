@@ -1,13 +1,13 @@
 -- The shares of ordering of a new cluster, one for each replica, in their order.
-use Rattle.std.proofs.Common.{◌≡◌, ℕ, suc, ◌+◌, ◌<◌, ◌≤◌, Bool, true, false, cond, List, [], ◌∷◌, length, get_or, drop, map, refl, sym, ap, ◌∙◌, subst, arith}
-use Rattle.std.specs.Prelude.{All, Some, nat_lt, slice_get}
+use Rattle.std.proofs.Common.{◌≡◌, ℕ, suc, ◌+◌, ◌<◌, ◌≤◌, Bool, true, false, cond, List, [], ◌∷◌, ◌++◌, length, get_or, drop, map, refl, sym, ap, ◌∙◌, subst, arith}
+use Rattle.std.specs.Prelude.{All, Some, nat_le, nat_lt, slice_get}
 use Rattle.std.specs.List.{remove}
 use Rattle.std.proofs.Math.Seq.{drop-cons}
 use Rattle.std.proofs.lemmas.Bool.Decides.{nat_tests}
-use Rattle.std.proofs.lemmas.List.{get_or-map, length-map}
+use Rattle.std.proofs.lemmas.List.{append-nil, get_or-map, length-map}
 use Rattle.std.proofs.lemmas.List.Elements.{All-get_or}
 use Rattle.journal.specs.Parts.{Part}
-use Rattle.space_node.specs.Places.{IsFirstShareOf, all_but_first, left_after, replicas_among}
+use Rattle.space_node.specs.Places.{IsFirstShareOf, all_but_first, clients_among, left_after, replicas_among}
 
 -- the orders that are left are those of the replicas among the parties that have no state yet
 abbrev pub AreLeft : List Part → List Part → ℕ → Type 0
@@ -74,6 +74,12 @@ pub after_replica : (p : ℕ) (orders later : List Part) → p < 256 → later �
 after_replica p orders later below same =
     let replica : nat_lt p 256 ≡ true = grind (arith, nat_tests) in
     same ∙ ap (λ (b : Bool). cond b (all_but_first orders) orders) (sym replica)
+
+-- it is no client
+pub no_client : (p : ℕ) (clients : List ℕ) → p < 256 → clients ≡ clients ++ clients_among (p ∷ [])
+no_client p clients below =
+    let replica : nat_le 256 p ≡ false = grind (arith, nat_tests) in
+    sym (append-nil clients) ∙ ap (λ (b : Bool). clients ++ cond b (p ∷ []) []) (sym replica)
 
 -- and a client takes none
 pub after_client : (p : ℕ) (orders : List Part) → 256 ≤ p → orders ≡ left_after p orders

@@ -1,12 +1,13 @@
 //! The threads of a faulty replica. Each takes messages from its inbox until it is told to end.
 
-ghost use Rattle.std.specs.Prelude.{◌≡◌, ◌<◌, IfSome};
+ghost use Rattle.std.specs.Prelude.{◌≡◌, ◌<◌, IfSome, List, ℕ};
+ghost use Rattle.signing.specs.Publics.{knows};
 ghost use Rattle.space_node.specs.Drills.{IsStale};
 
 use crate::drill::Drill;
 use crate::fault::ThreadFault;
 use crate::inbox::InboxMessage;
-use crate::parties::NodeEnd;
+use crate::parties::{NodeEnd, own_ring};
 use crate::shared::Shared;
 use authenticator::Ring;
 use bumpalo::Bump;
@@ -23,7 +24,7 @@ use std::thread::{JoinHandle, Threads};
 use terms::{Number, Party, ReplicaId};
 use wire::Reply;
 
-/// A replica that has the keys for its answers, and nothing else.
+/// A replica that has its own keys, and nothing else.
 #[derive(Drop)]
 struct Stale {
     me: ReplicaId,
@@ -53,7 +54,7 @@ pub(crate) fn start_drill<
     match drill {
         Drill::Silent => start_silent(rt, reads, threads),
         Drill::Stale => {
-            let ring = Ring::new(alloc, config.seed(), config.faults(), config.clients());
+            let ring = own_ring(alloc, config, Party::Replica(replica))?;
             let stale = Stale { me: replica, ring };
             start_stale(rt, alloc, shared, stale, reads, threads)
         }
@@ -127,7 +128,8 @@ fn answer_reads<N: Naming, R: Wait>(
 impl Stale {
     // The output for bytes in which the replica receives a read, if memory suffices.
     fn answer(&mut self, alloc: Global, bytes: &[u8], arena: &mut Bump) -> Option<Output>
-        ensures { IfSome result (IsStale self.old.ring self.old.me.0 bytes.now) }
+        ensures { (publics : List (List ℕ))
+            → IfSome result (IsStale (knows self.old.ring publics) self.old.me.0 bytes.now) }
     {
         if !asks_read(bytes) {
             return None;

@@ -32,6 +32,12 @@ impl<F: Drop> From<SpawnError<F>> for ThreadFault {
     }
 }
 
+impl From<NoMemory> for ThreadFault {
+    fn from(_failed: NoMemory) -> ThreadFault {
+        ThreadFault::NoMemory
+    }
+}
+
 impl From<AllocError> for ThreadFault {
     fn from(_failed: AllocError) -> ThreadFault {
         ThreadFault::NoMemory

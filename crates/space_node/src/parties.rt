@@ -1,8 +1,8 @@
 //! The parties of a new cluster, with their states.
 
 ghost use Rattle.std.specs.Prelude.{◌≡◌, ◌++◌, ◌<◌, [], ◌∷◌, All, IfOk, OnOk, map};
-ghost use Rattle.terms.specs.Parties.{client_party};
-ghost use Rattle.protocol.specs.System.Configuration.{IsConfiguration};
+ghost use Rattle.terms.specs.Parties.{client_party, party_number};
+ghost use Rattle.protocol.specs.System.Configuration.{IsConfiguration, members};
 ghost use Rattle.space_node.specs.Places.{IsFirstShareOf, clients_among, clients_of, all_but_first, left_after, replicas_among};
 ghost use Rattle.space_node.specs.PartyStates.{IsNew};
 
@@ -11,13 +11,13 @@ use crate::inbox::{Inbox, InboxMessage};
 use crate::node_desk::NodeDesk;
 use crate::node_order::NodeOrder;
 use crate::shared::{Inboxes, Node, Shared};
-use authenticator::Ring;
+use authenticator::{Ring, deal, signing_seed};
 use client_cert::Client;
 use crossbeam_channel::{Receiver, unbounded};
 use events::Config;
 use journal::{Journal, Naming, Opened, OrderShare, Share};
-use replica::Replica;
-use signing::PublicKeys;
+use replica::{Numbers, Replica};
+use signing::{PublicKeys, Signer};
 use std::alloc::Global;
 use std::sync::Mutex;
 use terms::{ClientId, NoMemory, Party, ReplicaId};
@@ -112,7 +112,7 @@ fn new_parties<N: Naming>(
     ensures { IfOk result (λ parties. map (λ e. e.state.party) parties.client_ends.items
         ≡ clients_among (map (λ s. s.party) shares.items)) }
 {
-    let publics = PublicKeys::new(alloc, config.seed())?;
+    let publics = PublicKeys::new(alloc, config.seed(), config.faults())?;
     let mut parties = Parties {
         nodes: Vec::new(alloc),
         clients: Vec::new(alloc),
@@ -133,7 +133,7 @@ fn add_party<N: Naming>(
     parties: &mut Parties<N>,
 ) -> Result<(), NoMemory>
     requires config { config.now ≡ N.config }
-    requires keys { publics.now ≡ config.now.seed }
+    requires keys { publics.now ≡ config.now.publics }
     requires new { share.history ≡ [] }
     requires new_orders { All (λ o. o.history ≡ []) orders.old.items }
     requires first { IsFirstShareOf share.party orders.old.items }
@@ -171,6 +171,15 @@ fn take_order<N: Naming>(orders: &mut Vec<OrderShare<N>>, replica: ReplicaId) ->
     order
 }
 
+/// The keys of one party, and of no other.
+pub(crate) fn own_ring(alloc: Global, config: &Config, me: Party) -> Result<Ring, NoMemory>
+    ensures { IfOk result (λ ring. ring ≡ record (members config.now (party_number me)) { publics = [] }) }
+{
+    let (faults, clients) = (config.faults(), config.clients());
+    let keys = deal(alloc, config.seed(), faults, clients, me)?;
+    Ring::of_party(alloc, faults, clients, keys)
+}
+
 fn new_node<N: Naming>(
     alloc: Global,
     config: &Config,
@@ -180,7 +189,7 @@ fn new_node<N: Naming>(
     order: OrderShare<N>,
 ) -> Result<Node<N>, NoMemory>
     requires config { config.now ≡ N.config }
-    requires keys { publics.now ≡ config.now.seed }
+    requires keys { publics.now ≡ config.now.publics }
     requires party { share.party ≡ replica.0 }
     requires new { share.history ≡ [] }
     requires order_party { order.party ≡ replica.0 }
@@ -188,7 +197,16 @@ fn new_node<N: Naming>(
 {
     // Tells a proof that it is a party of the configuration.
     let _party = order.party();
-    let whole = Replica::new(alloc, config, replica, publics.share()?)?;
+    let numbers = Numbers {
+        faults: config.faults(),
+        clients: config.clients(),
+        period: config.period(),
+    };
+    let me = Party::Replica(replica);
+    let ring = own_ring(alloc, config, me)?;
+    let signer = Signer::from_seed(&signing_seed(config.seed(), me));
+    let keys = publics.share()?;
+    let whole = Replica::new(alloc, numbers, replica, ring, signer, keys)?;
     let (orderer, desk) = whole.split();
     Ok(Node {
         replica,
@@ -205,13 +223,14 @@ fn new_client<N: Naming>(
     share: Share<N>,
 ) -> Result<(Inbox, ClientEnd<N>), NoMemory>
     requires config { config.now ≡ N.config }
-    requires keys { publics.now ≡ config.now.seed }
+    requires keys { publics.now ≡ config.now.publics }
     requires party { share.party ≡ client_party id.number }
     requires new { share.history ≡ [] }
     ensures { IfOk result (λ r. r.1.state.party ≡ share.party) }
 {
-    let ring = Ring::new(alloc, config.seed(), config.faults(), config.clients());
-    let client = Client::new(id, config.faults(), ring, publics.share()?);
+    let ring = own_ring(alloc, config, Party::Client(id))?;
+    let keys = publics.share()?;
+    let client = Client::new(id, config.faults(), ring, keys);
     let (sender, messages) = unbounded(alloc)?;
     let state = HandleState::new(id, client, share);
     Ok((Inbox::new(sender), ClientEnd { state, messages }))

@@ -14,7 +14,7 @@ use Rattle.space_node.proofs.drilling.Stale.TheSendSync.{the_send as stale_send}
 use Rattle.space_node.proofs.Captures.{closure_send}
 use Rattle.space_node.proofs.Sends.{heap_send}
 use Rattle.space_node.proofs.NodeSends.{inbox_send, counted_shared_send}
-use Rattle.space_node.proofs.drilling.start_stale.Lts.{arg-9-1}
+use Rattle.space_node.proofs.drilling.start_stale.Lts.{arg-10-1}
 use Rattle.space_node.proofs.drilling.start_stale.Goals as goal
 
 abbrev counted : RattleType → RattleType
@@ -26,7 +26,7 @@ inbox = receiver.the_row note.the_row heap.the_row ghosts
 pub spawn-requires-send-F : goal.spawn-requires-send-F
 spawn-requires-send-F g c κs within =
     let N = param 0 g.row.N in
-    param_send 1 (arg-9-1 g.row.N g.row.R g.N.laws g.R.laws g.R.copy g.N.Naming g.N.Naming-dict g.R.Threads g.R.Threads-dict
+    param_send 1 (arg-10-1 g.row.N g.row.R g.N.laws g.R.laws g.R.copy g.N.Naming g.N.Naming-dict g.R.Threads g.R.Threads-dict
     g.R.Wait g.R.Wait-dict g.R.Clone g.R.Clone-dict κs)
     (arg_send _ yes _ (closure_send _ (copied 1 g.row.R ∷ heap.the_row ∷ counted (shared.the_row N g.N.Naming)
     ∷ stale.the_row ∷ inbox ∷ []) (
