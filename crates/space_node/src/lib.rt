@@ -37,6 +37,8 @@
 //!
 //! - A `NodeOrder` has the orderer, and a `NodeDesk` the desk with the share. Contracts see of either a party, a
 //!   history and whether it stopped (`PartyState`).
+//! - Each party has its own keys, and no other party's: a correct replica its row and its signer, a client or a stale
+//!   replica its row. They share the public keys, which the seed gives as they are needed.
 //! - If memory or the journal refuses, or a test's gate says so, the parts stop and nothing is sent. A frame goes into
 //!   an inbox with the position at which it was sent. Its bytes lie in memory once, for the trace, the shares and all
 //!   receivers.
