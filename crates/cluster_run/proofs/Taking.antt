@@ -24,7 +24,7 @@ use Rattle.cluster_run.specs.Room.{AnsweredOperationsTakeEntries, least_entries}
 
 -- the senders of the frames that came
 abbrev sender_of : Configuration → ℕ → List ℕ → ℕ
-sender_of c me bytes = option_map_or (λ body. body.sender) (authentic (members c) me bytes) 0
+sender_of c me bytes = option_map_or (λ body. body.sender) (authentic (members c me) me bytes) 0
 
 abbrev senders : Configuration → ℕ → List Entry → List ℕ
 senders c me [] = []
@@ -76,7 +76,7 @@ latest_sent : (c : Configuration) (me t : ℕ) (mode : Mode) (s : ℕ) (xs : Lis
 unfolding latest
 latest_sent c me t mode s [] h = absurd cc
 latest_sent c me t mode s (Invoke client u op ∷ past) h = absurd cc
-latest_sent c me t mode s (Got p bytes ∷ past) h = go (authentic (members c) me bytes) h (latest_sent c me t mode s past)
+latest_sent c me t mode s (Got p bytes ∷ past) h = go (authentic (members c me) me bytes) h (latest_sent c me t mode s past)
   where
     go : (o : Option Body) → is_some (later_vote mode (option_and_then (reply_vote me t s) o) (latest c me past t mode s)) ≡ true
         → (is_some (latest c me past t mode s) ≡ true → member (senders c me past) s ≡ true)
