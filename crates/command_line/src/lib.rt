@@ -339,7 +339,8 @@ fn schedule<'a>(alloc: Global) -> Result<Command<'a>, AllocError> {
 }
 
 // Who has the seed has all keys.
-const SEED: &str = "The seed gives all keys, so no party may have it. Without a seed in the configuration a fresh one is drawn from
+const SEED: &str =
+    "The seed gives all keys, so no party may have it. Without a seed in the configuration a fresh one is drawn from
 /dev/urandom, and kept nowhere.";
 
 fn keys<'a>(alloc: Global) -> Result<Command<'a>, AllocError> {
