@@ -47,6 +47,7 @@ is_drilled_config c rs valid may = record {
   some_clients = valid.some_clients;
   clients = valid.clients;
   seed = valid.seed;
+  publics = valid.publics;
   period = valid.period;
   period_most = valid.period_most;
   few = may.0;
