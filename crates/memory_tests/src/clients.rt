@@ -1,14 +1,12 @@
 //! A client that makes its first call.
 
-ghost use Rattle.std.specs.Prelude.{◌≡◌};
-
 use crate::left::{Call, Outcome, assert_right, outcome_of, under_each_size};
-use authenticator::Ring;
+use authenticator::{Ring, deal};
 use client_cert::{Client, InvokeFault};
 use events::Output;
 use signing::PublicKeys;
 use std::alloc::Global;
-use terms::{ClientId, NoMemory};
+use terms::{ClientId, NoMemory, Party};
 use test_bytes::{TAKE, read_op, seed};
 use tuple_codec::Op;
 
@@ -22,20 +20,20 @@ struct Invokes;
 
 impl Call for Invokes {
     fn call(&mut self, alloc: Global) -> Outcome {
-        let seed = seed();
-        match PublicKeys::new(alloc, &seed) {
-            Ok(publics) => invokes_with(alloc, &seed, publics),
+        match new_client(alloc) {
+            Ok(mut client) => take(&mut client, alloc),
             Err(NoMemory) => Outcome::Refused,
         }
     }
 }
 
-fn invokes_with(alloc: Global, seed: &[u8; 32], publics: PublicKeys) -> Outcome
-    requires keys { publics ≡ seed.now }
-{
-    let ring = Ring::new(alloc, seed, 1, 1);
-    let mut client = Client::new(ClientId { number: 0 }, 1, ring, publics);
-    take(&mut client, alloc)
+const CLIENT: ClientId = ClientId { number: 0 };
+
+fn new_client(alloc: Global) -> Result<Client, NoMemory> {
+    let publics = PublicKeys::new(alloc, &seed(), 1)?;
+    let keys = deal(alloc, &seed(), 1, 1, Party::Client(CLIENT))?;
+    let ring = Ring::of_party(alloc, 1, 1, keys)?;
+    Ok(Client::new(CLIENT, 1, ring, publics))
 }
 
 fn take(client: &mut Client, alloc: Global) -> Outcome {

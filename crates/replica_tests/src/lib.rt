@@ -14,6 +14,8 @@ mod dropped;
 #[cfg(test)]
 mod frames;
 #[cfg(test)]
+mod other_keys;
+#[cfg(test)]
 mod phases;
 #[cfg(test)]
 mod pq_sets_in_views;

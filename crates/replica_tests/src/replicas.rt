@@ -1,11 +1,14 @@
 //! One of four replicas, and its outputs.
 
+ghost use Rattle.std.specs.Prelude.{◌≤◌, IsTrue};
+
 use crate::answers::of_stop;
 use crate::frames::{Sent, batch, frame_of, receivers_of};
 use crate::states::{State, root_of};
-use events::{Config, Output, Outputs, Stop};
-use replica::{Desk, Event, Orderer, Replica};
-use signing::PublicKeys;
+use authenticator::{Ring, deal, signing_seed};
+use events::{Output, Outputs, Stop};
+use replica::{Desk, Event, Numbers, Orderer, Replica};
+use signing::{PublicKeys, Signer};
 use std::alloc::Global;
 use terms::{NoMemory, Party, ReplicaId};
 use test_bytes::{FRAME_SEED, Verdict, both};
@@ -21,17 +24,27 @@ pub enum Given {
 /// A frame that comes, and the outputs for it.
 pub type Row<'a> = (Sent, &'a [Given]);
 
-/// The configuration of four replicas and three clients, all correct, with a checkpoint at each multiple of the period;
-/// none if that is no valid one.
-pub fn config_of_period(alloc: Global, period: u8) -> Option<Config> {
-    Config::new(1, 3, FRAME_SEED, period, Vec::new(alloc), Vec::new(alloc)).ok()
-}
-
-/// The replica of this number below 4, before its first event.
-pub fn new_replica(alloc: Global, config: &Config, me: u8) -> Result<Replica, NoMemory> {
-    let publics = PublicKeys::new(alloc, config.seed())?;
-    let last = config.replicas().saturating_sub(1);
-    Replica::new(alloc, config, ReplicaId(me.min(last)), publics)
+// The replica among three clients, with its own keys of this seed.
+fn new_replica(
+    alloc: Global,
+    seed: &[u8; 32],
+    period: u8,
+    me: ReplicaId,
+) -> Result<Replica, NoMemory>
+    requires known { me.0 ≤ 3 }
+    requires some { 1 ≤ period }
+    requires short { period ≤ 16 }
+{
+    let numbers = Numbers {
+        faults: 1,
+        clients: 3,
+        period,
+    };
+    let party = Party::Replica(me);
+    let ring = Ring::of_party(alloc, 1, 3, deal(alloc, seed, 1, 3, party)?)?;
+    let signer = Signer::from_seed(&signing_seed(seed, party));
+    let publics = PublicKeys::new(alloc, seed, 1)?;
+    Replica::new(alloc, numbers, me, ring, signer, publics)
 }
 
 // It lies in a box: a function that owns all of a replica takes long to prove.
@@ -42,19 +55,42 @@ fn boxed<T: Drop>(alloc: Global, value: T) -> Result<Box<T>, Stop> {
     }
 }
 
-fn boxed_in(alloc: Global, config: &Config, me: u8) -> Result<Box<Replica>, Stop> {
-    match new_replica(alloc, config, me) {
+fn boxed_in(alloc: Global, seed: &[u8; 32], period: u8, me: ReplicaId) -> Result<Box<Replica>, Stop>
+    requires known { me.0 ≤ 3 }
+    requires some { 1 ≤ period }
+    requires short { period ≤ 16 }
+{
+    match new_replica(alloc, seed, period, me) {
         Ok(replica) => boxed(alloc, replica),
         Err(NoMemory) => Err(Stop::NoMemory),
     }
 }
 
-/// The replica in the configuration of this period. Where there is none it is as one that stopped.
-pub fn replica_of_period(alloc: Global, period: u8, me: u8) -> Result<Box<Replica>, Stop> {
-    match config_of_period(alloc, period) {
-        Some(config) => boxed_in(alloc, &config, me),
-        None => Err(Stop::Stopped),
+// Whether one of four replicas has this number, and may keep its state so often.
+fn is_there(period: u8, me: u8) -> bool
+    ensures { IsTrue result → (me ≤ 3) × (1 ≤ period) × (period ≤ 16) }
+{
+    me <= 3 && period >= 1 && period <= 16
+}
+
+/// The replica of this number below 4, before its first event, with a checkpoint at each multiple of the period and with
+/// the keys that the seed gives it. Where there is none it is as one that stopped.
+pub fn replica_of_seed(
+    alloc: Global,
+    seed: &[u8; 32],
+    period: u8,
+    me: u8,
+) -> Result<Box<Replica>, Stop> {
+    if is_there(period, me) {
+        boxed_in(alloc, seed, period, ReplicaId(me))
+    } else {
+        Err(Stop::Stopped)
     }
+}
+
+/// The same with the keys by which frames are sealed.
+pub fn replica_of_period(alloc: Global, period: u8, me: u8) -> Result<Box<Replica>, Stop> {
+    replica_of_seed(alloc, &FRAME_SEED, period, me)
 }
 
 /// The parts of a replica, in boxes.
@@ -74,8 +110,12 @@ fn split(alloc: Global, replica: Replica) -> Result<Parts, Stop> {
     both_parts(boxed(alloc, orderer), boxed(alloc, desk))
 }
 
-fn split_in(alloc: Global, config: &Config, me: u8) -> Result<Parts, Stop> {
-    match new_replica(alloc, config, me) {
+fn split_in(alloc: Global, period: u8, me: ReplicaId) -> Result<Parts, Stop>
+    requires known { me.0 ≤ 3 }
+    requires some { 1 ≤ period }
+    requires short { period ≤ 16 }
+{
+    match new_replica(alloc, &FRAME_SEED, period, me) {
         Ok(replica) => split(alloc, replica),
         Err(NoMemory) => Err(Stop::NoMemory),
     }
@@ -83,9 +123,10 @@ fn split_in(alloc: Global, config: &Config, me: u8) -> Result<Parts, Stop> {
 
 /// The parts of that replica.
 pub fn parts_of_period(alloc: Global, period: u8, me: u8) -> Result<Parts, Stop> {
-    match config_of_period(alloc, period) {
-        Some(config) => split_in(alloc, &config, me),
-        None => Err(Stop::Stopped),
+    if is_there(period, me) {
+        split_in(alloc, period, ReplicaId(me))
+    } else {
+        Err(Stop::Stopped)
     }
 }
 
@@ -184,7 +225,7 @@ fn gives_tables(replica: &mut Replica, alloc: Global, tables: &[&[Row<'_>]]) -> 
     Ok(true)
 }
 
-/// Whether the replica of this number, in the configuration of this period, gives the expected outputs for each frame
+/// Whether the replica of this number, with a checkpoint at each multiple of this period, gives the expected outputs for each frame
 /// of each table.
 pub fn runs(alloc: Global, me: u8, period: u8, tables: &[&[Row<'_>]]) -> Verdict {
     match replica_of_period(alloc, period, me) {
