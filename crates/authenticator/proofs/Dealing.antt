@@ -1,6 +1,6 @@
 -- The keys that a seed gives a party: one for each direction with each of its peers, and no other.
-use Rattle.std.proofs.Common.{◌≡◌, ℕ, zero, suc, ◌+◌, ◌*◌, ◌<◌, ◌≤◌, ◌⊎◌, inl, inr, Bool, true, false, cond, ◌&&◌, ◌||◌, ◌==◌, nat_lt, nat_le, List, [], ◌∷◌, ◌++◌, Option, Some, None, refl, sym, ap, ap₂, subst, ◌∙◌, arith, eqb-true}
-use Rattle.std.specs.Prelude.{not, filter, find, option_map, ◌-◌}
+use Rattle.std.proofs.Common.{◌≡◌, ℕ, zero, suc, ◌+◌, ◌*◌, ◌<◌, ◌≤◌, ◌⊎◌, inl, inr, Bool, true, false, cond, ◌&&◌, ◌||◌, ◌==◌, nat_lt, nat_le, List, [], ◌∷◌, ◌++◌, Some, refl, sym, ap, ap₂, subst, ◌∙◌, arith, eqb-true}
+use Rattle.std.specs.Prelude.{not, find, option_map, ◌-◌}
 use Rattle.std.proofs.lemmas.List.{append_assoc, append-nil}
 use Rattle.std.specs.List.{range_with_len}
 use Rattle.std.proofs.lemmas.Bool.{and_parts, and_from, eq-eqb, eqb-false, ltb-true, ltb-false, leb-true}
@@ -10,11 +10,10 @@ use Rattle.authenticator.specs.Keys.{derived_key, find_key, is_between, row}
 use Rattle.authenticator.specs.Dealing.{all_clients, all_replicas, both_keys, clients_of, dealt_keys, keys_with, other_replicas, others_among, peers}
 use Rattle.authenticator.specs.Laws.{IsOwnKey, is_among_clients, is_peer}
 use Rattle.authenticator.specs.declared.row.SharedKey.{SharedKey}
-use Rattle.authenticator.proofs.Digests.{each_append}
 
 -- ---- parties in a list
 
-abbrev IsIn : ℕ → List ℕ → Type 0
+abbrev pub IsIn : ℕ → List ℕ → Type 0
 IsIn x [] = ⊥
 IsIn x (y ∷ ys) = (y ≡ x) ⊎ IsIn x ys
 

@@ -7,5 +7,6 @@ pub mod Fours
 pub mod Frames
 pub mod Keeping
 pub mod Lengths
+pub mod Others
 pub mod Refusing
 pub mod Sealing

@@ -1,5 +1,5 @@
 -- The judgement of a frame by its header: its sender, and its authenticator.
-use Rattle.std.specs.Prelude.{ℕ, Bool, ◌||◌, List, Option, Some, None, if◌then◌else◌}
+use Rattle.std.specs.Prelude.{ℕ, Bool, ◌||◌, Option, Some, None, if◌then◌else◌}
 use Rattle.wire_format.specs.Spelling.{authenticator_is_signed}
 use Rattle.wire.specs.Headers.{HeaderData}
 use Rattle.authenticator.specs.declared.sealed.OpenFault.{OpenFault}

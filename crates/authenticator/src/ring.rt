@@ -5,17 +5,19 @@ ghost use Rattle.authenticator.specs.Kept.{IsCodeBetween, IsKeyBetween, KeepsOrT
 ghost use Rattle.authenticator.specs.Keys.{dealt, find_key, mac_between, row, shared_mac};
 ghost use Rattle.authenticator.specs.Made.{AreMacsTo};
 ghost use Rattle.authenticator.specs.Headers.{takes_part};
+ghost use Rattle.authenticator.specs.Dealing.{dealt_keys};
+ghost use Rattle.terms.specs.Parties.{party_number};
 ghost use Rattle.authenticator.specs.RingView.{keys_of};
 ghost use Rattle.authenticator.specs.Membership.{has_sender};
 ghost use Rattle.wire_format.specs.Views.{body_data};
 
 use crate::mac::{Key, hmac, mac_four};
-use crate::row::{Seed, SharedKey, key_among};
+use crate::row::{DealtKeys, Seed, SharedKey, key_among};
 use std::alloc::Global;
 use std::collections::HashMap;
 use std::marker::Model;
 use std::sync::Arc;
-use terms::{FIRST_CLIENT, NoMemory};
+use terms::{FIRST_CLIENT, NoMemory, Party};
 use wire::{Body, Message};
 
 /// A text with its authentication code.
@@ -41,11 +43,13 @@ impl CodedText {
     }
 }
 
-/// Where a ring has its keys from: a seed that gives those of all parties, or the keys of one party.
+/// Where a ring has its keys from: a seed that gives those of all parties, the keys of one party, or what a seed gives
+/// one party.
 #[derive(Drop)]
 enum Source {
     Seed(Seed),
     Row(Arc<Vec<SharedKey>>),
+    Dealt(DealtKeys),
 }
 
 /// The keys of one party, or of all parties of a seed. The ring makes each ready for texts when it first needs it, and
@@ -116,6 +120,21 @@ impl Ring {
         Ok(Ring::from_source(alloc, faults, clients, source))
     }
 
+    /// The keys that a seed gives one party, and no other, as `deal` lists them. Each is derived when it is first needed,
+    /// so the ring holds the seed: it serves who plays all parties, and has the seed anyway. It takes no memory, so it
+    /// gives no error.
+    pub fn dealt(alloc: Global, seed: &[u8; 32], faults: u8, clients: u16, me: Party) -> Ring
+        ensures { result ≡ record {
+          faults = faults;
+          clients = clients;
+          keys = row (dealt_keys seed.now faults clients (party_number me));
+          publics = [];
+        } }
+    {
+        let keys = DealtKeys::new(seed, faults, clients, me.number());
+        Ring::from_source(alloc, faults, clients, Source::Dealt(keys))
+    }
+
     /// A ring of the same keys, which are not copied. What either makes ready or keeps from then on is its own.
     ///
     /// # Errors
@@ -127,6 +146,7 @@ impl Ring {
         let source = match &self.source {
             Source::Seed(seed) => Source::Seed(seed.twin()),
             Source::Row(keys) => Source::Row(Arc::try_clone(keys)?),
+            Source::Dealt(keys) => Source::Dealt(keys.twin()),
         };
         Ok(Ring::from_source(self.alloc, self.faults, self.clients, source))
     }
@@ -204,6 +224,7 @@ impl Ring {
         match &self.source {
             Source::Seed(seed) => Some(seed.derive(from, to)),
             Source::Row(keys) => key_among(keys.as_slice(), from, to),
+            Source::Dealt(keys) => keys.key(from, to),
         }
     }
 

@@ -1,9 +1,11 @@
 //! Shared keys, and how a seed gives them.
 
-ghost use Rattle.std.specs.Prelude.{◌≡◌, [], ◌∷◌, ◌++◌, ◌≤◌, ◌+◌, ◌<◌, IfOk, OnOk};
+ghost use Rattle.std.specs.Prelude.{◌≡◌, [], ◌∷◌, ◌++◌, ◌≤◌, ◌+◌, ◌*◌, ◌<◌, ◌==◌, ◌&&◌, not, nat_lt, IfOk, OnOk};
 ghost use Rattle.std.specs.Int.{w16, to_be_bytes};
 ghost use Rattle.authenticator.specs.Dealing.{all_clients, both_keys, clients_of, dealt_keys, keys_with, other_replicas, others_among};
 ghost use Rattle.authenticator.specs.Keys.{derived_key, find_key, row, signing_seed};
+ghost use Rattle.authenticator.specs.Laws.{is_among_clients, is_peer};
+ghost use Rattle.authenticator.specs.RingView.{joins, keys_dealt};
 ghost use Rattle.terms.specs.Parties.{party_number};
 
 use crate::mac::{Key, hmac};
@@ -76,6 +78,77 @@ impl Seed {
             key: self.derive(me, party),
         })?;
         Ok(())
+    }
+}
+
+/// What a seed gives one party: the keys that `deal` lists, each derived when it is asked for.
+#[derive(Drop)]
+pub(crate) struct DealtKeys {
+    seed: Seed,
+    faults: u8,
+    clients: u16,
+    me: u16,
+}
+
+impl DealtKeys {
+    pub(crate) fn new(seed: &[u8; 32], faults: u8, clients: u16, me: u16) -> DealtKeys
+        ensures { keys_dealt result ≡ dealt_keys seed.now faults clients me }
+    {
+        DealtKeys {
+            seed: Seed::new(seed),
+            faults,
+            clients,
+            me,
+        }
+    }
+
+    /// The same keys once more.
+    pub(crate) fn twin(&self) -> DealtKeys
+        ensures { keys_dealt result ≡ keys_dealt self.now }
+    {
+        DealtKeys {
+            seed: self.seed.twin(),
+            faults: self.faults,
+            clients: self.clients,
+            me: self.me,
+        }
+    }
+
+    /// The key from one party to another, if one of them is this party, and the other exchanges frames with it.
+    pub(crate) fn key(&self, from: u16, to: u16) -> Option<[u8; 32]>
+        ensures { result ≡ find_key (row (keys_dealt self.now)) from to }
+    {
+        if self.joins(from, to) {
+            Some(self.seed.derive(from, to))
+        } else {
+            None
+        }
+    }
+
+    // Whether one of the two is this party, and the other exchanges frames with it.
+    fn joins(&self, from: u16, to: u16) -> bool
+        ensures { result ≡ joins self.now.faults self.now.clients self.now.me from to }
+    {
+        self.meets(from, to) || self.meets(to, from)
+    }
+
+    // Whether the one is this party, and the other exchanges frames with it.
+    fn meets(&self, one: u16, other: u16) -> bool
+        ensures { result ≡ ((one == self.now.me) && is_peer self.now.faults self.now.clients self.now.me other) }
+    {
+        one == self.me && (self.is_other_replica(other) || self.is_client_of_mine(other))
+    }
+
+    fn is_other_replica(&self, party: u16) -> bool
+        ensures { result ≡ (not (party == self.now.me) && nat_lt party (3 * self.now.faults + 1)) }
+    {
+        party != self.me && party <= 3 * u16::from(self.faults)
+    }
+
+    fn is_client_of_mine(&self, party: u16) -> bool
+        ensures { result ≡ (nat_lt self.now.me FIRST_CLIENT && is_among_clients self.now.clients party) }
+    {
+        self.me < FIRST_CLIENT && party >= FIRST_CLIENT && party - FIRST_CLIENT < self.clients
     }
 }
 

@@ -22,7 +22,7 @@ ghost use Rattle.schedule_world.specs.Stopped.{stopped_clients, stopped_parties,
 use crate::pool::Pool;
 use crate::receivers::{correct_of, keep_correct};
 use crate::report::Acceptance;
-use authenticator::{Ring, deal, signing_seed};
+use authenticator::{Ring, signing_seed};
 use client_cert::{Client, Event as ClientEvent};
 use events::{Config, Entry, EntryKind, Output, Outputs, SharedBytes};
 use replica::{Event, Numbers, Replica};
@@ -501,7 +501,7 @@ fn new_replica(
     requires known { id.0 < replicas config.now }
     ensures { IfOk result (λ r. IsNewReplica config.now id.0 r) }
 {
-    let ring = own_ring(alloc, config, Party::Replica(id))?;
+    let ring = own_ring(alloc, config, Party::Replica(id));
     let signer = Signer::from_seed(&signing_seed(config.seed(), Party::Replica(id)));
     let numbers = Numbers {
         faults: config.faults(),
@@ -535,21 +535,21 @@ fn new_stage_client(
     requires keys { publics.now ≡ config.now.publics }
     ensures { IfOk result (λ stage_client. IsNewStageClient config.now id.number stage_client) }
 {
-    let ring = own_ring(alloc, config, Party::Client(id))?;
+    let ring = own_ring(alloc, config, Party::Client(id));
     let client = Client::new(id, config.faults(), ring, publics.share()?);
     Ok(StageClient { client, calls: 0 })
 }
 
-// The keys that the seed gives a party, and no other.
-fn own_ring(alloc: Global, config: &Config, party: Party) -> Result<Ring, NoMemory>
-    ensures { IfOk result (λ ring. ring ≡ own_ring config.now (party_number party)) }
+// The keys that the seed gives a party, and no other. Most parties of a schedule never meet, so no row is dealt as a
+// whole.
+fn own_ring(alloc: Global, config: &Config, party: Party) -> Ring
+    ensures { result ≡ own_ring config.now (party_number party) }
 {
-    let keys = deal(
+    Ring::dealt(
         alloc,
         config.seed(),
         config.faults(),
         config.clients(),
         party,
-    )?;
-    Ring::of_party(alloc, config.faults(), config.clients(), keys)
+    )
 }

@@ -1,6 +1,6 @@
-use Rattle.std.proofs.Common.{◌∙◌, ◌++◌, ap, sym}
+use Rattle.std.proofs.Common.{sym}
 use Rattle.terms.specs.Parties.{party_number}
-use Rattle.authenticator.specs.Dealing.{all_clients, clients_of, keys_with, other_replicas}
+use Rattle.authenticator.specs.Dealing.{all_clients, clients_of, other_replicas}
 use Rattle.authenticator.proofs.Dealing.{keys_with-append}
 use Rattle.authenticator.proofs.row.deal.Goals as goal
 

@@ -1,4 +1,4 @@
-use Rattle.std.proofs.Common.{◌≡◌, ◌∙◌, ap, None, Some, sym}
+use Rattle.std.proofs.Common.{◌∙◌, ap}
 use Rattle.wire.specs.Headers.{header_data, authenticator_bytes_data}
 use Rattle.authenticator.specs.Authentic.{has_some_mac}
 use Rattle.authenticator.specs.Keys.{shared_mac}

@@ -1,4 +1,4 @@
-use Rattle.std.proofs.Common.{◌≡◌, sym, rules}
+use Rattle.std.proofs.Common.{sym, rules}
 use Rattle.authenticator.specs.Kept.{IsCodeBetween}
 use Rattle.authenticator.specs.RingView.{keys_of}
 use Rattle.authenticator.proofs.Keeping.{coded-taken, fit-put}

@@ -1,4 +1,4 @@
-use Rattle.std.proofs.Common.{◌≡◌, ◌∙◌, ap}
+use Rattle.std.proofs.Common.{◌∙◌, ap}
 use Rattle.authenticator.specs.Keys.{derived_key}
 use Rattle.authenticator.specs.Mac.{hmac_of}
 use Rattle.authenticator.proofs.row.Seed.derive.Goals as goal
