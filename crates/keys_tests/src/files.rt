@@ -1,10 +1,11 @@
 //! Files of parties that are read and written, and texts that are none.
 
 use crate::texts::{CLIENT, REPLICA, STRANGER};
-use authenticator::Ring;
+use authenticator::{OpenFault, Ring};
 use party_keys::{FileFault, PartyKeys, read_file};
 use std::alloc::{AllocError, Global};
 use std::test::Fail;
+use terms::{Party, ReplicaId};
 
 // A text in a file, another in its place, and how the reason begins why the file is refused then.
 #[derive(Clone, Copy)]
@@ -238,5 +239,34 @@ fn rows_of_one_seed_agree(rt: HostRuntime) -> Result<(), Fail> {
     assert!(rt; here == client.mac(256, 1, b"text"));
     assert!(rt; here != stranger.mac(256, 1, b"text"));
     assert!(rt; here != replica.mac(1, 256, b"text"));
+    Ok(())
+}
+
+// The request of client 0 for out (1), with timestamp 1, for replica 1 alone. Python's hmac made its MAC under the seed
+// 00 01 .. 1f: be32 23 || 41 || be16 256 || be64 1 || 00 || 21 01 01 || be64 1 || 00 01 || be16 1 || MAC.
+static REQUEST: [u8; 63] = [
+    0x00, 0x00, 0x00, 0x17, 0x41, 0x01, 0x00, 0x00, 0x00, 0x00, 0x00, 0x00, 0x00, 0x00, 0x01, 0x00,
+    0x21, 0x01, 0x01, 0x00, 0x00, 0x00, 0x00, 0x00, 0x00, 0x00, 0x01, 0x00, 0x01, 0x00, 0x01, 0x53,
+    0x89, 0x59, 0x03, 0x69, 0x92, 0xe8, 0x4e, 0x4b, 0x34, 0x66, 0xc6, 0xc9, 0xdc, 0xbd, 0xe8, 0x9a,
+    0x45, 0xcb, 0xde, 0xbf, 0x8a, 0xf8, 0xac, 0x8b, 0x3f, 0x0e, 0x24, 0x4a, 0x91, 0xe3, 0x95,
+];
+
+// Whether replica 1 opens the request by the keys of its file.
+fn opens(alloc: Global, file: &str) -> Result<bool, Fail> {
+    let mut ring = ring_of(alloc, file)?;
+    match ring.open(alloc, &REQUEST, Party::Replica(ReplicaId(1))) {
+        Ok(opened) => {
+            drop(opened);
+            Ok(true)
+        }
+        Err(OpenFault::BadMac) => Ok(false),
+        Err(fault) => Err(Fail::from(fault)),
+    }
+}
+
+#[test]
+fn a_file_of_another_seed_opens_nothing(rt: HostRuntime) -> Result<(), Fail> {
+    assert!(rt; opens(rt.alloc(), REPLICA)?);
+    assert!(rt; !opens(rt.alloc(), STRANGER)?);
     Ok(())
 }
