@@ -4,7 +4,7 @@
 //! A node has two inboxes, each an unbounded channel, and a thread for each: one orders, the other answers reads
 //! beside it. A thread takes locks in this order: order, shelf, journal. It makes a step and seals its frames before
 //! it takes the journal's lock. The event is in the journal before its first byte is put on a channel, and the thread
-//! holds no lock while it sends frames. Threads share nothing else.
+//! holds no lock while it sends frames. Beside these, threads share the public keys alone, and no secret of a party.
 //!
 //! # What is proved
 //!
