@@ -6,7 +6,7 @@ pub returns : goal.returns
 returns c = record {
   number = c.new-client.ensures.number;
   fits = (
-    c.new-client.ensures.fits c.args.config.now (rw (c.in_ok-ring.ensures, c.in_ok-share.ensures, c.requires.keys) refl),
+    c.new-client.ensures.fits c.args.config.now (rw (c.own_ring-ring.ensures, c.in_ok-share.ensures, c.requires.keys) refl),
     refl,
     λ stopped. absurd (both_ways c.new-client.result.stopped c.new-client.ensures.runs stopped),
   );
