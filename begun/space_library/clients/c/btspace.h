@@ -27,7 +27,7 @@ enum {
     BTSPACE_NO_MEMORY = 4,   /* memory ran out */
     BTSPACE_MALFORMED = 5,   /* no front of the rest spells an operation */
     BTSPACE_TOO_LARGE = 7,   /* the next answer doesn't fit the results */
-    BTSPACE_STOPPED = 21,    /* no birth number is left, after 2^53 operations */
+    BTSPACE_STOPPED = 21,    /* no birth number is left: more than 2^53 operations */
     BTSPACE_BAD_VERSION = 25 /* a space has version 1 or 2 */
 };
 
