@@ -6,7 +6,7 @@
 //! line has the answer that the operation's client accepted to this call. It did so in a trace of the cluster that is
 //! linearizable, if nothing in it is forged, unless two different texts of it have one digest. Without drills nothing
 //! is forged. At a fault `run` writes nothing, unless the writer failed. If the words are no request, the status
-//! follows from the reason. `keys` is that of `keys_command`.
+//! follows from the reason. `keys` is that of `keys_command`, and `replica` that of `replica_command`.
 //!
 //! Tests show that a faulty party is refused before the script is read, and what the program shows while it runs.
 #![tactic(auto)]
@@ -23,6 +23,7 @@ use one_space::{
     Complaint, EscapedErrors, LocalRequest, StandardError, Terminals, complain, is_standard_input,
     print_tuple, run_script, script_at, words_of,
 };
+use replica_command::run_replica;
 use run_command::{Display, Forecast, RunFault, drilled, drills_of, end_run, most_operations, run};
 use schedule_command::{ScheduleFault, end_schedule, read_settings, schedule};
 use space::Version;
@@ -118,6 +119,7 @@ fn act_on<
             printed,
         } => run_configured(rt, config, file, printed),
         Request::Keys { config, folder } => deal_keys(rt, config, folder),
+        Request::Replica { keys } => run_replica(rt, keys),
     }
 }
 

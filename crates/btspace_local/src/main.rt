@@ -48,9 +48,12 @@ fn act_on_words<R: Files + Env + Input + Print + Eprint + AllocGlobal>(
             run_script(rt, terminals, request)
         }
         Ok(Request::Show { digits }) => print_tuple(rt, digits),
-        Ok(Request::Run { .. } | Request::Schedule { .. } | Request::Keys { .. }) => refuse_command(
-            rt,
-        ),
+        Ok(
+            Request::Run { .. }
+            | Request::Schedule { .. }
+            | Request::Keys { .. }
+            | Request::Replica { .. },
+        ) => refuse_command(rt),
         Err(why) => end_words(rt, why),
     }
 }

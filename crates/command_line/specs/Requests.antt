@@ -9,7 +9,7 @@ use Rattle.command_line.specs.declared.Positions.{Positions}
 use Rattle.command_line.specs.declared.Printed.{Printed}
 use Rattle.command_line.specs.declared.Printed.TheVariants.{Report, Trace, Picture}
 use Rattle.command_line.specs.declared.Request.{Request}
-use Rattle.command_line.specs.declared.Request.TheVariants.{Local, Show, Run, Schedule, Keys}
+use Rattle.command_line.specs.declared.Request.TheVariants.{Local, Show, Run, Schedule, Keys, Replica}
 use Rattle.command_line.specs.declared.SpaceVersion.{SpaceVersion}
 use Rattle.command_line.specs.declared.SpaceVersion.TheVariants.{Two}
 use Rattle.std.specs.Str.Parse.{digits_value, without_leading_plus}
@@ -72,6 +72,7 @@ IsRequest name given (Schedule config file printed) = (name ≡ codes "schedule"
     × HasValue given (codes "CONFIG") config.now × HasValue given (codes "FILE") file.now × IsPrinted given printed
 IsRequest name given (Keys config folder) = (name ≡ codes "keys")
     × HasValue given (codes "CONFIG") config.now × HasValue given (codes "FOLDER") folder.now
+IsRequest name given (Replica keys) = (name ≡ codes "replica") × HasValue given (codes "KEYS") keys.now
 
 -- ---- no request
 

@@ -57,6 +57,10 @@ pub enum Request<'a> {
         config: &'a str,
         folder: &'a str,
     },
+    /// Serve the replica whose file of keys stands at this path.
+    Replica {
+        keys: &'a str,
+    },
 }
 
 /// The version of a space.
@@ -169,6 +173,10 @@ fn request_in<'a>(name: &str, given: &ArgMatches<'a>) -> Option<Request<'a>>
             config: given.get_str("CONFIG")?,
             folder: given.get_str("FOLDER")?,
         })
+    } else if name == "replica" {
+        Some(Request::Replica {
+            keys: given.get_str("KEYS")?,
+        })
     } else {
         None
     }
@@ -223,6 +231,7 @@ fn program<'a>(alloc: Global) -> Result<Command<'a>, AllocError> {
     let program = with_subcommand(program, run(alloc))?;
     let program = with_subcommand(program, schedule(alloc))?;
     let program = with_subcommand(program, keys(alloc))?;
+    let program = with_subcommand(program, replica(alloc))?;
     with_subcommand(program, show(alloc))
 }
 
@@ -356,6 +365,22 @@ fn keys<'a>(alloc: Global) -> Result<Command<'a>, AllocError> {
             alloc,
             "FOLDER",
             "The folder of the files r0.toml .. and c0.toml .., which is made if it isn't there",
+        ))
+}
+
+// The program opens no connection.
+const RECORDS: &str =
+    "It reads records from standard input and writes records to standard output: frames that come and go, and timers.
+Something else has to carry them between the parties. It ends with its input.";
+
+fn replica<'a>(alloc: Global) -> Result<Command<'a>, AllocError> {
+    Command::new(alloc, "replica")
+        .about("Serves a replica by the file of its keys, over records")
+        .after_help(RECORDS)
+        .arg(required(
+            alloc,
+            "KEYS",
+            "The file of the replica's keys, as keys writes it",
         ))
 }
 

@@ -6,17 +6,19 @@
 mod keys;
 mod local;
 mod program;
+mod replica;
 mod run;
 mod schedule;
 mod show;
 
 /// Words as in a terminal, and the answer below them. In brackets stands what the answer names. A mistake begins with
 /// `error: `, and goes to standard error.
-pub static TABLES: [&str; 6] = [
+pub static TABLES: [&str; 7] = [
     program::ANSWERS,
     local::ANSWERS,
     run::ANSWERS,
     schedule::ANSWERS,
     keys::ANSWERS,
+    replica::ANSWERS,
     show::ANSWERS,
 ];

@@ -2,7 +2,7 @@
 
 pub const ANSWERS: &str = r#"$ btspace
 error: 'btspace' requires a subcommand but one was not provided
-  [subcommands: local, run, schedule, keys, show, help]
+  [subcommands: local, run, schedule, keys, replica, show, help]
 
 Usage: btspace <COMMAND>
 
@@ -19,6 +19,7 @@ Commands:
   run       Runs a script on a running cluster and prints a result line for each operation
   schedule  Runs a schedule in a world of replicas and clients and prints what was accepted
   keys      Writes a file for each party, with the keys that it may have
+  replica   Serves a replica by the file of its keys, over records
   show      Prints the tuple that is encoded by these bytes
   help      Print this message or the help of the given subcommand(s)
 
@@ -87,6 +88,22 @@ error: unrecognized subcommand 'keyss'
 Usage: btspace <COMMAND>
 
 For more information, try '--help'.
+$ btspace [replicaa]
+error: unrecognized subcommand 'replicaa'
+
+  tip: a similar subcommand exists: 'replica'
+
+Usage: btspace <COMMAND>
+
+For more information, try '--help'.
+$ btspace [relpica]
+error: unrecognized subcommand 'relpica'
+
+  tip: some similar subcommands exist: 'help', 'replica'
+
+Usage: btspace <COMMAND>
+
+For more information, try '--help'.
 $ btspace [showw]
 error: unrecognized subcommand 'showw'
 
@@ -98,7 +115,7 @@ For more information, try '--help'.
 $ btspace [hepl]
 error: unrecognized subcommand 'hepl'
 
-  tip: some similar subcommands exist: 'schedule', 'help'
+  tip: some similar subcommands exist: 'schedule', 'replica', 'help'
 
 Usage: btspace <COMMAND>
 
@@ -139,6 +156,14 @@ $ btspace -- keys
 error: unexpected argument 'keys' found
 
   tip: subcommand 'keys' exists; to use it, remove the '--' before it
+
+Usage: btspace <COMMAND>
+
+For more information, try '--help'.
+$ btspace -- replica
+error: unexpected argument 'replica' found
+
+  tip: subcommand 'replica' exists; to use it, remove the '--' before it
 
 Usage: btspace <COMMAND>
 
@@ -244,6 +269,19 @@ Options:
 
 The seed gives all keys, so no party may have it. Without a seed in the configuration a fresh one is drawn from
 /dev/urandom, and kept nowhere.
+$ btspace help replica
+Serves a replica by the file of its keys, over records
+
+Usage: btspace replica <KEYS>
+
+Arguments:
+  <KEYS>  The file of the replica's keys, as keys writes it
+
+Options:
+  -h, --help  Print help
+
+It reads records from standard input and writes records to standard output: frames that come and go, and timers.
+Something else has to carry them between the parties. It ends with its input.
 $ btspace help show
 Prints the tuple that is encoded by these bytes
 
