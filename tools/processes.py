@@ -25,11 +25,13 @@ class Row(NamedTuple):
 
 
 class Programs(NamedTuple):
-    """The program, that of `local` and `show` alone if it is there, and a folder for files that all rows may read."""
+    """The program, that of `local` and `show` alone if it is there, a folder for files that all rows may read, and the
+    static library if it is there."""
 
     whole: Path
     local: Optional[Path]
     room: Path
+    library: Optional[Path]
 
 
 class Ended(NamedTuple):
