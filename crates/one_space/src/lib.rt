@@ -42,6 +42,8 @@ pub use complaints::Complaint;
 pub use console::{Console, StandardError, Unheard, complain};
 pub use digits::{BadDigits, ShowFault, show};
 pub use escaped::{Escaped, EscapedErrors, ShownBytes};
+pub use input::{NextLine, NoLine, next_line, skip_rest};
+pub use once::EndsOnce;
 pub use pieces::{PieceEnd, ReadFault, drop_return, is_blank, read_piece};
 pub use reasons::LineReason;
 pub use script::read_script;
