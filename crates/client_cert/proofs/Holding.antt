@@ -26,22 +26,22 @@ unfolding latest
 first_ballots c me k t op history modes.Ordered s = refl
 first_ballots c me k t op history modes.ReadOnly s = refl
 
-pub holds_invoked : (c : Configuration) (me k t : ℕ) (op : Operation) (history : List Entry)
-    → FitsWithinEvents c me (Invoke k t op ∷ history) t (Some (record { op = op; ordered = false; ordered_ballots = []; read_ballots = [] }))
-holds_invoked c me k t op history =
+pub holds_invoked : (c : Configuration) (me start k t : ℕ) (op : Operation) (history : List Entry)
+    → FitsWithinEvents c me start (Invoke k t op ∷ history) t (Some (record { op = op; ordered = false; ordered_ballots = []; read_ballots = [] }))
+holds_invoked c me start k t op history =
     record { last_is = refl; call_is = record { open_is = refl; ordered_is = refl; ballots_are = first_ballots c me k t op history } }
 
-pub holds_tick : (c : Configuration) (me p t : ℕ) (history : List Entry) (call : Option CallState) → FitsWithinEvents c me history t call → FitsWithinEvents c me (Tick p ∷ history) t call
+pub holds_tick : (c : Configuration) {start : ℕ} (me p t : ℕ) (history : List Entry) (call : Option CallState) → FitsWithinEvents c me start history t call → FitsWithinEvents c me start (Tick p ∷ history) t call
 unfolding latest
 holds_tick c me p t history None h = record { last_is = h.last_is; call_is = h.call_is }
 holds_tick c me p t history (Some call) h =
     record { last_is = h.last_is; call_is = record { open_is = h.call_is.open_is; ordered_is = h.call_is.ordered_is; ballots_are = h.call_is.ballots_are } }
 
-pub holds_closed : (c : Configuration) (me p t : ℕ) (bytes : List ℕ) (history : List Entry) → FitsWithinEvents c me history t None → FitsWithinEvents c me (Got p bytes ∷ history) t None
+pub holds_closed : (c : Configuration) {start : ℕ} (me p t : ℕ) (bytes : List ℕ) (history : List Entry) → FitsWithinEvents c me start history t None → FitsWithinEvents c me start (Got p bytes ∷ history) t None
 holds_closed c me p t bytes history h = record { last_is = h.last_is; call_is = h.call_is }
 
-pub holds_got : (c : Configuration) (me p t : ℕ) (bytes : List ℕ) (history : List Entry) (call : CallState)
-    → ((s : ℕ) → option_and_then (reply_vote me t s) (authentic (members c me) me bytes) ≡ None) → FitsWithinEvents c me history t (Some call) → FitsWithinEvents c me (Got p bytes ∷ history) t (Some call)
+pub holds_got : (c : Configuration) {start : ℕ} (me p t : ℕ) (bytes : List ℕ) (history : List Entry) (call : CallState)
+    → ((s : ℕ) → option_and_then (reply_vote me t s) (authentic (members c me) me bytes) ≡ None) → FitsWithinEvents c me start history t (Some call) → FitsWithinEvents c me start (Got p bytes ∷ history) t (Some call)
 unfolding latest
 holds_got c me p t bytes history call none h =
     record {
@@ -78,11 +78,11 @@ pub vote_heard : (me t s sender : ℕ) (mode : Mode) (number : ℕ) (answer : Ou
 vote_heard me t s sender mode number answer =
     ap (λ b. then_some b (let v : Vote = record { mode = mode; number = number; answer = answer } in v)) (and_trues (sender == s) (me == me) (t == t) (eq-eqb me me refl) (eq-eqb t t refl))
 
-pub holds_noted : (c : Configuration) (me p t : ℕ) (bytes : List ℕ) (history : List Entry) (call more : CallState)
+pub holds_noted : (c : Configuration) {start : ℕ} (me p t : ℕ) (bytes : List ℕ) (history : List Entry) (call more : CallState)
     (sender : ℕ) (mode : Mode) (number : ℕ) (answer : Outcome)
     → authentic (members c me) me bytes ≡ Some (record { sender = sender; message = Reply me t mode number answer })
     → TakesReply call mode sender (ballot_of (record { mode = mode; number = number; answer = answer })) more
-    → FitsWithinEvents c me history t (Some call) → FitsWithinEvents c me (Got p bytes ∷ history) t (Some more)
+    → FitsWithinEvents c me start history t (Some call) → FitsWithinEvents c me start (Got p bytes ∷ history) t (Some more)
 unfolding latest
 holds_noted c me p t bytes history call more sender mode number answer is takes h =
     record {
@@ -102,9 +102,9 @@ sent_ballots : (call : CallState) (m mode : Mode) (s : ℕ) → held (ballots_of
 sent_ballots call m modes.Ordered s = refl
 sent_ballots call m modes.ReadOnly s = refl
 
-pub holds_sent : (c : Configuration) (me p t : ℕ) (bytes : List ℕ) (history : List Entry) (mode : Mode) (op : Operation) (call : CallState)
+pub holds_sent : (c : Configuration) {start : ℕ} (me p t : ℕ) (bytes : List ℕ) (history : List Entry) (mode : Mode) (op : Operation) (call : CallState)
     → said bytes ≡ Some (record { sender = me; message = Request t mode op })
-    → FitsWithinEvents c me history t (Some call) → FitsWithinEvents c me (Sent p bytes ∷ history) t (Some (went mode call))
+    → FitsWithinEvents c me start history t (Some call) → FitsWithinEvents c me start (Sent p bytes ∷ history) t (Some (went mode call))
 unfolding latest
 holds_sent c me p t bytes history mode op call says h =
     record {
@@ -119,5 +119,5 @@ holds_sent c me p t bytes history mode op call says h =
       };
     }
 
-pub holds_accepted : (c : Configuration) (me k t : ℕ) (answer : Outcome) (history : List Entry) (call : Option CallState) → FitsWithinEvents c me history t call → FitsWithinEvents c me (Accepted k t answer ∷ history) t None
+pub holds_accepted : (c : Configuration) {start : ℕ} (me k t : ℕ) (answer : Outcome) (history : List Entry) (call : Option CallState) → FitsWithinEvents c me start history t call → FitsWithinEvents c me start (Accepted k t answer ∷ history) t None
 holds_accepted c me k t answer history call h = record { last_is = h.last_is; call_is = refl }

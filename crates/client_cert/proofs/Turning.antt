@@ -82,9 +82,9 @@ newest_is c me p t bytes history sender mode number answer is =
     ∙ ap (λ b. then_some b (let v : Vote = record { mode = mode; number = number; answer = answer } in v)) (eq-eqb sender sender refl)
 
 -- a reply to the call, once it is kept
-pub reaction_is : (c : Configuration) (me p t : ℕ) (bytes : List ℕ) (history : List Entry) (call : CallState) (sender : ℕ) (mode : Mode) (number : ℕ) (answer : Outcome)
+pub reaction_is : (c : Configuration) {start : ℕ} (me p t : ℕ) (bytes : List ℕ) (history : List Entry) (call : CallState) (sender : ℕ) (mode : Mode) (number : ℕ) (answer : Outcome)
     → authentic (members c me) me bytes ≡ Some (record { sender = sender; message = Reply me t mode number answer })
-    → FitsWithinEvents c me (Got p bytes ∷ history) t (Some call)
+    → FitsWithinEvents c me start (Got p bytes ∷ history) t (Some call)
     → held (ballots_of mode call) sender ≡ Some (ballot_of (record { mode = mode; number = number; answer = answer }))
     → reaction c me (Got p bytes ∷ history) ≡ turns (turn_of c.faults call mode sender) t call.op answer
 reaction_is c me p t bytes history call sender mode number answer is h kept =
@@ -93,8 +93,8 @@ reaction_is c me p t bytes history call sender mode number answer is h kept =
     ∙ replied c me t (Got p bytes ∷ history) call h.call_is (record { mode = mode; number = number; answer = answer }) sender kept
 
 -- anything else
-pub no_reaction : (c : Configuration) (me p t : ℕ) (bytes : List ℕ) (history : List Entry) (call : CallState)
-    → ((s : ℕ) → option_and_then (reply_vote me t s) (authentic (members c me) me bytes) ≡ None) → FitsWithinEvents c me history t (Some call) → reaction c me (Got p bytes ∷ history) ≡ nothing
+pub no_reaction : (c : Configuration) {start : ℕ} (me p t : ℕ) (bytes : List ℕ) (history : List Entry) (call : CallState)
+    → ((s : ℕ) → option_and_then (reply_vote me t s) (authentic (members c me) me bytes) ≡ None) → FitsWithinEvents c me start history t (Some call) → reaction c me (Got p bytes ∷ history) ≡ nothing
 no_reaction c me p t bytes history call unheard h =
     ap (λ o. option_map_or (on_got c me (Got p bytes ∷ history)) o nothing) h.call_is.open_is
     ∙ ap (λ v. option_map_or (on_reply c me (Got p bytes ∷ history) (record { timestamp = t; op = call.op })) v nothing) (none (authentic (members c me) me bytes) unheard)
@@ -104,13 +104,13 @@ no_reaction c me p t bytes history call unheard h =
     none (Some body) unheard = unheard body.sender
 
 -- without a call
-pub no_call_reaction : (c : Configuration) (me p t : ℕ) (bytes : List ℕ) (history : List Entry) → FitsWithinEvents c me history t None → reaction c me (Got p bytes ∷ history) ≡ nothing
+pub no_call_reaction : (c : Configuration) {start : ℕ} (me p t : ℕ) (bytes : List ℕ) (history : List Entry) → FitsWithinEvents c me start history t None → reaction c me (Got p bytes ∷ history) ≡ nothing
 no_call_reaction c me p t bytes history h = ap (λ o. option_map_or (on_got c me (Got p bytes ∷ history)) o nothing) h.call_is
 
 -- ticks
-pub tick_reaction : (c : Configuration) (me p t : ℕ) (history : List Entry) (call : CallState) → FitsWithinEvents c me history t (Some call)
+pub tick_reaction : (c : Configuration) {start : ℕ} (me p t : ℕ) (history : List Entry) (call : CallState) → FitsWithinEvents c me start history t (Some call)
     → reaction c me (Tick p ∷ history) ≡ asks modes.Ordered (record { timestamp = t; op = call.op })
 tick_reaction c me p t history call h = ap (λ o. option_map_or (asks modes.Ordered) o nothing) h.call_is.open_is
 
-pub no_tick_reaction : (c : Configuration) (me p t : ℕ) (history : List Entry) → FitsWithinEvents c me history t None → reaction c me (Tick p ∷ history) ≡ nothing
+pub no_tick_reaction : (c : Configuration) {start : ℕ} (me p t : ℕ) (history : List Entry) → FitsWithinEvents c me start history t None → reaction c me (Tick p ∷ history) ≡ nothing
 no_tick_reaction c me p t history h = ap (λ o. option_map_or (asks modes.Ordered) o nothing) h.call_is

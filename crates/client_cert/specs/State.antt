@@ -102,7 +102,7 @@ client_code =
     (λ p. record { number = p.0; membership = p.1.0; calls = p.1.1.0; call = p.1.1.1.0; stopped = p.1.1.1.1 })
     (λ _. refl)
 
--- no call is open, and none can be made: the client had stopped, or made 2^62 calls
+-- no call is open, and none can be made: the client had stopped, or spent the timestamp 2^62
 abbrev pub IsSpent : ClientState → Type 0
 IsSpent s = (is_some s.call ≡ false) × ((s.stopped || nat_le (2 ^ 62) s.calls) ≡ true)
 

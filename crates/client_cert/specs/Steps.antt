@@ -22,18 +22,18 @@ use Rattle.client_cert.specs.declared.receiving.Turned.{Turned}
 use Rattle.client_cert.specs.declared.receiving.Turned.TheVariants as turned
 use Rattle.client_cert.specs.State.{CallState, ClientState, me_of, went}
 use Rattle.client_cert.specs.Asking.{AsksWith}
-use Rattle.client_cert.specs.Fits.{FitsWithinEvents, Fits}
+use Rattle.client_cert.specs.Fits.{FitsWithinEvents, FitsLife}
 
 -- the input entry of an event
 abbrev pub input_of : ℕ → Event → Entry
 input_of me (events.Got bytes) = Got me bytes.now
 input_of me events.Retry = Tick me
 
--- if a history fits before the event, the longer one fits after it
+-- if the history of a life fits before the event, the longer one fits after it, above whatever timestamp the life began
 abbrev pub HistoryStaysRight : ClientState → Entry → List Output → ClientState → Type 0
 HistoryStaysRight old input outs new =
-    (c : Configuration) (history : List Entry) → Fits c old history
-    → Fits c new (after_event (me_of old) input outs history)
+    (c : Configuration) (start : ℕ) (history : List Entry) → FitsLife c start old history
+    → FitsLife c start new (after_event (me_of old) input outs history)
 
 -- a call leads from the old state to the new one, with these outputs
 abbrev pub CallLeads : {A : Type 0} → ClientState → Op A → List Output → ClientState → Type 0
@@ -73,8 +73,9 @@ reaction_of timestamp call (turned.Accept answer) = accepts timestamp (outcome_o
 -- the open call after these bytes, and the reaction to them
 abbrev pub CallWeighsBytes : Membership → ℕ → ℕ → CallState → List ℕ → CallState → Reaction → Type 0
 CallWeighsBytes m me timestamp old bytes new given =
-    (c : Configuration) (history : List Entry) → members c me ≡ m → FitsWithinEvents c me history timestamp (Some old)
-    → FitsWithinEvents c me (Got me bytes ∷ history) timestamp (Some new)
+    (c : Configuration) (start : ℕ) (history : List Entry) → members c me ≡ m
+    → FitsWithinEvents c me start history timestamp (Some old)
+    → FitsWithinEvents c me start (Got me bytes ∷ history) timestamp (Some new)
     × (reaction c me (Got me bytes ∷ history) ≡ given)
 
 -- the same, of the client with this number and these keys, whichever public keys it knows, for Rust values

@@ -8,7 +8,7 @@ ghost use Rattle.signing.specs.Publics.{knows};
 ghost use Rattle.protocol.specs.System.Configuration.{Configuration, members};
 ghost use Rattle.client_cert.specs.State.{IsSpent, called};
 ghost use Rattle.events.specs.declared.output.Stop.TheVariants as Stop;
-ghost use Rattle.client_cert.specs.Fits.{Fits};
+ghost use Rattle.client_cert.specs.Fits.{Fits, FitsLife};
 ghost use Rattle.client_cert.specs.Steps.{CallLeads, CallStops, EventLeads, SendsAsMeant};
 ghost use Rattle.client_cert.specs.Steps.{SendsRequest, BytesLead, KeepsWhetherOpen, RetryLeads};
 
@@ -24,7 +24,7 @@ use terms::{ClientId, Mode, Timestamp};
 use thiserror::Error;
 use tuple_codec::Op;
 
-/// Most calls of a client.
+/// The greatest timestamp of a client, and so the most calls of one with one life.
 const MAX_CALLS: u64 = 1 << 62;
 
 /// An input of a client.
@@ -82,9 +82,9 @@ impl Model for Client {
 }
 
 impl Client {
-    /// A client that made no call. Up to `faults` replicas, 1 to 3, may be faulty; the ring has the client's keys. Its
-    /// history is a correct client's in each configuration that gives it these keys, whoever is faulty there.
-    #[tactic(auto, using(crate::proofs::Fitting::fits_new))]
+    /// A client that never made a call. Up to `faults` replicas, 1 to 3, may be faulty; the ring has the client's keys.
+    /// Its timestamps are 1, 2, .., so it may have no earlier life. Its history is a correct client's in each
+    /// configuration that gives it these keys, whoever is faulty there.
     pub fn new(client: ClientId, faults: u8, ring: Ring, publics: PublicKeys) -> Client
         requires faults { faults ≡ ring.faults }
         requires few { faults ≤ 3 }
@@ -93,12 +93,35 @@ impl Client {
         ensures number { result.number ≡ client.number }
         ensures runs { result.stopped ≡ false }
     {
+        Client::start_above(client, faults, ring, publics, Timestamp(0))
+    }
+
+    /// A client that is started again, and made no call in this life. Its timestamps are those above `start`, up to
+    /// 2^62. What it does is a life of a correct client; behind earlier lives it is that client's if none of theirs had a
+    /// timestamp above `start`. They can't if `start` is a number that a file keeps, or the milliseconds since 1970,
+    /// shifted left by 20 bits: that leaves 2^20 calls for each millisecond, and lasts until May 2109.
+    #[tactic(auto, using(crate::proofs::Fitting::fits_new))]
+    pub fn start_above(
+        client: ClientId,
+        faults: u8,
+        ring: Ring,
+        publics: PublicKeys,
+        start: Timestamp,
+    ) -> Client
+        requires faults { faults ≡ ring.faults }
+        requires few { faults ≤ 3 }
+        requires room { start.0 ≤ 2 ^ 62 }
+        ensures fits { (c : Configuration)
+            → members c (client_party client.number) ≡ knows ring publics → FitsLife c start.0 result [] }
+        ensures number { result.number ≡ client.number }
+        ensures runs { result.stopped ≡ false }
+    {
         Client {
             id: client,
             faults,
             ring,
             publics,
-            calls: 0,
+            calls: start.0,
             call: None,
             stopped: false,
         }
@@ -124,7 +147,7 @@ impl Client {
     /// # Errors
     ///
     /// The first that applies. Busy comes exactly if a call is open, and changes nothing. Stopped comes if the client
-    /// had stopped, or made 2^62 calls, and NoMemory if there is no memory for the request. After either the call
+    /// had stopped, or spent the timestamp 2^62, and NoMemory if there is no memory for the request. After either the call
     /// counts as made: it is open, and the client has stopped.
     #[tactic(auto, using(crate::proofs::Calling::call_leads, crate::proofs::Calling::call_ends, crate::proofs::Calling::call_fails))]
     pub fn invoke(&mut self, alloc: Global, op: Op<Global>) -> Result<Outputs, InvokeFault>

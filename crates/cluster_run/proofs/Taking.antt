@@ -111,7 +111,7 @@ frames [] = 0
 frames (Sent p bytes ∷ outputs) = suc (frames outputs)
 frames (_ ∷ outputs) = frames outputs
 
-asked : (c : Configuration) (me : ℕ) (call : OpenCall) (outputs xs : List Entry) → Reacts c me (reaction c me) outputs xs → open_call xs ≡ Some call → 1 ≤ sent xs + frames outputs
+asked : (c : Configuration) (me : ℕ) (call : OpenCall) (outputs xs : List Entry) → Reacts c me 0 (reaction c me) outputs xs → open_call xs ≡ Some call → 1 ≤ sent xs + frames outputs
 asked c me call outputs [] h o = absurd cc
 asked c me call outputs (Invoke client t op ∷ past) h o = let e = ap frames h.1.1.1 in omega (arith, e)
 asked c me call outputs (Got p bytes ∷ past) h o = let k = asked c me call [] past h.1.2 o in omega (arith, k)
@@ -148,7 +148,7 @@ module _ (c : Configuration) (me : ℕ) where
   abbrev Takes : List Entry → Type 0
   Takes xs = acceptances xs * least_entries c + since xs ≤ length xs
 
-  took : (outputs xs : List Entry) → SafeClient c me xs → Reacts c me (reaction c me) outputs xs → Takes xs
+  took : (outputs xs : List Entry) → SafeClient c me xs → Reacts c me 0 (reaction c me) outputs xs → Takes xs
   took outputs [] safe h = omega arith
   took outputs (Invoke client t op ∷ past) safe h = let k = took [] past safe.1 h.1.2 in omega (arith, k)
   took outputs (Got p bytes ∷ past) safe h = let k = took [] past safe.1 h.1.2 in omega (arith, k)
@@ -161,7 +161,7 @@ module _ (c : Configuration) (me : ℕ) where
       let one = asked c me safe.0.1.0 (Accepted client t answer ∷ []) past h.1 safe.0.1.2 in
       let enough = at_acceptance past t answer safe.0.1 (omega (arith, one)) in
       omega (arith, k, enough)
-  took (y ∷ outputs) (Accepted client t answer ∷ past) safe h = absurd (one_output c me (Accepted client t answer) y outputs past h.1)
+  took (y ∷ outputs) (Accepted client t answer ∷ past) safe h = absurd (one_output c me 0 (Accepted client t answer) y outputs past h.1)
 
   -- a client that stopped accepts nothing more
   takes : (xs : List Entry) → IsClient c me xs → Takes xs

@@ -141,13 +141,13 @@ module _ (clients : ℕ) (seed : List ℕ) (op : Operation) (batch : List ℕ) (
   reacts : (r s : Reaction) (outputs : List Entry) → r ≡ s → IsReaction c 256 s outputs → IsReaction c 256 r outputs
   reacts r s outputs e h = rw e h
 
-  after_call : Reacts c 256 (reaction c 256) [] asked
+  after_call : Reacts c 256 0 (reaction c 256) [] asked
   after_call = (refl, (refl, ((refl, refl, x.operation), reacts (reaction c 256 (Invoke 0 1 op ∷ [])) (asks modes.Ordered call) (Sent 256 w.request ∷ []) calls (w.request, refl, is_request), refl)))
 
-  after_two : Reacts c 256 (reaction c 256) [] two
+  after_two : Reacts c 256 0 (reaction c 256) [] two
   after_two = (refl, (tt, reacts (reaction c 256 two) nothing [] second refl, (refl, (tt, reacts (reaction c 256 one) nothing [] first refl, after_call))))
 
-  after_all : Reacts c 256 (reaction c 256) [] (Got 256 (w.reply 3) ∷ Accepted 0 1 (first_answer op) ∷ three)
+  after_all : Reacts c 256 0 (reaction c 256) [] (Got 256 (w.reply 3) ∷ Accepted 0 1 (first_answer op) ∷ three)
   after_all = (refl, (tt, refl, (refl, (refl, (tt, reacts (reaction c 256 three) (accepts 1 (first_answer op)) (Accepted 0 1 (first_answer op) ∷ []) third (0, refl), after_two)))))
 
   pub is_client : IsClient c 256 (history_of 256 (first_trace op batch w))

@@ -143,13 +143,13 @@ module _ (clients number : ℕ) (seed : List ℕ) (op : Operation) (answer : Out
   reacts : (r s : Reaction) (outputs : List Entry) → r ≡ s → IsReaction c 256 s outputs → IsReaction c 256 r outputs
   reacts r s outputs e h = rw e h
 
-  after_call : Reacts c 256 (reaction c 256) [] asked
+  after_call : Reacts c 256 0 (reaction c 256) [] asked
   after_call = (refl, (refl, ((refl, refl, x.operation), reacts (reaction c 256 (Invoke 0 1 op ∷ [])) (asks modes.ReadOnly call) (Sent 256 request ∷ []) calls (request, refl, is_request), refl)))
 
-  after_two : Reacts c 256 (reaction c 256) [] two
+  after_two : Reacts c 256 0 (reaction c 256) [] two
   after_two = (refl, (tt, reacts (reaction c 256 two) nothing [] second refl, (refl, (tt, reacts (reaction c 256 one) nothing [] first refl, after_call))))
 
-  after_three : Reacts c 256 (reaction c 256) [] (Accepted 0 1 answer ∷ three)
+  after_three : Reacts c 256 0 (reaction c 256) [] (Accepted 0 1 answer ∷ three)
   after_three = (refl, (refl, (tt, reacts (reaction c 256 three) (accepts 1 answer) (Accepted 0 1 answer ∷ []) third (0, refl), after_two)))
 
 pub first_read_is_accepted : FirstReadIsAccepted

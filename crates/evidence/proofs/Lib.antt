@@ -70,3 +70,4 @@ pub mod Fetching
 pub mod FetchingTexts
 pub mod FetchingFrames
 pub mod FetchingInstalls
+pub mod Living

@@ -23,7 +23,7 @@ use Rattle.protocol.proofs.Agreement.Firsts.{first_executes}
 use Rattle.protocol.specs.System.Texts.IsUnder.{inner, top}
 use Rattle.protocol.specs.Client.RightClient.{open_call, last_call, MayInput, IsClient}
 use Rattle.protocol.specs.Replica.Owed.{IsReplica}
-use Rattle.protocol.specs.System.Run.{IsRun}
+use Rattle.protocol.specs.System.Run.{IsRunBy}
 use Rattle.evidence.specs.Premises.{WidestIsValid, NarrowestIsValid, ReplicasAreCorrect, ClientsAreCorrect, CorrectAreBoth, EachIsPrimary, PrimariesReturn, RunsHaveReplicas, RunsHaveClients, RunsGoOn, ReplicasGoOn, RunsTakeCalls, OthersAreUnforged, MayBeTaken, MayBeGot, FramesMayBeGot, FaultyReceiveAnything, IsOpeningText, HasText, BringsText, is_page, is_quiet, TextsAreFew}
 use Rattle.protocol.proofs.Words.Temporal.{once_weaker, input_follows}
 use Rattle.protocol.proofs.Words.Options.{some_injective}
@@ -160,12 +160,12 @@ pub runs_have_clients : RunsHaveClients
 runs_have_clients c trace run = run.clients
 
 -- a run and one more input of a correct party
-run_goes_on : (c : Configuration) (e : Entry) (trace : List Entry) → IsRun c trace
+pub run_goes_on : (Client : Configuration → ℕ → List Entry → Type 0) (c : Configuration) (e : Entry) (trace : List Entry) → IsRunBy Client c trace
     → is_correct c (party_of e) ≡ true → is_output e ≡ false
     → ((q : ℕ) → party_of e ≡ q → is_correct_replica c q ≡ true → IsReplica c q (history_of q trace) → IsReplica c q (e ∷ history_of q trace))
-    → ((q : ℕ) → party_of e ≡ q → is_correct_client c q ≡ true → IsClient c q (history_of q trace) → IsClient c q (e ∷ history_of q trace))
-    → IsRun c (e ∷ trace)
-run_goes_on c e trace run correct input replica client = record {
+    → ((q : ℕ) → party_of e ≡ q → is_correct_client c q ≡ true → Client c q (history_of q trace) → Client c q (e ∷ history_of q trace))
+    → IsRunBy Client c (e ∷ trace)
+run_goes_on Client c e trace run correct input replica client = record {
   replicas = λ q h. at_replica q h (party_of e == q) refl;
   clients = λ q h. at_client q h (party_of e == q) refl;
   parties = (correct, run.parties);
@@ -176,14 +176,14 @@ run_goes_on c e trace run correct input replica client = record {
     at_replica q h true is = replica q (eqb-true (party_of e) q is) h (run.replicas q h)
     at_replica q h false is = run.replicas q h
 
-    at_client : (q : ℕ) → is_correct_client c q ≡ true → (b : Bool) → (party_of e == q) ≡ b → IsClient c q (cond b (e ∷ history_of q trace) (history_of q trace))
+    at_client : (q : ℕ) → is_correct_client c q ≡ true → (b : Bool) → (party_of e == q) ≡ b → Client c q (cond b (e ∷ history_of q trace) (history_of q trace))
     at_client q h true is = client q (eqb-true (party_of e) q is) h (run.clients q h)
     at_client q h false is = run.clients q h
 
 pub runs_go_on : RunsGoOn
 runs_go_on c trace run p correct = (
-  run_goes_on c (Tick p) trace run correct refl (λ q is h was. inr (is, tt, was)) (λ q is h was. inr (is, tt, was)),
-  λ bytes. run_goes_on c (Got p bytes) trace run correct refl (λ q is h was. inr (is, tt, was)) (λ q is h was. inr (is, tt, was)),
+  run_goes_on IsClient c (Tick p) trace run correct refl (λ q is h was. inr (is, tt, was)) (λ q is h was. inr (is, tt, was)),
+  λ bytes. run_goes_on IsClient c (Got p bytes) trace run correct refl (λ q is h was. inr (is, tt, was)) (λ q is h was. inr (is, tt, was)),
 )
 
 pub replicas_go_on : ReplicasGoOn
@@ -193,23 +193,23 @@ replicas_go_on c me past (point, leaves) = (
 )
 
 -- no client is a replica
-not_both : (c : Configuration) → IsConfiguration c → (k q : ℕ) → 256 + k ≡ q → is_correct_replica c q ≡ true → ⊥
+pub not_both : (c : Configuration) → IsConfiguration c → (k q : ℕ) → 256 + k ≡ q → is_correct_replica c q ≡ true → ⊥
 not_both c valid k q is h =
     let l : q < replicas c = ((replicas_are_correct c q).0 h).0 in
     let m = valid.most in
     omega arith
 
 call_may : (trace : List Entry) (k q : ℕ) (op : Operation) → 256 + k ≡ q → IsOperation op → open_call (history_of (256 + k) trace) ≡ None
-    → MayInput (history_of q trace) (Invoke k (suc (last_call (history_of (256 + k) trace))) op)
+    → MayInput 0 (history_of q trace) (Invoke k (suc (last_call (history_of (256 + k) trace))) op)
 call_may trace k q op is right none =
     (ap (λ (p : ℕ). suc (last_call (history_of p trace))) is, subst (λ (p : ℕ). open_call (history_of p trace) ≡ None) is none, right)
 
-correct_client_is : (c : Configuration) (k : ℕ) → is_correct_client c (256 + k) ≡ true → is_correct c (256 + k) ≡ true
+pub correct_client_is : (c : Configuration) (k : ℕ) → is_correct_client c (256 + k) ≡ true → is_correct c (256 + k) ≡ true
 correct_client_is c k h = or_right (is_correct_replica c (256 + k)) (is_correct_client c (256 + k)) h
 
 pub runs_take_calls : RunsTakeCalls
 runs_take_calls c valid trace run k op correct right none =
-    run_goes_on c (Invoke k (suc (last_call (history_of (256 + k) trace))) op) trace run (correct_client_is c k correct) refl
+    run_goes_on IsClient c (Invoke k (suc (last_call (history_of (256 + k) trace))) op) trace run (correct_client_is c k correct) refl
     (λ q is h was. absurd (not_both c valid k q is h)) (λ q is h was. inr (is, call_may trace k q op is right none, was))
 
 -- ---- frames that a party may receive in an unforged trace

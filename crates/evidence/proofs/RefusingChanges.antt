@@ -7,15 +7,15 @@ use Rattle.std.proofs.lemmas.Option.{get_or_from_slice_get, slice_get_within}
 use Rattle.tuple_codec.specs.Operations.{Operation}
 use Rattle.protocol.specs.System.Configuration.{Configuration, span, is_number}
 use Rattle.wire_format.specs.Messages.{ViewChangeData, BatchEntryData as BatchEntry, view_change as ViewChange}
-use Rattle.protocol.specs.System.Trace.{Entry}
+use Rattle.protocol.specs.System.Trace.{Entry, Always}
 use Rattle.protocol.specs.System.Trace.Entry.{Invoke}
 use Rattle.protocol.specs.Replica.Certificates.{low, is_in_marks}
 use Rattle.protocol.specs.Replica.RightReplica.{MayViewChange, IsNewViewChange}
-use Rattle.protocol.specs.Client.RightClient.{MayInput, SafeClient}
-use Rattle.evidence.specs.RefusedChanges.{SendsNewChange, ChangesAboveView, ChangesAboveEarlier, ChangesToNumbers, IsInMarks, BatchEntriesPreparedInMarks, BatchEntriesProposedInMarks, BatchEntriesAscend, BatchEntriesDiffer, ChangesAgainLast, NoCallWhileOpen, CallsOperations}
+use Rattle.protocol.specs.Client.RightClient.{MayInput, IsClient}
+use Rattle.evidence.specs.RefusedChanges.{SendsNewChange, ChangesAboveView, ChangesAboveEarlier, ChangesToNumbers, IsInMarks, BatchEntriesPreparedInMarks, BatchEntriesProposedInMarks, BatchEntriesAscend, BatchEntriesDiffer, ChangesAgainLast, NoCallWhileOpen, CallsCount, CallsOperations}
 use Rattle.evidence.proofs.Refusing.{above_target}
 use Rattle.evidence.proofs.RefusingRuns.{says_may}
-use Rattle.protocol.proofs.Words.Reacting.{is_client_right}
+use Rattle.protocol.proofs.Words.Reacting.{CallsNext, calls_next}
 
 -- ---- view changes
 
@@ -79,15 +79,22 @@ changes_again_last c me vc earlier bytes past says before right sent = go (says_
 -- ---- calls
 
 called_by : (c : Configuration) (me client timestamp : ℕ) (op : Operation) (later past : List Entry)
-    → SafeClient c me (later ++ Invoke client timestamp op ∷ past) → MayInput past (Invoke client timestamp op)
-called_by c me client timestamp op [] past right = right.0.1
-called_by c me client timestamp op (e ∷ later) past right = called_by c me client timestamp op later past right.1
+    → Always (CallsNext 0) (later ++ Invoke client timestamp op ∷ past) → MayInput 0 past (Invoke client timestamp op)
+called_by c me client timestamp op [] past next = next.0
+called_by c me client timestamp op (e ∷ later) past next = called_by c me client timestamp op later past next.1
+
+called_next : (c : Configuration) (me client timestamp : ℕ) (op : Operation) (later past : List Entry)
+    → IsClient c me (later ++ Invoke client timestamp op ∷ past) → MayInput 0 past (Invoke client timestamp op)
+called_next c me client timestamp op later past h =
+    called_by c me client timestamp op later past (calls_next c me 0 (later ++ Invoke client timestamp op ∷ past) h)
 
 pub no_call_while_open : NoCallWhileOpen
 no_call_while_open c me client timestamp call op later past opened h =
-    let none = (called_by c me client timestamp op later past (is_client_right c me (later ++ Invoke client timestamp op ∷ past) h)).1 in
+    let none = (called_next c me client timestamp op later past h).1 in
     absurd (let bad : None ≡ Some call = sym none ∙ opened in cc)
 
 pub calls_operations : CallsOperations
-calls_operations c me client timestamp op later past h =
-    (called_by c me client timestamp op later past (is_client_right c me (later ++ Invoke client timestamp op ∷ past) h)).2
+calls_operations c me client timestamp op later past h = (called_next c me client timestamp op later past h).2
+
+pub calls_count : CallsCount
+calls_count c me client timestamp op later past h = (called_next c me client timestamp op later past h).0

@@ -45,18 +45,18 @@ when_false true X Y e h = absurd cc
 when_false false X Y e h = h
 
 -- the outputs of an event are taken together
-collect : (c : Configuration) (me : ℕ) (outputs given rest : List Entry) → AreOutputs outputs → Reacts c me (reaction c me) given (outputs ++ rest) → Reacts c me (reaction c me) (reverse_aux outputs given) rest
+collect : (c : Configuration) (me : ℕ) (outputs given rest : List Entry) → AreOutputs outputs → Reacts c me 0 (reaction c me) given (outputs ++ rest) → Reacts c me 0 (reaction c me) (reverse_aux outputs given) rest
 collect c me [] given rest are h = h
 collect c me (e ∷ outputs) given rest are h =
     collect c me outputs (e ∷ given) rest are.1
-    (when_true (is_output e) (Reacts c me (reaction c me) (e ∷ given) (outputs ++ rest)) (MayInput (outputs ++ rest) e × IsReaction c me (reaction c me (e ∷ outputs ++ rest)) given × Reacts c me (reaction c me) [] (outputs ++ rest)) are.0 h.1)
+    (when_true (is_output e) (Reacts c me 0 (reaction c me) (e ∷ given) (outputs ++ rest)) (MayInput 0 (outputs ++ rest) e × IsReaction c me (reaction c me (e ∷ outputs ++ rest)) given × Reacts c me 0 (reaction c me) [] (outputs ++ rest)) are.0 h.1)
 
 -- if a client goes on, its outputs in an event are its reaction to the input
 pub gave : (c : Configuration) (me : ℕ) (later : List ℕ) (outputs : List Entry) (input : Entry) (past : List Entry) → is_output input ≡ false → AreOutputs outputs
     → IsClient c me (going_on me later outputs input past) → IsReaction c me (reaction c me (input ∷ past)) (reverse outputs)
 gave c me later outputs input past is are (inl h) =
     let event = collect c me outputs [] (input ∷ past) are h.1.1.2 in
-    (when_false (is_output input) (Reacts c me (reaction c me) (input ∷ reverse outputs) past) (MayInput past input × IsReaction c me (reaction c me (input ∷ past)) (reverse outputs) × Reacts c me (reaction c me) [] past) is event.1).1
+    (when_false (is_output input) (Reacts c me 0 (reaction c me) (input ∷ reverse outputs) past) (MayInput 0 past input × IsReaction c me (reaction c me (input ∷ past)) (reverse outputs) × Reacts c me 0 (reaction c me) [] past) is event.1).1
 gave c me later outputs input past is are (inr h) = absurd h.1
 
 accepts_only : (c : Configuration) (me t : ℕ) (a : Outcome) (r : Reaction) (outputs : List Entry) → r ≡ accepts t a → IsReaction c me r (reverse outputs) → (k : ℕ) × (outputs ≡ Accepted k t a ∷ [])
@@ -173,7 +173,7 @@ pub record Asked (c : Configuration) (me : ℕ) (bytes : List ℕ) : Type 0 wher
   pub call : OpenCall
   pub request : IsRequest c me mode call bytes
 
-asked_here : (c : Configuration) (me : ℕ) (bytes : List ℕ) (past : List Entry) → Reacts c me (reaction c me) (Sent me bytes ∷ []) past → Asked c me bytes
+asked_here : (c : Configuration) (me : ℕ) (bytes : List ℕ) (past : List Entry) → Reacts c me 0 (reaction c me) (Sent me bytes ∷ []) past → Asked c me bytes
 asked_here c me bytes [] h = absurd cc
 asked_here c me bytes (e ∷ past) h = go (is_output e) h.1
   where
@@ -182,8 +182,8 @@ asked_here c me bytes (e ∷ past) h = go (is_output e) h.1
     by (asks mode call) k = record { mode = mode; call = call; request = subst (IsRequest c me mode call) (same_request me bytes k.0 k.1) k.2 }
     by (accepts t a) k = let bad = k.1 in absurd cc
 
-    go : (b : Bool) → either b (Reacts c me (reaction c me) (e ∷ Sent me bytes ∷ []) past) (MayInput past e × IsReaction c me (reaction c me (e ∷ past)) (Sent me bytes ∷ []) × Reacts c me (reaction c me) [] past) → Asked c me bytes
-    go true k = absurd (one_output c me e (Sent me bytes) [] past k)
+    go : (b : Bool) → either b (Reacts c me 0 (reaction c me) (e ∷ Sent me bytes ∷ []) past) (MayInput 0 past e × IsReaction c me (reaction c me (e ∷ past)) (Sent me bytes ∷ []) × Reacts c me 0 (reaction c me) [] past) → Asked c me bytes
+    go true k = absurd (one_output c me 0 e (Sent me bytes) [] past k)
     go false k = by (reaction c me (e ∷ past)) k.1
 
 pub asked_by : (c : Configuration) (me : ℕ) (bytes : List ℕ) (past : List Entry) → IsClient c me (Sent me bytes ∷ past) → Asked c me bytes

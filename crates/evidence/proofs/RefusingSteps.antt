@@ -7,7 +7,7 @@ use Rattle.protocol.specs.System.Trace.Entry.{Invoke, Accepted}
 use Rattle.protocol.specs.Space.Linear.{points}
 use Rattle.protocol.specs.System.Schedule.{Acceptance, acceptances}
 use Rattle.evidence.specs.RefusedSteps.{ReportsExist, IsAcceptance, ReportsAll, ReportsNoOther, PositionsRise, ReportsInOrder, ReportsAreLinear, FirstOperationIsReported}
-use Rattle.protocol.proofs.Points.Whole.{points_are_linear}
+use Rattle.protocol.proofs.Points.Whole.{points_are_linear, runs_are_of_lives}
 use Rattle.evidence.proofs.FirstPoint.{first_operation_has_its_point}
 use Rattle.protocol.proofs.Words.Elements.{has_reverse}
 use Rattle.wire_format.specs.Lists.{Each}
@@ -65,7 +65,7 @@ reports_in_order c trace accepted items report = subst PositionsRise (sym report
 -- ---- the points, and the first operation
 
 pub reports_are_linear : ReportsAreLinear
-reports_are_linear c valid trace accepted items run unforged differ report = rw report.points_are (points_are_linear c valid trace run unforged differ)
+reports_are_linear c valid trace accepted items run unforged differ report = rw report.points_are (points_are_linear c valid trace (runs_are_of_lives c trace run) unforged differ)
 
 pub first_operation_is_reported : FirstOperationIsReported
 first_operation_is_reported clients seed op batch w accepted items report = (report.accepted_are, λ valid frames. report.points_are ∙ first_operation_has_its_point clients seed op batch w valid frames)

@@ -25,3 +25,4 @@ pub mod ExamplesOfChanges
 pub mod Premises
 pub mod Listed
 pub mod Fetched
+pub mod Lives

@@ -20,7 +20,7 @@ use Rattle.protocol.specs.Replica.Selection.{signed_change, is_within}
 use Rattle.protocol.specs.Replica.Certificates.{low, view, target, latest_change, is_active_in, is_in_marks, logged, prepare_of, commit_of, checkpoints_of, taken}
 use Rattle.protocol.specs.Replica.State.{Call, last_time}
 use Rattle.protocol.specs.Replica.RightReplica.{SafeReplica, SentBefore, HadQuorum, StartsAt}
-use Rattle.protocol.specs.Client.RightClient.{OpenCall, open_call, IsClient}
+use Rattle.protocol.specs.Client.RightClient.{OpenCall, open_call, last_call, IsClient}
 use Rattle.protocol.specs.Replica.Owed.{IsSending, IsReplica}
 use Rattle.evidence.specs.Refused.{AtEachPoint, EachKept, newest_number}
 use Rattle.wire_format.specs.Lists.{Each}
@@ -143,6 +143,12 @@ abbrev pub NoCallWhileOpen : Type 0
 NoCallWhileOpen =
     (c : Configuration) (me client timestamp : ℕ) (call : OpenCall) (op : Operation) (later past : List Entry)
     → open_call past ≡ Some call → IsClient c me (later ++ Invoke client timestamp op ∷ past) → ⊥
+
+-- A call with another timestamp than the next one.
+abbrev pub CallsCount : Type 0
+CallsCount =
+    (c : Configuration) (me client timestamp : ℕ) (op : Operation) (later past : List Entry)
+    → IsClient c me (later ++ Invoke client timestamp op ∷ past) → timestamp ≡ suc (last_call past)
 
 -- A call of an operation beyond the limits.
 abbrev pub CallsOperations : Type 0

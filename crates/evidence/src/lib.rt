@@ -6,7 +6,7 @@
 //! - They accept small histories in data. The first operation of a client at four replicas, with the bytes of all its
 //!   frames, is a run, unforged and fed by its schedule. Replicas and clients are right that answer a read or a fetch,
 //!   transfer a state, install one, join view changes, begin a view, enter one, or accept a read ([`accepted`],
-//!   [`certified`], [`clients`]).
+//!   [`certified`], [`clients`]). A client may be started again at any moment ([`lives`]).
 //! - They refuse over a hundred wrong histories, lists and traces ([`refused`] and the six modules beside it).
 //! - A new view is selected exactly if it meets the rules ([`selected`]).
 //! - Further laws say what certificates and schedules hold, what a flush delivers next, and that the premises of the
@@ -21,6 +21,7 @@ pub mod accepted;
 pub mod certified;
 pub mod clients;
 pub mod fed;
+pub mod lives;
 pub mod premises;
 pub mod refused;
 pub mod refused_changes;

@@ -1,6 +1,6 @@
 //! Laws that show what the definitions of view changes, calls, dropped inputs and waiting requests refuse.
 
-ghost use Rattle.evidence.specs.RefusedChanges.{ChangesAboveView, ChangesAboveEarlier, ChangesToNumbers, BatchEntriesPreparedInMarks, BatchEntriesProposedInMarks, BatchEntriesAscend, BatchEntriesDiffer, ChangesAgainLast, NoChangeAtFirst, NoChangeAtFrame, ChangesJoinEnough, ChangesJoinLeast, TicksMoveByOne, NoCallWhileOpen, CallsOperations, DropsWrites, DropsRequestsOfReplicas, DropsOldRequests, DropsPassedRequests, DropsPrePreparesOfBackups, DropsPrePreparesWhileInactive, DropsPrePreparesOutsideMarks, DropsSecondPrePrepares, DropsPreparesOfPrimaries, DropsPreparesWhileInactive, DropsSecondPrepares, DropsCommitsWhileInactive, DropsSecondCommits, DropsLowCheckpoints, DropsCheckpointsOfNoNumber, DropsSecondCheckpoints, DropsPassedCheckpoints, DropsLowChanges, DropsUnboundChanges, DropsPassedChanges, DropsNewViews, DropsFetches, DropsLowDigests, DropsLowPages, DropsOtherRoots, DropsOtherDigests, DropsOtherPages, WaitsOnceGot, WaitsOverFrames, WaitsUntilRun, WaitsNoLonger};
+ghost use Rattle.evidence.specs.RefusedChanges.{ChangesAboveView, ChangesAboveEarlier, ChangesToNumbers, BatchEntriesPreparedInMarks, BatchEntriesProposedInMarks, BatchEntriesAscend, BatchEntriesDiffer, ChangesAgainLast, NoChangeAtFirst, NoChangeAtFrame, ChangesJoinEnough, ChangesJoinLeast, TicksMoveByOne, NoCallWhileOpen, CallsCount, CallsOperations, DropsWrites, DropsRequestsOfReplicas, DropsOldRequests, DropsPassedRequests, DropsPrePreparesOfBackups, DropsPrePreparesWhileInactive, DropsPrePreparesOutsideMarks, DropsSecondPrePrepares, DropsPreparesOfPrimaries, DropsPreparesWhileInactive, DropsSecondPrepares, DropsCommitsWhileInactive, DropsSecondCommits, DropsLowCheckpoints, DropsCheckpointsOfNoNumber, DropsSecondCheckpoints, DropsPassedCheckpoints, DropsLowChanges, DropsUnboundChanges, DropsPassedChanges, DropsNewViews, DropsFetches, DropsLowDigests, DropsLowPages, DropsOtherRoots, DropsOtherDigests, DropsOtherPages, WaitsOnceGot, WaitsOverFrames, WaitsUntilRun, WaitsNoLonger};
 
 /// A right replica sends a new view change only for a view above its own, above those of its earlier ones and below
 /// 2^48, with batch entries of numbers in the marks, the prepared ones ascending, and no digest of a number
@@ -26,9 +26,11 @@ pub fn right_replicas_change_for_a_reason()
     ensures ticks { TicksMoveByOne }
 {}
 
-/// A correct client of either kind has one call open at a time, and calls only operations within the limits.
+/// A correct client of either kind has one call open at a time, counts its calls from 1 on, and calls only operations
+/// within the limits.
 pub fn correct_clients_call_in_turn()
     ensures calls { NoCallWhileOpen }
+    ensures timestamps { CallsCount }
     ensures operations { CallsOperations }
 {}
 

@@ -5,10 +5,11 @@ use Rattle.std.proofs.Common.{refl, sym, ap, subst, ◌∙◌}
 use Rattle.wire_format.specs.Lists.{Each}
 use Rattle.protocol.specs.System.Configuration.{Configuration, is_correct}
 use Rattle.protocol.specs.System.Trace.{Entry, party_of, is_output, history_of, Always}
-use Rattle.protocol.specs.System.Run.{OutputFollows}
+use Rattle.protocol.specs.System.Run.{OutputFollows, IsRunBy}
+use Rattle.protocol.specs.Client.RightClient.{IsClient, IsClientOfLives}
 use Rattle.protocol.proofs.Points.Whole
 use Rattle.events.specs.Outputs.{after_entries}
-use Rattle.party_runs.specs.Interleavings.{IsOutputOf, IsEventOf, IsCorrectEvent, is_event_of, events_of, trace_after, trace_of, HistoriesAreKept, InterleavingsAreRuns, InterleavingsAreLinear}
+use Rattle.party_runs.specs.Interleavings.{IsOutputOf, IsEventOf, IsCorrectEvent, is_event_of, events_of, trace_after, trace_of, HistoriesAreRight, HistoriesAreKept, InterleavingsAreRuns, InterleavedLivesAreRuns, InterleavingsAreLinear}
 
 -- ---- each party's entries
 
@@ -93,8 +94,9 @@ events_keep c [] past each keeps = keeps
 events_keep c (event ∷ events) past each keeps =
     events_keep c events (after_entries event past) each.1 (event_keeps c event past each.0 keeps)
 
-pub interleavings_are_runs : InterleavingsAreRuns
-interleavings_are_runs c events each right =
+joined : (Client : Configuration → ℕ → List Entry → Type 0) (c : Configuration) (events : List (List Entry)) → Each (IsCorrectEvent c) events
+    → HistoriesAreRight Client c events → IsRunBy Client c (trace_of events)
+joined Client c events each right =
     let keeps = events_keep c events [] each (record { parties = tt; events = tt }) in
     record {
       replicas = λ p correct. rw (histories_are_kept c events each p) (right.replicas p correct);
@@ -103,6 +105,12 @@ interleavings_are_runs c events each right =
       events = keeps.events;
     }
 
+pub interleavings_are_runs : InterleavingsAreRuns
+interleavings_are_runs c events each right = joined IsClient c events each right
+
+pub interleaved_lives_are_runs : InterleavedLivesAreRuns
+interleaved_lives_are_runs c events each right = joined IsClientOfLives c events each right
+
 pub interleavings_are_linear : InterleavingsAreLinear
 interleavings_are_linear c valid events each right unforged different =
-    Whole.points_are_linear c valid (trace_of events) (interleavings_are_runs c events each right) unforged different
+    Whole.points_are_linear c valid (trace_of events) (interleaved_lives_are_runs c events each right) unforged different

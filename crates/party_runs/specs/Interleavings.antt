@@ -5,10 +5,10 @@ use Rattle.wire_format.specs.Lists.{Each}
 use Rattle.protocol.specs.System.Configuration.{Configuration, IsConfiguration, is_correct, is_correct_replica, is_correct_client}
 use Rattle.protocol.specs.System.Trace.{Entry, party_of, is_output, history_of, Unforged}
 use Rattle.protocol.specs.System.Texts.{NoCollision}
-use Rattle.protocol.specs.System.Run.{IsRun}
+use Rattle.protocol.specs.System.Run.{IsRun, IsRunOfLives}
 use Rattle.protocol.specs.Space.Linear.{points, IsLinear}
 use Rattle.protocol.specs.Replica.Owed.{IsReplica}
-use Rattle.protocol.specs.Client.RightClient.{IsClient}
+use Rattle.protocol.specs.Client.RightClient.{IsClient, IsClientOfLives}
 use Rattle.events.specs.Outputs.{after_entries}
 
 -- ---- events
@@ -45,10 +45,11 @@ trace_after past (event ∷ events) = trace_after (after_entries event past) eve
 abbrev pub trace_of : List (List Entry) → List Entry
 trace_of events = trace_after [] events
 
--- The events of each correct party are a correct party's history.
-pub record HistoriesAreRight (c : Configuration) (events : List (List Entry)) : Type 0 where
+-- The events of each correct party are a correct party's history, those of a client by the given rule.
+pub record HistoriesAreRight (Client : Configuration → ℕ → List Entry → Type 0) (c : Configuration)
+    (events : List (List Entry)) : Type 0 where
   pub replicas : (p : ℕ) → is_correct_replica c p ≡ true → IsReplica c p (trace_of (events_of p events))
-  pub clients : (p : ℕ) → is_correct_client c p ≡ true → IsClient c p (trace_of (events_of p events))
+  pub clients : (p : ℕ) → is_correct_client c p ≡ true → Client c p (trace_of (events_of p events))
 
 -- ---- laws
 
@@ -58,15 +59,24 @@ HistoriesAreKept =
     (c : Configuration) (events : List (List Entry)) → Each (IsCorrectEvent c) events → (p : ℕ)
     → history_of p (trace_of events) ≡ trace_of (events_of p events)
 
--- Events of correct parties, in any order, are a run if the events of each are a correct party's history.
+-- Events of correct parties, in any order, are a run if the events of each are a correct party's history, and each
+-- client's one life from the timestamp 1 on.
 abbrev pub InterleavingsAreRuns : Type 0
 InterleavingsAreRuns =
-    (c : Configuration) (events : List (List Entry)) → Each (IsCorrectEvent c) events → HistoriesAreRight c events
+    (c : Configuration) (events : List (List Entry)) → Each (IsCorrectEvent c) events
+    → HistoriesAreRight IsClient c events
     → IsRun c (trace_of events)
+
+-- They are a run in which clients may be started again if the events of each client are those of its lives.
+abbrev pub InterleavedLivesAreRuns : Type 0
+InterleavedLivesAreRuns =
+    (c : Configuration) (events : List (List Entry)) → Each (IsCorrectEvent c) events
+    → HistoriesAreRight IsClientOfLives c events
+    → IsRunOfLives c (trace_of events)
 
 -- So the points of these events linearize them, under the premises of runs.
 abbrev pub InterleavingsAreLinear : Type 0
 InterleavingsAreLinear =
     (c : Configuration) → IsConfiguration c → (events : List (List Entry)) → Each (IsCorrectEvent c) events
-    → HistoriesAreRight c events → Unforged c (trace_of events) → NoCollision c (trace_of events)
+    → HistoriesAreRight IsClientOfLives c events → Unforged c (trace_of events) → NoCollision c (trace_of events)
     → IsLinear c (points c (trace_of events)) (trace_of events)

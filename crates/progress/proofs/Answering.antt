@@ -40,7 +40,7 @@ use Rattle.progress.specs.Delivery.{HasEntry, AllDelivered}
 use Rattle.progress.specs.Answered.{KeepsReply, ExecutedCallsAreAccepted}
 use Rattle.progress.proofs.Receiving.{Heard, sealed_is_authentic}
 use Rattle.progress.proofs.Events.{Reacted, reacted, Owed, owed, Given, given, MightSend, sent_may}
-use Rattle.progress.proofs.Clients.{Accepting, open_or_accepted, latest_since, open_calls_lack_quorums}
+use Rattle.progress.proofs.Clients.{Accepting, LivesOnce, lives_once, once_behind, open_or_accepted, latest_since, open_calls_lack_quorums}
 use Rattle.progress.proofs.Replies.{run_of, spoken_agree}
 use Rattle.progress.proofs.Keeping.{kept_stays}
 
@@ -141,8 +141,11 @@ module _ (c : Configuration) (setting : IsConfiguration c) (later start : List E
   safe : SafeClient c me mine
   safe = subst (SafeClient c me) is_mine (run.runs.clients me client)
 
-  prompt : Reacts c me (reaction c me) [] mine
-  prompt = subst (Reacts c me (reaction c me) []) is_mine (goes.clients me client refl)
+  once : LivesOnce c me mine
+  once = subst (LivesOnce c me) is_mine (lives_once c me (history_of me trace) (is_run.clients me client))
+
+  prompt : Reacts c me 0 (reaction c me) [] mine
+  prompt = subst (Reacts c me 0 (reaction c me) []) is_mine (goes.clients me client refl)
 
   below : (r : ℕ) → is_correct_replica c r ≡ true → r < replicas c
   below r correct = ltb-true r (replicas c) (and_parts (is_replica c r) _ correct).0
@@ -156,7 +159,7 @@ module _ (c : Configuration) (setting : IsConfiguration c) (later start : List E
     none_before : (newer : List Entry) (e : Entry) (before : List Entry) → history_of me later ≡ newer ++ e ∷ before → Accepting k call.timestamp before → ⊥
     none_before newer e before is a = not_yet (a.0, subst (λ (xs : List Entry). HasEntry (Accepted k call.timestamp a.0) xs) (sym is) (has_right (λ x. x ≡ Accepted k call.timestamp a.0) newer (e ∷ before) (inr a.1)))
 
-    opened_by : (part : List Entry) → SafeClient c me (part ++ history_of me start) → (Accepting k call.timestamp part → ⊥) → open_call (part ++ history_of me start) ≡ Some call
+    opened_by : (part : List Entry) → LivesOnce c me (part ++ history_of me start) → (Accepting k call.timestamp part → ⊥) → open_call (part ++ history_of me start) ≡ Some call
     opened_by part right none = go (open_or_accepted c k call (history_of me start) opened part right)
       where
         go : Accepting k call.timestamp part ⊎ (open_call (part ++ history_of me start) ≡ Some call) → open_call (part ++ history_of me start) ≡ Some call
@@ -164,7 +167,7 @@ module _ (c : Configuration) (setting : IsConfiguration c) (later start : List E
         go (inr o) = o
 
     pub still_open : open_call mine ≡ Some call
-    still_open = opened_by (history_of me later) safe not_yet
+    still_open = opened_by (history_of me later) once not_yet
 
     pub asked : HasEntry (Tick me) later → Asked c me modes.Ordered call later
     asked tick = go r.outs asks_it r.among
@@ -172,8 +175,8 @@ module _ (c : Configuration) (setting : IsConfiguration c) (later start : List E
         r : Reacted c me (Tick me) [] (history_of me later) (history_of me start)
         r = reacted c me (Tick me) refl [] (history_of me later) (history_of me start) prompt (in_history me (Tick me) later refl tick)
 
-        right : SafeClient c me (r.before ++ history_of me start)
-        right = (safe_behind c me r.later (Tick me ∷ r.before ++ history_of me start) (subst (SafeClient c me) (ap (λ (xs : List Entry). xs ++ history_of me start) r.splits ∙ append_assoc r.later (Tick me ∷ r.before) (history_of me start)) safe)).1
+        right : LivesOnce c me (r.before ++ history_of me start)
+        right = (once_behind c me r.later (Tick me ∷ r.before ++ history_of me start) (subst (LivesOnce c me) (ap (λ (xs : List Entry). xs ++ history_of me start) r.splits ∙ append_assoc r.later (Tick me ∷ r.before) (history_of me start)) once)).1
 
         then_open : open_call (r.before ++ history_of me start) ≡ Some call
         then_open = opened_by r.before right (none_before r.later (Tick me) r.before r.splits)
@@ -250,7 +253,7 @@ module _ (c : Configuration) (setting : IsConfiguration c) (later start : List E
 
         pub voted : Voted c trace mine me call.timestamp mode r
         voted =
-            let v = latest_since c k call (history_of me start) opened mode r n answer reply.bytes hears_reply.receives (history_of me later) safe not_yet (in_history me (Got me reply.bytes) later refl gets_reply) in
+            let v = latest_since c k call (history_of me start) opened mode r n answer reply.bytes hears_reply.receives (history_of me later) once not_yet (in_history me (Got me reply.bytes) later refl gets_reply) in
             let heard_it = latest_received c me call.timestamp mode r v.0 mine (own_entries c me mine safe) v.1 in
             record {
               vote = v.0;

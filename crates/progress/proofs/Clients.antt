@@ -13,16 +13,34 @@ use Rattle.wire_format.specs.Messages.{BodyData as Body, MessageData as Message,
 use Rattle.signing.specs.AuthenticBody.{authentic}
 use Rattle.protocol.specs.System.Configuration.{Configuration, replicas, members}
 use Rattle.protocol.specs.System.Frames.{same_mode}
-use Rattle.protocol.specs.System.Trace.{Entry, party_of, either}
+use Rattle.protocol.specs.System.Trace.{Entry, party_of, Always, either}
 use Rattle.protocol.specs.System.Trace.Entry.{Invoke, Got, Tick, Executed, Installed, Sent, Accepted}
-use Rattle.protocol.specs.Client.RightClient.{OpenCall, open_call, Vote, reply_vote, later_vote, latest, is_alike, count_alike, is_complete, newest_vote, Reaction, on_got, on_reply, fallback, reaction, IsReaction, Reacts, MayAccept, MayClient, SafeClient}
+use Rattle.protocol.specs.Client.RightClient.{OpenCall, open_call, Vote, reply_vote, later_vote, latest, is_alike, count_alike, is_complete, newest_vote, Reaction, on_got, on_reply, fallback, reaction, IsReaction, Reacts, MayAccept, MayClient, IsClient, SafeClient}
 use Rattle.protocol.specs.Client.RightClient.Reaction.{nothing, accepts}
 use Rattle.protocol.proofs.Words.Modes.{same_mode-true}
+use Rattle.protocol.proofs.Words.Reacting.{CallsNext, calls_next, is_client_right}
 use Rattle.protocol.proofs.Words.Options.{some_injective}
 use Rattle.protocol.proofs.Words.Lists.{none_pass}
 use Rattle.evidence.proofs.Counted.{received_is_latest}
 use Rattle.progress.specs.Delivery.{HasEntry}
 use Rattle.progress.specs.Answered.{OpenCallsLackQuorums}
+
+-- ---- a client with one life
+
+-- what each entry of such a client may be: while a call is open, it begins no other
+abbrev pub LivesOnce : Configuration → ℕ → List Entry → Type 0
+LivesOnce c me history = Always (λ past e. ((party_of e ≡ me) × MayClient (MayAccept c me) me past e) × CallsNext 0 past e) history
+
+pub lives_once : (c : Configuration) (me : ℕ) (history : List Entry) → IsClient c me history → LivesOnce c me history
+lives_once c me history is = both history (is_client_right c me history is) (calls_next c me 0 history is)
+  where
+    both : (xs : List Entry) → SafeClient c me xs → Always (CallsNext 0) xs → LivesOnce c me xs
+    both [] safe next = tt
+    both (e ∷ past) safe next = ((safe.0, next.0), both past safe.1 next.1)
+
+pub once_behind : (c : Configuration) (me : ℕ) (newer xs : List Entry) → LivesOnce c me (newer ++ xs) → LivesOnce c me xs
+once_behind c me [] xs once = once
+once_behind c me (e ∷ newer) xs once = once_behind c me newer xs once.1
 
 -- ---- only an acceptance ends it
 
@@ -41,12 +59,12 @@ module _ (c : Configuration) (k : ℕ) (call : OpenCall) (start : List Entry) (o
   more e part same (inl a) = inl (a.0, inr a.1)
   more e part same (inr o) = inr (same ∙ o)
 
-  by_entry : (e : Entry) (part : List Entry) → (party_of e ≡ me) × MayClient (MayAccept c me) me (part ++ start) e → Either part → Either (e ∷ part)
+  by_entry : (e : Entry) (part : List Entry) → ((party_of e ≡ me) × MayClient (MayAccept c me) me (part ++ start) e) × CallsNext 0 (part ++ start) e → Either part → Either (e ∷ part)
   by_entry (Invoke x y z) part right (inr o) = let bad : None ≡ Some call = sym right.1.1 ∙ o in absurd cc
   by_entry (Accepted x y z) part right (inr o) =
-      let own : 256 + x ≡ 256 + k = right.0 in
+      let own : 256 + x ≡ 256 + k = right.0.0 in
       let client : x ≡ k = omega arith in
-      let m = right.1 in
+      let m = right.0.1 in
       let time : y ≡ call.timestamp = sym m.3 ∙ ap (λ (o : OpenCall). o.timestamp) (some_injective m.0 call (sym m.2 ∙ o)) in
       inl (z, inl (rw (client, time) refl))
   by_entry (Got x y) part right either = more (Got x y) part refl either
@@ -56,7 +74,7 @@ module _ (c : Configuration) (k : ℕ) (call : OpenCall) (start : List Entry) (o
   by_entry (Sent x y) part right either = more (Sent x y) part refl either
   by_entry _ part right (inl a) = inl (a.0, inr a.1)
 
-  pub open_or_accepted : (part : List Entry) → SafeClient c me (part ++ start) → Either part
+  pub open_or_accepted : (part : List Entry) → LivesOnce c me (part ++ start) → Either part
   open_or_accepted [] right = inr opened
   open_or_accepted (e ∷ part) right = by_entry e part right.0 (open_or_accepted part right.1)
 
@@ -73,7 +91,7 @@ module _ (c : Configuration) (k : ℕ) (call : OpenCall) (start : List Entry) (o
   Latest : Mode → ℕ → List Entry → Type 0
   Latest mode r part = (v : Vote) × (latest c me (part ++ start) call.timestamp mode r ≡ Some v)
 
-  latest_by : (mode : Mode) (r : ℕ) (e : Entry) (part : List Entry) → MayClient (MayAccept c me) me (part ++ start) e → Either part → (Accepting k call.timestamp part → ⊥) → Latest mode r part → Latest mode r (e ∷ part)
+  latest_by : (mode : Mode) (r : ℕ) (e : Entry) (part : List Entry) → CallsNext 0 (part ++ start) e → Either part → (Accepting k call.timestamp part → ⊥) → Latest mode r part → Latest mode r (e ∷ part)
   unfolding latest Latest
   latest_by mode r (Invoke x y z) part right (inl a) not_yet v = absurd (not_yet a)
   latest_by mode r (Invoke x y z) part right (inr o) not_yet v = let bad : None ≡ Some call = sym right.1 ∙ o in absurd cc
@@ -81,7 +99,7 @@ module _ (c : Configuration) (k : ℕ) (call : OpenCall) (start : List Entry) (o
   latest_by mode r _ part right either not_yet v = v
 
   pub latest_since : (mode : Mode) (r n : ℕ) (answer : Outcome) (bytes : List ℕ) → authentic (members c me) me bytes ≡ Some (record { sender = r; message = Reply me call.timestamp mode n answer })
-      → (part : List Entry) → SafeClient c me (part ++ start) → (Accepting k call.timestamp part → ⊥) → HasEntry (Got me bytes) part → (v : Vote) × (latest c me (part ++ start) call.timestamp mode r ≡ Some v)
+      → (part : List Entry) → LivesOnce c me (part ++ start) → (Accepting k call.timestamp part → ⊥) → HasEntry (Got me bytes) part → (v : Vote) × (latest c me (part ++ start) call.timestamp mode r ≡ Some v)
   unfolding Latest
   latest_since mode r n answer bytes receives [] right not_yet h = absurd h
   latest_since mode r n answer bytes receives (e ∷ part) right not_yet (inl is) = (
@@ -226,7 +244,7 @@ module _ (c : Configuration) (me : ℕ) (call : OpenCall) (vote : Vote) where
   no_accept e outputs none other k t answer (inl is) = other k t answer is
   no_accept e outputs none other k t answer (inr h) = none k t answer h
 
-  few_while_open : (xs outputs : List Entry) → Reacts c me (reaction c me) outputs xs → open_call xs ≡ Some call → NoneAccepts outputs → Few xs
+  few_while_open : (xs outputs : List Entry) → Reacts c me 0 (reaction c me) outputs xs → open_call xs ≡ Some call → NoneAccepts outputs → Few xs
   unfolding latest
   few_while_open (Invoke x y z ∷ past) outputs r opened none = call_begins x y z past
   few_while_open (Got p bytes ∷ past) outputs r opened none = by_got p bytes past outputs opened none r.1.1 (few_while_open past [] r.1.2 opened (λ k t a h. h)) (authentic (members c me) me bytes) refl

@@ -36,17 +36,17 @@ pub record Reacted (c : Configuration) (me : ℕ) (e : Entry) (outputs part star
   pub reacts : IsReaction c me (reaction c me (e ∷ before ++ start)) outs
   pub among : Among outs outputs part
 
-pub reacted : (c : Configuration) (me : ℕ) (e : Entry) → is_output e ≡ false → (outputs part start : List Entry) → Reacts c me (reaction c me) outputs (part ++ start) → HasEntry e part
+pub reacted : (c : Configuration) (me : ℕ) (e : Entry) → is_output e ≡ false → (outputs part start : List Entry) → Reacts c me 0 (reaction c me) outputs (part ++ start) → HasEntry e part
     → Reacted c me e outputs part start
 reacted c me e input outputs [] start r h = absurd h
 reacted c me e input outputs (x ∷ part) start r (inl is) =
-    let here : Reacts c me (reaction c me) outputs (e ∷ part ++ start) = subst (λ (y : Entry). Reacts c me (reaction c me) outputs (y ∷ part ++ start)) is r in
-    let event = when_false (is_output e) (Reacts c me (reaction c me) (e ∷ outputs) (part ++ start))
-    (MayInput (part ++ start) e × IsReaction c me (reaction c me (e ∷ part ++ start)) outputs × Reacts c me (reaction c me) [] (part ++ start)) input here.1 in
+    let here : Reacts c me 0 (reaction c me) outputs (e ∷ part ++ start) = subst (λ (y : Entry). Reacts c me 0 (reaction c me) outputs (y ∷ part ++ start)) is r in
+    let event = when_false (is_output e) (Reacts c me 0 (reaction c me) (e ∷ outputs) (part ++ start))
+    (MayInput 0 (part ++ start) e × IsReaction c me (reaction c me (e ∷ part ++ start)) outputs × Reacts c me 0 (reaction c me) [] (part ++ start)) input here.1 in
     record { later = []; before = part; splits = ap (λ (y : Entry). y ∷ part) is; outs = outputs; reacts = event.1; among = λ y k. inl k }
 reacted c me e input outputs (x ∷ part) start r (inr h) =
-    one_of (is_output x) (Reacts c me (reaction c me) (x ∷ outputs) (part ++ start))
-    (MayInput (part ++ start) x × IsReaction c me (reaction c me (x ∷ part ++ start)) outputs × Reacts c me (reaction c me) [] (part ++ start)) (Reacted c me e outputs (x ∷ part) start) r.1
+    one_of (is_output x) (Reacts c me 0 (reaction c me) (x ∷ outputs) (part ++ start))
+    (MayInput 0 (part ++ start) x × IsReaction c me (reaction c me (x ∷ part ++ start)) outputs × Reacts c me 0 (reaction c me) [] (part ++ start)) (Reacted c me e outputs (x ∷ part) start) r.1
     (λ k. let below = reacted c me e input (x ∷ outputs) part start k h in
     record { later = x ∷ below.later; before = below.before; splits = ap (λ (ys : List Entry). x ∷ ys) below.splits; outs = below.outs; reacts = below.reacts; among = λ y m. taken_in x y outputs part (below.among y m) })
     (λ k. let below = reacted c me e input [] part start k.2 h in

@@ -175,5 +175,5 @@ calls_outlive_changes c setting again later start was_run went is_run goes is_wh
     go : ((answer : Outcome) × HasEntry (Accepted k call.timestamp answer) later) ⊎ StandsAtPrimary c v k call.timestamp (later ++ start) → (answer : Outcome) × HasEntry (Accepted k call.timestamp answer) (again ++ later)
     go (inl a) = (a.0, has_right (λ x. x ≡ Accepted k call.timestamp a.0) again later a.1)
     go (inr stands) =
-        in_either c k call again later start (run.runs.clients (256 + k) client) opened
+        in_either c k call again later start (is_run.clients (256 + k) client) opened
         (λ still. accepts c setting again later start is_run goes is_whole whole_goes unforged apart v f stays all k call client tick all_again still stands)

@@ -13,7 +13,7 @@ use Rattle.protocol.specs.Replica.Certificates.{Committed}
 use Rattle.protocol.specs.Replica.State.{State, Call, opening, runs, run_call, ran_call, call_of, run_frame, execute, last_time}
 use Rattle.protocol.specs.Replica.RightReplica.{Point, HistoryReaches}
 use Rattle.protocol.specs.Replica.Owed.{HasRequest}
-use Rattle.protocol.specs.Client.RightClient.{OpenCall, open_call, SafeClient}
+use Rattle.protocol.specs.Client.RightClient.{OpenCall, open_call, IsClient}
 use Rattle.protocol.specs.Space.Linear.{reached, batch_of}
 use Rattle.protocol.specs.Laws.Histories.{ExecutesBatch}
 use Rattle.protocol.proofs.Words.Elements.{has_left, has_right}
@@ -28,7 +28,7 @@ use Rattle.protocol.proofs.Points.Invoking.{run_part}
 use Rattle.progress.specs.Delivery.{HasEntry, AllDelivered}
 use Rattle.progress.specs.Answered.{KeepsReply}
 use Rattle.progress.specs.Normal.{NormalCallsAreAccepted}
-use Rattle.progress.proofs.Clients.{Accepting, open_or_accepted}
+use Rattle.progress.proofs.Clients.{Accepting, LivesOnce, lives_once, open_or_accepted}
 use Rattle.progress.proofs.Replies.{run_of}
 use Rattle.progress.proofs.Keeping.{frames_grow, by_grows, by_at, keeps_reply}
 use Rattle.progress.proofs.Answering.{in_trace, executed_calls_are_accepted}
@@ -135,11 +135,12 @@ module _ (c : Configuration) (setting : IsConfiguration c) (again middle : List 
       executed_calls_are_accepted c setting again middle is_whole whole_goes unforged apart k call (is_correct_replica c) client still (many_correct c setting) (λ r h. (h, keeps r h)) tick all_again
 
 -- in the first part, or in the second
-pub in_either : (c : Configuration) (k : ℕ) (call : OpenCall) (again later start : List Entry) → SafeClient c (256 + k) (history_of (256 + k) (later ++ start)) → open_call (history_of (256 + k) start) ≡ Some call
+pub in_either : (c : Configuration) (k : ℕ) (call : OpenCall) (again later start : List Entry) → IsClient c (256 + k) (history_of (256 + k) (later ++ start)) → open_call (history_of (256 + k) start) ≡ Some call
     → (open_call (history_of (256 + k) (later ++ start)) ≡ Some call → (answer : Outcome) × HasEntry (Accepted k call.timestamp answer) again)
     → (answer : Outcome) × HasEntry (Accepted k call.timestamp answer) (again ++ later)
 in_either c k call again later start right opened next =
-    go (open_or_accepted c k call (history_of (256 + k) start) opened (history_of (256 + k) later) (subst (SafeClient c (256 + k)) (history_append (256 + k) later start) right))
+    go (open_or_accepted c k call (history_of (256 + k) start) opened (history_of (256 + k) later) 
+    (subst (LivesOnce c (256 + k)) (history_append (256 + k) later start) (lives_once c (256 + k) (history_of (256 + k) (later ++ start)) right)))
   where
     go : Accepting k call.timestamp (history_of (256 + k) later) ⊎ (open_call (history_of (256 + k) later ++ history_of (256 + k) start) ≡ Some call)
         → (answer : Outcome) × HasEntry (Accepted k call.timestamp answer) (again ++ later)
@@ -151,7 +152,7 @@ normal_calls_are_accepted c setting again later start is_run goes is_whole whole
     let run = run_part c again (later ++ start) (run_of c setting (again ++ (later ++ start)) is_whole unforged apart) in
     let next = (steady (primary c v) from).0.next in
     let positive : 1 ≤ i = omega arith in
-    in_either c k call again later start (run.runs.clients (256 + k) client) opened
+    in_either c k call again later start (is_run.clients (256 + k) client) opened
     (λ still. answered c setting again (later ++ start) goes is_whole whole_goes unforged apart v i (primary c v) batch from
     (committed c setting later start is_run goes run.runs.unforged v i batch from steady all begins (primary c v) from)
     (λ r h. next_batches_are_executed c setting later start is_run goes run.runs.unforged v i batch from steady all begins r h) positive k call client still has tick all_again)

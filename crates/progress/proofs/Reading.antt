@@ -88,7 +88,7 @@ module _ (c : Configuration) (setting : IsConfiguration c) (k t n : ℕ) (op : O
     where
       r : Reacted c me (Invoke k t op) [] (history_of me later ++ Invoke k t op ∷ []) (history_of me start)
       r = reacted c me (Invoke k t op) refl [] (history_of me later ++ Invoke k t op ∷ []) (history_of me start)
-          (subst (λ (xs : List Entry). Reacts c me (reaction c me) [] xs) (is_mine ∙ sym (append_assoc (history_of me later) (Invoke k t op ∷ []) (history_of me start))) (goes.clients me client refl))
+          (subst (λ (xs : List Entry). Reacts c me 0 (reaction c me) [] xs) (is_mine ∙ sym (append_assoc (history_of me later) (Invoke k t op ∷ []) (history_of me start))) (goes.clients me client refl))
           (has_right (λ x. x ≡ Invoke k t op) (history_of me later) (Invoke k t op ∷ []) (inl refl))
 
       asks_it : IsReaction c me (asks modes.ReadOnly call) r.outs

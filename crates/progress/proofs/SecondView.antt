@@ -21,7 +21,7 @@ use Rattle.protocol.specs.Replica.Certificates.{view, target, taken, is_active_i
 use Rattle.protocol.specs.Replica.State.{State, Call, opening, last_time}
 use Rattle.protocol.specs.Replica.RightReplica.{Point, HistoryReaches, IsStep, IsFree, May, MovesPoint, MaySendMessage, MayPrePrepare, SendsBytes, SentBefore, checkpoint_of, kept_states}
 use Rattle.protocol.specs.Replica.Owed.{BeginsViewWith, IsOfView, IsNumbered, AreKeysSpent}
-use Rattle.protocol.specs.Client.RightClient.{OpenCall, open_call, SafeClient}
+use Rattle.protocol.specs.Client.RightClient.{OpenCall, open_call}
 use Rattle.protocol.specs.Space.Linear.{reached}
 use Rattle.protocol.specs.Laws.Histories.{AreReplicasSafe, TakesOrSendsNewView}
 use Rattle.protocol.proofs.Words.Options.{some_injective, or_else_cases, and_then_some}
@@ -50,7 +50,7 @@ use Rattle.progress.specs.SilentView.{SecondIsNext, SomeWaits}
 use Rattle.progress.specs.SecondView.{SecondGoesOn, SecondCallsAreAccepted, CallsOutliveSilence}
 use Rattle.progress.proofs.Replies.{run_of}
 use Rattle.progress.proofs.Keeping.{by_at, by_grows, keeps_reply, open_positive}
-use Rattle.progress.proofs.Clients.{Accepting, open_or_accepted}
+use Rattle.progress.proofs.Clients.{Accepting, LivesOnce, lives_once, open_or_accepted}
 use Rattle.progress.proofs.Waiting.{waits_since}
 use Rattle.progress.proofs.Answering.{in_history, in_trace, accepted_or_not, Asked, asked, still_open, hears_request, gets_request, executed_calls_are_accepted}
 use Rattle.progress.proofs.Steady.{view_later, target_later, low_later, logged_later, active_parts, marks_parts}
@@ -527,7 +527,7 @@ second_calls_are_accepted c setting again later start is_run goes is_whole whole
     go : ((answer : Outcome) × HasEntry (Accepted k call.timestamp answer) later) ⊎ StandsAtPrimary c 1 k call.timestamp (later ++ start) → (answer : Outcome) × HasEntry (Accepted k call.timestamp answer) (again ++ later)
     go (inl a) = (a.0, has_right (λ x. x ≡ Accepted k call.timestamp a.0) again later a.1)
     go (inr stands) =
-        in_either c k call again later start (run.runs.clients (256 + k) client) opened
+        in_either c k call again later start (is_run.clients (256 + k) client) opened
         (λ still. accepts c setting again later start is_run goes is_whole whole_goes unforged apart f stays all k call client tick all_again still stands)
 
 -- ---- after the silence
@@ -662,7 +662,7 @@ calls_outlive_silence c setting again later ticks asks start one two three four 
           (has_right (λ x. x ≡ Accepted k call.timestamp a.0) ticks asks (in_trace (256 + k) (Accepted k call.timestamp a.0) asks a.1))),
     )
     first (inr none) = then (open_or_accepted c k call (history_of (256 + k) (asks ++ start)) is_open (history_of (256 + k) ticks)
-        (subst (SafeClient c (256 + k)) (history_append (256 + k) ticks (asks ++ start)) (second.runs.clients (256 + k) client)))
+        (subst (LivesOnce c (256 + k)) (history_append (256 + k) ticks (asks ++ start)) (lives_once c (256 + k) (history_of (256 + k) (ticks ++ (asks ++ start))) (two.0.clients (256 + k) client))))
       where
         is_open : open_call (history_of (256 + k) (asks ++ start)) ≡ Some call
         is_open = ap open_call (history_append (256 + k) asks start) ∙ still_open c setting asks start one.0 one.1 asked_run.runs.unforged asked_run.apart k call client opened all_asked none

@@ -22,7 +22,7 @@
 pub mod taken;
 
 ghost use Rattle.protocol.specs.Laws.Histories.{OutgoingMaySend, LeavesSignOnce, PreparedAgree, CommittedStays, CommittedAgree, ExecutedAgree, PagesDetermine, PointsAreOne, BatchesLeaveStates, StatesAreExecuted, StatesAgree, StableAgree, InstalledAgree, StartsAgree, LinearOfSafe, NoneBegins, FirstViewStays};
-ghost use Rattle.protocol.specs.Laws.Runs.{PointsAreLinear, NoneRunsTwice, AcceptedAtLevels, LevelsOfSafe, RunsAreLinear};
+ghost use Rattle.protocol.specs.Laws.Runs.{PointsAreLinear, NoneRunsTwice, AcceptedAtLevels, LevelsOfSafe, RunsAreLinear, RunsAreOfLives};
 
 /// A replica may send a frame to the right receivers, over frames that it has seen, if it may send the
 /// message.
@@ -87,14 +87,21 @@ pub fn roots_agree()
     ensures starts { StartsAgree }
 {}
 
-/// Over every run of a valid configuration, if no message of a correct party is forged and the texts of the trace do
-/// not collide, the points are legal, cover the trace and are placed in it. So the answers that correct clients accept,
-/// of reads and writes alike, are those of one sequential tuple space. Each operation acts at most once there, an
-/// accepted one exactly once, at a position between its invocation and its acceptance (Herlihy and Wing, TOPLAS 1990,
-/// section 2).
+/// Over every run of a valid configuration, in which clients may be started again, if no message of a correct party is
+/// forged and the texts of the trace do not collide, the points are legal, cover the trace and are placed in it. So the
+/// answers that correct clients accept, of reads and writes alike, are those of one sequential tuple space. Each
+/// operation acts at most once there, an accepted one exactly once, at a position between its invocation and its
+/// acceptance (Herlihy and Wing, TOPLAS 1990, section 2). One that a client left open when it was started again acts
+/// once or never.
 pub fn points_are_linear()
     ensures points { PointsAreLinear }
     ensures linear { RunsAreLinear }
+{}
+
+/// A run in which each client has one life, with the timestamps 1, 2, .., is one in which clients may be started again.
+/// So all laws of such runs hold of it.
+pub fn runs_are_of_lives()
+    ensures lives { RunsAreOfLives }
 {}
 
 /// The same over a trace whose histories are safe, whether or not the replicas do all that they owe.

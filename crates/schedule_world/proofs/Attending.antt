@@ -180,7 +180,7 @@ attend_client c trace rs stage_clients new k event outs valid attend within numb
         subst (λ (xs : List Output). GaveNothingLast (after_entries (map (entry_of (256 + k)) xs) (client_steps.input_of (256 + k) event ∷ history))) (sym (m.silent stopped)) is.1
 
     led : client_fits.Fits c m.after.client (after_entries (map (entry_of (256 + k)) outs) (client_steps.input_of (256 + k) event ∷ history))
-    led = subst (λ n. client_fits.Fits c m.after.client (after_event (256 + n) (client_steps.input_of (256 + n) event) outs history)) number (m.leads c history fit.0)
+    led = subst (λ n. client_fits.Fits c m.after.client (after_event (256 + n) (client_steps.input_of (256 + n) event) outs history)) number (m.leads c 0 history fit.0)
 
 closed : {A : Type 0} (o : Option A) → o ≡ None → is_some o ≡ false
 closed None e = refl
@@ -215,7 +215,7 @@ attend_call c trace rs stage_clients new k op timestamp outs valid attend within
 
     led : client_fits.Fits c m.after.client (after_entries (map (entry_of (256 + k)) outs) (Invoke k timestamp op ∷ history))
     led = subst (λ n. client_fits.Fits c m.after.client (after_event (256 + n) (Invoke n timestamp op) outs history)) number
-        (subst (λ t. client_fits.Fits c m.after.client (after_event (256 + m.before.client.number) (Invoke m.before.client.number t op) outs history)) next (m.leads is_closed c history fit.0))
+        (subst (λ t. client_fits.Fits c m.after.client (after_event (256 + m.before.client.number) (Invoke m.before.client.number t op) outs history)) next (m.leads is_closed c 0 history fit.0))
 
 -- ---- to whom outputs go
 

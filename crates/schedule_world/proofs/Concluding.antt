@@ -10,7 +10,7 @@ use Rattle.protocol.specs.System.Run.{IsRun}
 use Rattle.protocol.specs.Client.RightClient.{IsClient}
 use Rattle.protocol.specs.Replica.Owed.{IsReplica}
 use Rattle.protocol.specs.Space.Linear.{points}
-use Rattle.protocol.proofs.Points.Whole.{points_are_linear}
+use Rattle.protocol.proofs.Points.Whole.{points_are_linear, runs_are_of_lives}
 use Rattle.points.specs.PointView.{items_of}
 use Rattle.schedule_text.specs.declared.step.Step.{Step}
 use Rattle.schedule_text.specs.StepView.{step_of}
@@ -67,7 +67,7 @@ tells c steps s report placed at of =
       ascend = rw of.stopped (parties_ascend c s placed.valid);
       accepted = rw same (ap (λ v. map acceptance_of v.items) of.accepted ∙ at.stands.shows.accepted);
       points = rw same are;
-      linear = rw (same, are) (λ unforged apart. points_are_linear c placed.valid at.world.past run unforged apart);
+      linear = rw (same, are) (λ unforged apart. points_are_linear c placed.valid at.world.past (runs_are_of_lives c at.world.past run) unforged apart);
     }
 
 pub stops_here : (c : Configuration) (steps : List Step) (n : ℕ) (s : Stage) (step : Step) (report : Report) → PartiesArePlaced c s → StageIsAfterSteps c (map step_of (take n steps)) [] s → slice_get steps n ≡ Some step

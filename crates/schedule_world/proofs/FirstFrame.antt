@@ -32,7 +32,7 @@ earlier : (e : Entry) (outputs past : List Entry) → Has IsSent [] ⊎ Has IsSe
 earlier e outputs past (inl s) = absurd s
 earlier e outputs past (inr s) = inr (inr s)
 
-sends : (c : Configuration) (me k : ℕ) (op : Operation) (outputs history : List Entry) → Reacts c me (reaction c me) outputs history → Has (IsInputOfStep (calls k op)) history
+sends : (c : Configuration) (me k : ℕ) (op : Operation) (outputs history : List Entry) → Reacts c me 0 (reaction c me) outputs history → Has (IsInputOfStep (calls k op)) history
     → Has IsSent outputs ⊎ Has IsSent history
 sends c me k op outputs [] r h = absurd h
 sends c me k op outputs (Invoke client t o ∷ past) r (inl h) = let request = r.1.1 in inl (subst (Has IsSent) (sym request.1) (inl refl))

@@ -112,7 +112,7 @@ module _ (c : Configuration) (id calls : ℕ) (client later : ClientState) (shar
         subst (λ (xs : List Entry). Fits c later (after_entries xs share.history)) (sym are)
         (subst (λ (k : ℕ). Fits c later (after_entries (Invoke k timestamp op ∷ map (entry_of (256 + k)) outs) share.history)) states.number_is
         (subst (λ (t : ℕ). Fits c later (after_entries (Invoke client.number t op ∷ map (entry_of (256 + client.number)) outs) share.history)) when
-        (leads c share.history fits)))
+        (leads c 0 share.history fits)))
 
     pub waits : Fits c later (after_entries es share.history) → later.stopped ≡ false → AcceptNothing outs
     waits after on =
@@ -130,7 +130,7 @@ module _ (c : Configuration) (id calls : ℕ) (client later : ClientState) (shar
     fits_input leads =
         subst (λ (xs : List Entry). Fits c later (after_entries xs share.history)) (sym are)
         (subst (λ (k : ℕ). Fits c later (after_entries (input_of (256 + k) input ∷ map (entry_of (256 + k)) outs) share.history)) states.number_is
-        (leads c share.history fits))
+        (leads c 0 share.history fits))
 
     pub turns_on : Fits c later (after_entries es share.history) → later.stopped ≡ false → MakesTurn calls outs
     turns_on after on =

@@ -7,6 +7,7 @@ use Rattle.protocol.specs.System.Configuration.{Configuration, IsConfiguration}
 use Rattle.protocol.specs.System.Run.{IsRun}
 use Rattle.protocol.specs.System.Trace.{Entry}
 use Rattle.protocol.specs.Laws.Runs.{PointsAreLinear}
+use Rattle.protocol.proofs.Points.Whole.{runs_are_of_lives}
 use Rattle.protocol.specs.Replica.Owed.{IsPromptReplica}
 use Rattle.journal.specs.Carrying.{Carried}
 use Rattle.journal.specs.Histories.{correct_replicas}
@@ -59,5 +60,5 @@ finished c old trace shares stopped clients unforge linear valid are is run carr
   named = named;
   replicas_are = are;
   unforged = λ faultless. unforge c trace faultless.0 faultless.1 run carried;
-  linear = λ unforged apart. linear c valid trace run unforged apart;
+  linear = λ unforged apart. linear c valid trace (runs_are_of_lives c trace run) unforged apart;
 }

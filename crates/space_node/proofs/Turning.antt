@@ -32,20 +32,20 @@ gives_output p (outputs.Executed number batch) = refl
 gives_output p _ = refl
 
 module _ (c : Configuration) (me : ℕ) (react : List Entry → Reaction) where
-  gathered : (outs : List Output) (given past : List Entry) → Reacts c me react given (after_entries (map (entry_of me) outs) past) → Reacts c me react (map (entry_of me) outs ++ given) past
+  gathered : (outs : List Output) (given past : List Entry) → Reacts c me 0 react given (after_entries (map (entry_of me) outs) past) → Reacts c me 0 react (map (entry_of me) outs ++ given) past
   gathered [] given past r = r
   gathered (output ∷ outs) given past r =
       let e = entry_of me output in
       let rest = map (entry_of me) outs ++ given in
-      when_true (is_output e) (Reacts c me react (e ∷ rest) past) (MayInput past e × IsReaction c me (react (e ∷ past)) rest × Reacts c me react [] past) (gives_output me output)
+      when_true (is_output e) (Reacts c me 0 react (e ∷ rest) past) (MayInput 0 past e × IsReaction c me (react (e ∷ past)) rest × Reacts c me 0 react [] past) (gives_output me output)
       (gathered outs given (e ∷ past) r).1
 
-  pub reacted : (outs : List Output) (input : Entry) (past : List Entry) → is_output input ≡ false → Reacts c me react [] (after_entries (map (entry_of me) outs) (input ∷ past))
+  pub reacted : (outs : List Output) (input : Entry) (past : List Entry) → is_output input ≡ false → Reacts c me 0 react [] (after_entries (map (entry_of me) outs) (input ∷ past))
       → IsReaction c me (react (input ∷ past)) (map (entry_of me) outs)
   reacted outs input past begins r =
       let given = map (entry_of me) outs ++ [] in
       subst (λ (es : List Entry). IsReaction c me (react (input ∷ past)) es) (append-nil (map (entry_of me) outs))
-      (when_false (is_output input) (Reacts c me react (input ∷ given) past) (MayInput past input × IsReaction c me (react (input ∷ past)) given × Reacts c me react [] past) begins
+      (when_false (is_output input) (Reacts c me 0 react (input ∷ given) past) (MayInput 0 past input × IsReaction c me (react (input ∷ past)) given × Reacts c me 0 react [] past) begins
       (gathered outs [] (input ∷ past) r).1).1
 
 -- ---- an answer that is accepted is that of the last call
@@ -111,14 +111,14 @@ makes_turn c me t (accepts k a) outs last is = subst (λ (n : ℕ). MakesTurn n 
 
 -- The outputs of a client's event that begins with this input.
 pub event_turns : (c : Configuration) (me : ℕ) (outs : List Output) (input : Entry) (past : List Entry) → is_output input ≡ false
-    → Reacts c me (reaction c me) [] (after_entries (map (entry_of me) outs) (input ∷ past)) → MakesTurn (last_call (input ∷ past)) outs
+    → Reacts c me 0 (reaction c me) [] (after_entries (map (entry_of me) outs) (input ∷ past)) → MakesTurn (last_call (input ∷ past)) outs
 event_turns c me outs input past begins r =
     makes_turn c me (last_call (input ∷ past)) (reaction c me (input ∷ past)) outs (λ k a is. accepts_last c me (input ∷ past) k a is)
     (reacted c me (reaction c me) outs input past begins r)
 
 -- a call is asked for, and nothing is accepted yet
 pub call_waits : (c : Configuration) (me k t : ℕ) (op : Operation) (outs : List Output) (past : List Entry)
-    → Reacts c me (reaction c me) [] (after_entries (map (entry_of me) outs) (Invoke k t op ∷ past)) → AcceptNothing outs
+    → Reacts c me 0 (reaction c me) [] (after_entries (map (entry_of me) outs) (Invoke k t op ∷ past)) → AcceptNothing outs
 call_waits c me k t op outs past r =
     let asked = reacted c me (reaction c me) outs (Invoke k t op) past refl r in
     sends_nothing me asked.0 outs asked.1

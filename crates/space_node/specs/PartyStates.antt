@@ -15,7 +15,7 @@ use Rattle.journal.specs.Parts.{Part, longer_part}
 use Rattle.replica.specs.State.{DeskPart, OrdererPart}
 use Rattle.replica.specs.Parted.{FitBoth, DeskFitsHistory}
 use Rattle.client_cert.specs.State.{ClientState}
-use Rattle.client_cert.specs.Fits.{Fits}
+use Rattle.client_cert.specs.Fits.{Fits, FitsLife}
 use Rattle.space_node.specs.declared.input.Input.{Input}
 use Rattle.space_node.specs.declared.input.Input.TheVariants as inputs
 
@@ -112,5 +112,5 @@ InputLeads o d input outs later_o later_d =
 -- the same of a client
 abbrev pub ClientLeads : ClientState → Input → List Output → ClientState → Type 0
 ClientLeads old input outs new =
-    (c : Configuration) (history : List Entry) → Fits c old history
-    → Fits c new (after_event (client_party old.number) (input_of (client_party old.number) input) outs history)
+    (c : Configuration) (start : ℕ) (history : List Entry) → FitsLife c start old history
+    → FitsLife c start new (after_event (client_party old.number) (input_of (client_party old.number) input) outs history)

@@ -32,6 +32,9 @@ pub const RD_ALL: &[u8] = b"\x25\x40\x01\x10";
 // a MAC for each of four replicas, under the seed 00 01 .. 1f.
 pub const OUT_ORDERED: &str = "b3fcc2a0b2ecee83d20e75fc4c640da5d1ce29112d0c620d4db87dcd9dbeae1b";
 
+// The same with timestamp 2.
+pub const OUT_SECOND: &str = "ac462afb423192779ab90ac40c54b22cd79bd23ac6c1eb149db98823e2e7a7be";
+
 pub const RDP_READ: &str = "12869a10a4ece61c87b66f356ededd9613201038ba85a87f1986637df5eb1aa7";
 
 pub const RDP_ORDERED: &str = "d945accd23a840f78f80e1e466443cc5c2da8671173325e465595c5c8ff08f69";
@@ -62,6 +65,8 @@ pub enum Given<'a> {
     Asks(&'a str),
     /// The answer to the call of timestamp 1: done, else absent.
     Accepts(bool),
+    /// The answer to the call of timestamp 2: done.
+    AcceptsNext,
 }
 
 pub type Row<'a> = (Input, Given<'a>);
@@ -71,6 +76,14 @@ pub fn new_client(alloc: Global) -> Result<Box<Client>, NoMemory> {
     let publics = PublicKeys::new(alloc, &seed(), 1)?;
     let ring = own_ring(alloc, 2, Party::Client(CLIENT))?;
     Ok(Box::new(alloc, Client::new(CLIENT, 1, ring, publics))?)
+}
+
+/// The client of a later life, whose first timestamp is 2.
+pub fn later_client(alloc: Global) -> Result<Box<Client>, NoMemory> {
+    let publics = PublicKeys::new(alloc, &seed(), 1)?;
+    let ring = own_ring(alloc, 2, Party::Client(CLIENT))?;
+    let client = Client::start_above(CLIENT, 1, ring, publics, Timestamp(1));
+    Ok(Box::new(alloc, client)?)
 }
 
 fn reply(sender: u8, timestamp: u64, mode: Mode, number: u64, answer: Answer<Global>) -> Body
@@ -225,6 +238,9 @@ fn are_given(outputs: &[Output], given: Given<'_>) -> bool {
         }
         ([Output::Accepted(timestamp, answer)], Given::Accepts(is_done)) => {
             timestamp.0 == 1 && is_answer(answer, is_done)
+        }
+        ([Output::Accepted(timestamp, answer)], Given::AcceptsNext) => {
+            timestamp.0 == 2 && is_answer(answer, true)
         }
         _ => false,
     }

@@ -81,3 +81,40 @@ fn a_request_runs_once(rt: HostRuntime) {
 fn nothing_in_an_empty_trace(rt: HostRuntime) {
     holds(&rt, has_points(rt.alloc(), &[], &[], &[]));
 }
+
+// A timestamp of a later life, as a clock gives one.
+const LATER: u64 = (1_700_000_000_000 << 20) + 1;
+
+// A client is started again, while its call of timestamp 1 is open, and reads. The left request runs after that.
+static LEFT_RUN: [Step<'static>; 5] = [
+    Step::Invoke(0, 1, OUT_1),
+    Step::Invoke(0, LATER, READ),
+    Step::Execute(&[0, 1, 2], 1, &[(0, 1, ORDERED, OUT_1)]),
+    Step::Get(0, (LATER, READ_ONLY, 1, FOUND_1)),
+    Step::Accept(0, LATER, FOUND_1),
+];
+
+static LEFT_ONCE: [Row<'static>; 2] = [(0, 1, OUT_1, DONE, 4), (0, LATER, READ, FOUND_1, 4)];
+
+#[test]
+fn a_call_that_a_life_left_open_acts_once(rt: HostRuntime) {
+    holds(&rt, has_points(rt.alloc(), &[], &LEFT_RUN, &LEFT_ONCE));
+}
+
+// The same, but a request of the later life runs first.
+static PASSED_RUN: [Step<'static>; 3] = [
+    Step::Invoke(0, 1, OUT_1),
+    Step::Invoke(0, LATER, OUT_2),
+    Step::Execute(
+        &[0, 1, 2],
+        1,
+        &[(0, LATER, ORDERED, OUT_2), (0, 1, ORDERED, OUT_1)],
+    ),
+];
+
+static LEFT_OUT: [Row<'static>; 1] = [(0, LATER, OUT_2, DONE, 4)];
+
+#[test]
+fn a_call_that_a_later_one_passed_never_acts(rt: HostRuntime) {
+    holds(&rt, has_points(rt.alloc(), &[], &PASSED_RUN, &LEFT_OUT));
+}

@@ -219,12 +219,12 @@ last_of-history p (Accepted x y z ∷ xs) = other (256 + x == p) (last_of-histor
     other true h = h
     other false h = h
 
--- an invocation of a right client has the next timestamp
-next_time : (c : Configuration) (p client t : ℕ) (op : Operation) (past : List Entry) → SafeClient c p (history_of p (Invoke client t op ∷ past)) → (256 + client == p) ≡ true → t ≡ suc (last_of p past)
+-- an invocation of a right client has a timestamp above all earlier ones
+next_time : (c : Configuration) (p client t : ℕ) (op : Operation) (past : List Entry) → SafeClient c p (history_of p (Invoke client t op ∷ past)) → (256 + client == p) ≡ true → last_of p past < t
 next_time c p client t op past r is = go (256 + client == p) is r
   where
-    go : (b : Bool) → b ≡ true → SafeClient c p (cond b (Invoke client t op ∷ history_of p past) (history_of p past)) → t ≡ suc (last_of p past)
-    go true e r = r.0.1.0 ∙ ap suc (last_of-history p past)
+    go : (b : Bool) → b ≡ true → SafeClient c p (cond b (Invoke client t op ∷ history_of p past) (history_of p past)) → last_of p past < t
+    go true e r = subst (λ (x : ℕ). x < t) (last_of-history p past) r.0.1.0
     go false e r = absurd cc
 
 -- no earlier invocation has a later timestamp

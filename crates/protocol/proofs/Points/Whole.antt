@@ -27,9 +27,9 @@ use Rattle.protocol.proofs.Points.Accepting.{Accepting, accepting, Answers, acce
 use Rattle.protocol.proofs.Points.Readings.{read_of, MadeAt, ModeAt, reads_made, made_read, made_mode, one_mode, reads_differ, all_ordered, ReadFacts, read_facts, read_bound, ordered_has}
 use Rattle.protocol.specs.Space.Linear.{last_executed}
 use Rattle.tuple_codec.specs.Operations.{Operation, Outcome}
-use Rattle.protocol.specs.System.Run.{IsRun}
-use Rattle.protocol.specs.Laws.Runs.{PointsAreLinear, RunsAreLinear, AcceptedAtLevels, LevelsOfSafe, AtItsLevel}
-use Rattle.protocol.proofs.Words.Reacting.{is_replica_right, is_client_right}
+use Rattle.protocol.specs.System.Run.{IsRun, IsRunOfLives}
+use Rattle.protocol.specs.Laws.Runs.{PointsAreLinear, RunsAreLinear, RunsAreOfLives, AcceptedAtLevels, LevelsOfSafe, AtItsLevel}
+use Rattle.protocol.proofs.Words.Reacting.{is_replica_right, are_lives_right, one_life}
 use Rattle.protocol.proofs.Words.Elements.{has_left, has_some, has_right}
 
 -- ---- lists
@@ -337,11 +337,20 @@ safe_run c setting trace right unforged apart = record {
 pub linear_of_right : LinearOfSafe
 linear_of_right c setting trace right unforged apart = points_linear c trace (safe_run c setting trace right unforged apart)
 
+-- a run in which each client has one life is one of lives
+pub runs_are_of_lives : RunsAreOfLives
+runs_are_of_lives c trace run = record {
+  replicas = run.replicas;
+  clients = λ p correct. one_life c p (history_of p trace) (run.clients p correct);
+  parties = run.parties;
+  events = run.events;
+}
+
 -- the histories of a run are safe
-run_is_safe : (c : Configuration) (trace : List Entry) → IsRun c trace → IsSafeTrace c trace
+run_is_safe : (c : Configuration) (trace : List Entry) → IsRunOfLives c trace → IsSafeTrace c trace
 run_is_safe c trace run = record {
   replicas = λ p correct. is_replica_right c p (history_of p trace) (run.replicas p correct);
-  clients = λ p correct. is_client_right c p (history_of p trace) (run.clients p correct);
+  clients = λ p correct. are_lives_right c p (history_of p trace) (run.clients p correct);
   parties = run.parties;
 }
 

@@ -1,7 +1,8 @@
 -- The histories of a correct client (Castro and Liskov, TOCS 2002, on the client and on read-only operations). A client
 -- has one open call at a time, and its past determines its output. That it waits for 2f + 1 replies that agree in
--- answer and number, for writes and reads alike, is our own.
-use Rattle.std.specs.Prelude.{◌≡◌, ℕ, suc, ◌⊎◌, Bool, true, false, ◌&&◌, ◌||◌, not, List, [], ◌∷◌, nat_le, ◌==◌, if◌then◌else◌, Option, Some, None, is_some, option_and_then, bytes_eq, ⊤}
+-- answer and number, for writes and reads alike, is our own. So are its lives: a client that is started again knows
+-- nothing of its earlier calls, and its timestamps begin above all of theirs.
+use Rattle.std.specs.Prelude.{◌≡◌, ℕ, suc, ◌≤◌, ◌<◌, ◌⊎◌, Bool, true, false, ◌&&◌, ◌||◌, not, List, [], ◌∷◌, ◌++◌, nat_le, ◌==◌, if◌then◌else◌, Option, Some, None, is_some, option_and_then, bytes_eq, ⊤}
 use Rattle.std.specs.Bool.{then_some}
 use Rattle.std.specs.List.{range_with_len}
 use Rattle.std.specs.Option.{option_map_or}
@@ -22,11 +23,15 @@ use Rattle.protocol.specs.Replica.Selection.{is_quorum}
 
 -- ---- the open call
 
+-- the timestamp of the last call of a life that begins above the timestamp start, which it is before the first call
+abbrev pub last_call_above : ℕ → List Entry → ℕ
+last_call_above start [] = start
+last_call_above start (Invoke client timestamp op ∷ past) = timestamp
+last_call_above start (_ ∷ past) = last_call_above start past
+
 -- the timestamp of the client's last call, 0 before the first
 abbrev pub last_call : List Entry → ℕ
-last_call [] = 0
-last_call (Invoke client timestamp op ∷ past) = timestamp
-last_call (_ ∷ past) = last_call past
+last_call past = last_call_above 0 past
 
 -- a call whose answer the client has not accepted yet
 pub record OpenCall : Type 0 where
@@ -166,35 +171,48 @@ IsReaction c me (asks mode call) outputs =
     (bytes : List ℕ) × (outputs ≡ Sent me bytes ∷ []) × IsRequest c me mode call bytes
 IsReaction c me (accepts timestamp answer) outputs = (k : ℕ) × (outputs ≡ Accepted k timestamp answer ∷ [])
 
--- a call begins only if none is open, with the next timestamp; frames and ticks may always come
-abbrev pub MayInput : List Entry → Entry → Type 0
-MayInput past (Invoke client timestamp op) =
-    (timestamp ≡ suc (last_call past)) × (open_call past ≡ None) × IsOperation op
-MayInput past (Got p bytes) = ⊤
-MayInput past (Tick p) = ⊤
-MayInput past _ = ⊥
+-- a call begins only if none is open, with the life's next timestamp; frames and ticks may always come
+abbrev pub MayInput : ℕ → List Entry → Entry → Type 0
+MayInput start past (Invoke client timestamp op) =
+    (timestamp ≡ suc (last_call_above start past)) × (open_call past ≡ None) × IsOperation op
+MayInput start past (Got p bytes) = ⊤
+MayInput start past (Tick p) = ⊤
+MayInput start past _ = ⊥
 
 -- Each event's outputs are its reaction's. outputs: the newest event's that come after this list, the oldest first.
-abbrev pub Reacts : Configuration → ℕ → (List Entry → Reaction) → List Entry → List Entry → Type 0
-Reacts c me react outputs [] = outputs ≡ []
-Reacts c me react outputs (e ∷ past) =
+abbrev pub Reacts : Configuration → ℕ → ℕ → (List Entry → Reaction) → List Entry → List Entry → Type 0
+Reacts c me start react outputs [] = outputs ≡ []
+Reacts c me start react outputs (e ∷ past) =
     (party_of e ≡ me)
-    × either (is_output e) (Reacts c me react (e ∷ outputs) past)
-    (MayInput past e × IsReaction c me (react (e ∷ past)) outputs × Reacts c me react [] past)
+    × either (is_output e) (Reacts c me start react (e ∷ outputs) past)
+    (MayInput start past e × IsReaction c me (react (e ∷ past)) outputs × Reacts c me start react [] past)
 
 -- Each event's outputs are its reaction's; or the client stopped, and gives no output from some input on.
-abbrev pub IsClientBy : Configuration → ℕ → (List Entry → Reaction) → List Entry → Type 0
-IsClientBy c me react [] = ⊤
-IsClientBy c me react (e ∷ past) =
-    Reacts c me react [] (e ∷ past) ⊎ ((party_of e ≡ me) × MayInput past e × IsClientBy c me react past)
+abbrev pub IsClientBy : Configuration → ℕ → ℕ → (List Entry → Reaction) → List Entry → Type 0
+IsClientBy c me start react [] = ⊤
+IsClientBy c me start react (e ∷ past) =
+    Reacts c me start react [] (e ∷ past)
+    ⊎ ((party_of e ≡ me) × MayInput start past e × IsClientBy c me start react past)
+
+-- The history is one life of a correct client. Its timestamps are start + 1, start + 2, ..
+abbrev pub IsLife : Configuration → ℕ → ℕ → List Entry → Type 0
+IsLife c me start history = IsClientBy c me start (reaction c me) history
 
 -- The client has not stopped: the outputs of each event, to the end of its history, are its reaction's.
 abbrev pub IsPromptClient : Configuration → ℕ → List Entry → Type 0
-IsPromptClient c me history = Reacts c me (reaction c me) [] history
+IsPromptClient c me history = Reacts c me 0 (reaction c me) [] history
 
--- the history is a correct client's
+-- the history is a correct client's that has one life, with the timestamps 1, 2, ..
 abbrev pub IsClient : Configuration → ℕ → List Entry → Type 0
-IsClient c me history = IsClientBy c me (reaction c me) history
+IsClient c me history = IsLife c me 0 history
+
+-- The history is a correct client's over its lives. Each is a life by itself, whatever came before, but for its
+-- timestamps, which are above all earlier ones. So a call that an earlier life left open stays without an answer.
+pub data IsClientOfLives (c : Configuration) (me : ℕ) : List Entry → Type 0 where
+  unborn : IsClientOfLives c me []
+  lives : (start : ℕ) (life earlier : List Entry)
+      → IsClientOfLives c me earlier → last_call earlier ≤ start → IsLife c me start life
+      → IsClientOfLives c me (life ++ earlier)
 
 -- ---- safe histories: what each entry may be; the laws over all runs use no more
 
@@ -215,12 +233,16 @@ MayRequest past timestamp mode op =
 abbrev pub MayAsk : List Entry → Message → Type 0
 MayAsk past message = elim message [ Request timestamp mode op ↦ MayRequest past timestamp mode op | _ ↦ ⊥ ]
 
--- the entries that a client may have: its requests, acceptances by the given rule, and inputs
+-- The entries that a client may have, over all its lives: its requests, acceptances by the given rule, and inputs. A
+-- call, the first of a life or a later one, has a timestamp above all earlier ones.
 abbrev pub MayClient : (List Entry → ℕ → Outcome → Type 0) → ℕ → List Entry → Entry → Type 0
 MayClient Accepting me past (Sent p bytes) =
     (body : Body) × (said bytes ≡ Some body) × (body.sender ≡ me) × MayAsk past body.message
 MayClient Accepting me past (Accepted client timestamp answer) = Accepting past timestamp answer
-MayClient Accepting me past e = MayInput past e
+MayClient Accepting me past (Invoke client timestamp op) = (last_call past < timestamp) × IsOperation op
+MayClient Accepting me past (Got p bytes) = ⊤
+MayClient Accepting me past (Tick p) = ⊤
+MayClient Accepting me past _ = ⊥
 
 -- each entry is one that the client may have
 abbrev pub RightBy : (List Entry → ℕ → Outcome → Type 0) → ℕ → List Entry → Type 0

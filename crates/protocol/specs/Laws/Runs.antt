@@ -11,22 +11,26 @@ use Rattle.wire_format.specs.Words.{requests_of}
 use Rattle.protocol.specs.Replica.State.{State, opening, execute, ran_in}
 use Rattle.protocol.specs.Space.Linear.{points, IsLinear, Linear, is_level, invoke_past, Placing, ordered_point, NoneTwice}
 use Rattle.protocol.specs.Laws.Histories.{IsSafeTrace}
-use Rattle.protocol.specs.System.Run.{IsRun}
+use Rattle.protocol.specs.System.Run.{IsRun, IsRunOfLives}
 
--- Over every run of a valid configuration, if it is unforged and its texts do not collide, the points linearize it. So
--- the answers that correct clients accept, of reads and writes alike, are those of one sequential tuple space. Each
--- operation acts at most once there, an accepted one exactly once, at a position between its invocation and its
--- acceptance.
+-- Over every run of a valid configuration, in which clients may be started again, if it is unforged and its texts do not
+-- collide, the points linearize it. So the answers that correct clients accept, of reads and writes alike, are those of
+-- one sequential tuple space. Each operation acts at most once there, an accepted one exactly once, at a position between
+-- its invocation and its acceptance. One that a client left open when it was started again acts once or never.
 abbrev pub PointsAreLinear : Type 0
 PointsAreLinear =
-    (c : Configuration) → IsConfiguration c → (trace : List Entry) → IsRun c trace → Unforged c trace
+    (c : Configuration) → IsConfiguration c → (trace : List Entry) → IsRunOfLives c trace → Unforged c trace
     → NoCollision c trace
     → IsLinear c (points c trace) trace
 
--- So there is such a list of items: the run is linearizable.
+-- A run in which each client has one life is such a run, so all these laws hold of it.
+abbrev pub RunsAreOfLives : Type 0
+RunsAreOfLives = (c : Configuration) (trace : List Entry) → IsRun c trace → IsRunOfLives c trace
+
+-- There is such a list of items: the run is linearizable.
 abbrev pub RunsAreLinear : Type 0
 RunsAreLinear =
-    (c : Configuration) → IsConfiguration c → (trace : List Entry) → IsRun c trace → Unforged c trace
+    (c : Configuration) → IsConfiguration c → (trace : List Entry) → IsRunOfLives c trace → Unforged c trace
     → NoCollision c trace → Linear c trace
 
 -- ---- the levels of accepted answers
@@ -44,7 +48,7 @@ AtItsLevel c past _ = ⊤
 -- It is so at each acceptance of a run.
 abbrev pub AcceptedAtLevels : Type 0
 AcceptedAtLevels =
-    (c : Configuration) → IsConfiguration c → (trace : List Entry) → IsRun c trace → Unforged c trace
+    (c : Configuration) → IsConfiguration c → (trace : List Entry) → IsRunOfLives c trace → Unforged c trace
     → NoCollision c trace
     → Always (AtItsLevel c) trace
 
