@@ -1,0 +1,6 @@
+mod Outputs
+mod Writing
+mod Courses
+mod Stepping
+mod Standing
+mod Leading
