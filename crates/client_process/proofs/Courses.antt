@@ -111,7 +111,7 @@ module _ (o : Opening) (history : List Entry) (turn : Turn) (n : ℕ) (unread kn
   -- ---- the next record
 
   module _ (left : Option (List ℕ)) (kept : List ℕ) (taken : TakesRecord along.rest left kept) where
-    longer : List ℕ
+    abbrev longer : List ℕ
     longer = along.front ++ piece taken.body
 
     split_longer : o.records ≡ longer ++ taken.rest

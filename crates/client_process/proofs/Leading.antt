@@ -36,6 +36,6 @@ pub event_leads : {V E : Type 0} (items : V → List Output) (old new : ClientSt
     → IfOk result (λ _. new.stopped ≡ false)
     → IfOk result (λ outs. (c : Configuration) (history : List Entry) → FitsRunning c old history
     → FitsRunning c new (after_event (me_of old) input (items outs) history) × AreSentAsMeant c (me_of old) (items outs))
-event_leads items old new input (Ok outs) leads meant runs c history h =
-    (record { fits = leads c history h.fits; runs = runs }, meant c h.fits.members_are)
+event_leads items old new input (Ok outs) leads meant runs =
+    λ c history h. (record { fits = leads c history h.fits; runs = runs }, meant c h.fits.members_are)
 event_leads items old new input (Err stop) leads meant runs = tt

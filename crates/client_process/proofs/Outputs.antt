@@ -1,5 +1,5 @@
 -- The outputs of a step as entries, and their records.
-use Rattle.std.proofs.Common.{◌≡◌, ℕ, Bool, true, false, List, [], ◌∷◌, ◌++◌, map, Option, refl, ap, ◌∙◌}
+use Rattle.std.proofs.Common.{◌≡◌, ℕ, Bool, true, false, List, [], ◌∷◌, ◌++◌, map, Option, None, Some, option_map, refl, ap, subst, ◌∙◌}
 use Rattle.terms.specs.Parties.{party_number}
 use Rattle.wire_format.specs.Lists.{Each}
 use Rattle.tuple_codec.specs.Operations.{Outcome}
@@ -32,6 +32,15 @@ answers_are_one me (outputs.Executed number batch ∷ outs) = answers_are_one me
 answers_are_one me (outputs.Installed number root ∷ outs) = answers_are_one me outs
 answers_are_one me (outputs.Send receivers frame ∷ outs) = answers_are_one me outs
 answers_are_one me (outputs.Accepted timestamp answer ∷ outs) = refl
+
+-- What was found among the outputs: no answer, or this one.
+pub none_accepted : {X : Type 0} (f : X → Outcome) (found : Option X) (outs : List Output) → found ≡ None → option_map f found ≡ accepted_of outs
+    → None ≡ accepted_of outs
+none_accepted f found outs is said = subst (λ r. option_map f r ≡ accepted_of outs) is said
+
+pub one_accepted : {X : Type 0} (f : X → Outcome) (found : Option X) (x : X) (outs : List Output) → found ≡ Some x → option_map f found ≡ accepted_of outs
+    → Some (f x) ≡ accepted_of outs
+one_accepted f found x outs is said = subst (λ r. option_map f r ≡ accepted_of outs) is said
 
 is_output_entry : (me : ℕ) (out : Output) → is_output (entry_of me out) ≡ true
 is_output_entry me (outputs.Executed number batch) = refl

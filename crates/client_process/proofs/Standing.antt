@@ -17,7 +17,7 @@ use Rattle.protocol.specs.Client.RightClient.{IsPromptClient}
 use Rattle.party_runs.specs.Interleavings.{trace_after}
 use Rattle.records.specs.Records.{NoticeData, TellsNotice, TellsNothing, TellNotices, IsPartial, TakesRecord}
 use Rattle.client_process.specs.Serving.{Ending, cut_short, Turn, idle, waits, Serves, refused_line}
-use Rattle.client_process.specs.Endings.{Scene, scene, Writes}
+use Rattle.client_process.specs.Endings.{Scene, scene, Writes, StopsBy}
 use Rattle.client_process.specs.Faults.{StopsBetween, IsWriteFault}
 use Rattle.client_process.specs.Texts.{FrontIsWritten, FailsToWrite, WritesAll, Refuses, Holds, Advances, IsClear, TakesNotice, BeginsCall, turn_after, Opening, Along, Stands, IsAt, BringsLine, GoesOn, HasStopped, HasEnded, ServesRecord}
 use Rattle.client_process.specs.declared.timer.Timer.{Timer}
@@ -29,8 +29,8 @@ use Rattle.client_process.proofs.Stepping.{line_skipped, line_refused}
 use Rattle.client_process.proofs.Courses.{begins, past_line, past_nothing, past_notice, moved, stops_here, fails_here, ends_here, waits_here}
 
 -- what was said of known bytes, of those that are left
-pub of_known : {P : List ℕ → Type 0} (known : Option (List ℕ)) (xs : List ℕ) → known ≡ Some xs → IfSome known P → P xs
-of_known {P} known xs e h = subst (λ k. IfSome k P) e h
+pub of_known : (P : List ℕ → Type 0) (known : Option (List ℕ)) (xs : List ℕ) → known ≡ Some xs → IfSome known P → P xs
+of_known P known xs e h = subst (λ k. IfSome k P) e h
 
 -- what an attempt to take a record says, if one was taken, and if none was left
 module _ {E : Type 0} (result : Result Bool E) (more : Bool) (is : result ≡ Ok more) (known left : Option (List ℕ)) (kept : List ℕ) (said : IfSome known (λ xs. IfOk result (λ b. MatchBool b (TakesRecord xs left kept) (IsPartial xs × (kept ≡ []))))) where
@@ -75,7 +75,7 @@ module _ {C : Type 0} (me : C → ℕ) (fits : C → Configuration → List Entr
       record {
         history = trace_after here.history a.events;
         holds = a.holds;
-        along = past_notice o here.history before n unread known now old.text.items old.told.items here.along left kept (of_known {P = λ xs. TakesRecord xs left kept} known here.along.rest here.along.known_is taken)
+        along = past_notice o here.history before n unread known now old.text.items old.told.items here.along left kept (of_known (λ xs. TakesRecord xs left kept) known here.along.rest here.along.known_is taken)
             notice told after a.events a.sent a.told new.text.items new.told.items a.each a.sends a.tells a.leads;
       }
 
@@ -86,7 +86,7 @@ module _ {C : Type 0} (me : C → ℕ) (fits : C → Configuration → List Entr
   nothing_taken turn n unread known left kept now client unsent untold taken nothing here = record {
     history = here.history;
     holds = here.holds;
-    along = past_nothing o here.history turn n unread known now unsent untold here.along left kept (of_known {P = λ xs. TakesRecord xs left kept} known here.along.rest here.along.known_is taken) nothing;
+    along = past_nothing o here.history turn n unread known now unsent untold here.along left kept (of_known (λ xs. TakesRecord xs left kept) known here.along.rest here.along.known_is taken) nothing;
   }
 
   -- ---- what is due is written
@@ -167,10 +167,10 @@ module _ {C : Type 0} (me : C → ℕ) (fits : C → Configuration → List Entr
       subst (λ b. Stands me fits o (turn_after b timer) n unread known now client unsent untold) is here
 
   -- no record is left
-  pub unanswered_here : (timer : Timer) (n : ℕ) (unread known : Option (List ℕ)) (now : Scene) (client : C) (unsent untold : List ℕ) → {kept : List ℕ} → IfSome known (λ xs. IsPartial xs × (kept ≡ [])) → unsent ≡ [] → untold ≡ []
+  pub unanswered_here : (timer : Timer) (n : ℕ) (unread known : Option (List ℕ)) (now : Scene) (client : C) (unsent untold kept : List ℕ) → IfSome known (λ xs. IsPartial xs × (kept ≡ [])) → unsent ≡ [] → untold ≡ []
       → Stands me fits o (waits timer) n unread known now client unsent untold → HasStopped o Unanswered now
-  unanswered_here timer n unread known now client unsent untold {kept} partial e f here =
-      waits_here o here.history timer n unread known now unsent untold here.along (of_known {P = λ xs. IsPartial xs × (kept ≡ [])} known here.along.rest here.along.known_is partial).0 e f
+  unanswered_here timer n unread known now client unsent untold kept partial e f here =
+      waits_here o here.history timer n unread known now unsent untold here.along (of_known (λ xs. IsPartial xs × (kept ≡ [])) known here.along.rest here.along.known_is partial).0 e f
       (right (waits timer) n unread known now client unsent untold here)
 
   -- no line is left
@@ -224,7 +224,7 @@ module _ {C : Type 0} (me : C → ℕ) (fits : C → Configuration → List Entr
 -- What reading it says of the bytes that are left.
 module _ {A : Type 0} (result : Result (NextLine A) NoLine) (unread rest : Option (List ℕ)) (buffer : List ℕ) (reads : ReadsNext result unread rest buffer) (script : List ℕ) (unread_is : unread ≡ Some script) where
   read_line : ReadsLine result script rest buffer
-  read_line = of_known {P = λ xs. ReadsLine result xs rest buffer} unread script unread_is reads
+  read_line = of_known (λ xs. ReadsLine result xs rest buffer) unread script unread_is reads
 
   pub gives_line : (field given : NextLine A) → result ≡ Ok field → field ≡ given → ReturnsLine given script rest
   gives_line field given e f =
@@ -249,6 +249,12 @@ if_true A B more is h = subst (λ b. MatchBool b A B) is h
 pub if_false : (A B : Type 0) (more : Bool) → more ≡ false → MatchBool more A B → B
 if_false A B more is h = subst (λ b. MatchBool b A B) is h
 
+-- No result line is due, unless the call was answered.
+pub still_quiet : {E : Type 0} (result : Result Bool E) (told before : List ℕ) → before ≡ [] → IfOk result (λ answered. answered ≡ false → told ≡ before)
+    → IfOk result (λ answered. answered ≡ false → told ≡ [])
+still_quiet (Ok answered) told before none kept = λ is. kept is ∙ none
+still_quiet (Err fault) told before none kept = tt
+
 -- ---- the beginning
 
 -- What holds of bytes that are known holds if they are.
@@ -266,10 +272,28 @@ at_start me fits o unread known process holds clear unread_is known_is = record 
   along = begins o unread known process.text.items process.told.items unread_is known_is clear.0 clear.1;
 }
 
+-- What is written up to some input is all that there is if it stopped between two inputs.
+stops_by : (c : Configuration) (me : ℕ) (fault : ConverseFault) → StopsBetween fault → (script records : List ℕ) (old new : Scene)
+    → Writes c me script records cut_short old new → StopsBy c me fault script records old new
+stops_by c me NoMemory h script records old new writes = writes
+stops_by c me Stopped h script records old new writes = writes
+stops_by c me Unanswered h script records old new writes = absurd h
+stops_by c me TooLarge h script records old new writes = writes
+stops_by c me (Read error) h script records old new writes = writes
+stops_by c me (Write error) h script records old new writes = absurd h
+
 -- It stopped before anything was read.
 pub not_begun : {C : Type 0} (me : C → ℕ) (fits : C → Configuration → List Entry → Type 0)
-    (is_right : (client : C) (c : Configuration) (history : List Entry) → fits client c history → IsPromptClient c (me client) history) (o : Opening) (client : C)
-    → Holds me fits o.c o.me [] client → Writes o.c o.me o.script o.records cut_short o.start o.start
-not_begun me fits is_right o client holds =
-    stops_here o [] (idle 0) 1 (Some o.script) (Some o.records) o.start [] [] (begins o (Some o.script) (Some o.records) [] [] refl refl refl refl) refl refl
-    (subst (λ p. IsPromptClient o.c p []) holds.me_is (is_right client o.c [] holds.held))
+    (is_right : (client : C) (c : Configuration) (history : List Entry) → fits client c history → IsPromptClient c (me client) history)
+    (c : Configuration) (fault : ConverseFault) → StopsBetween fault → (client : C) → fits client c [] → (script records : Option (List ℕ)) (at : Scene)
+    → IfSome script (λ text. IfSome records (λ bytes. StopsBy c (me client) fault text bytes at at))
+not_begun me fits is_right c fault h client held script records at =
+    if_known (λ text. IfSome records (λ bytes. StopsBy c (me client) fault text bytes at at)) script
+    (λ text is. if_known (λ bytes. StopsBy c (me client) fault text bytes at at) records
+    (λ bytes is_too. stops_by c (me client) fault h text bytes at at (none_read text bytes)))
+  where
+    none_read : (text bytes : List ℕ) → Writes c (me client) text bytes cut_short at at
+    none_read text bytes =
+        let o : Opening = record { c = c; me = me client; script = text; records = bytes; start = at } in
+        stops_here o [] (idle 0) 1 (Some text) (Some bytes) at [] [] (begins o (Some text) (Some bytes) [] [] refl refl refl refl) refl refl
+        (is_right client c [] held)

@@ -1,5 +1,5 @@
 -- A client's steps, each of which is one of a course.
-use Rattle.std.proofs.Common.{◌≡◌, ◌≢◌, ℕ, ◌+◌, Bool, true, false, List, [], ◌∷◌, ◌++◌, map, Option, None, Some, refl, sym, ap, subst, ◌∙◌, append_assoc, append-nil}
+use Rattle.std.proofs.Common.{◌≡◌, ◌≢◌, ℕ, ◌+◌, Bool, true, false, List, [], ◌∷◌, ◌++◌, map, Option, None, Some, Result, Ok, Err, OnOk, refl, sym, ap, subst, ◌∙◌, append_assoc, append-nil}
 use Rattle.terms.specs.Parties.{client_number}
 use Rattle.tuple_codec.specs.Operations.{Operation, Outcome}
 use Rattle.tuple_text.specs.Lines.{IsLine, IsSkipped}
@@ -20,6 +20,12 @@ use Rattle.client_process.specs.Texts.{outputs_text, accepted_of, Holds, Advance
 use Rattle.client_process.specs.declared.timer.Timer.{Timer}
 use Rattle.client_process.specs.declared.process.Process.{Process}
 use Rattle.client_process.proofs.Outputs.{texts_are_one, answers_are_one, is_event}
+
+-- The timer that begins leaves the result lines as they were.
+pub told_kept : {C E : Type 0} (result : Result (Unit {0}) E) (timer : Timer) (old new : Process C) → OnOk result (BeginsTimer timer old new)
+    → OnOk result (new.told.items ≡ old.told.items)
+told_kept (Ok done) timer old new begins = begins.told_is
+told_kept (Err fault) timer old new begins = tt
 
 module _ {C : Type 0} (me : C → ℕ) (fits : C → Configuration → List Entry → Type 0) (is_right : (client : C) (c : Configuration) (history : List Entry) → fits client c history → IsPromptClient c (me client) history) where
   -- what a step of the client says of the histories that fit
@@ -122,6 +128,16 @@ module _ {C : Type 0} (me : C → ℕ) (fits : C → Configuration → List Entr
       } in
       subst (λ q. Advances me fits c q history (waits old.timer) (waits new.timer) n n [] (timer_over old.timer.number ∷ []) old new) holds.me_is go
 
+  -- It begins, unless memory ran out. timer: the one that begins.
+  pub timer_taken_on : {E : Type 0} (result : Result (Unit {0}) E) (timer : Timer) (number : ℕ) (old middle new : Process C) (outs : List Output) → timer ≡ next_timer old.timer → number ≡ old.timer.number
+      → me middle.client ≡ me old.client → LeadsBy old.client (Tick (me old.client)) outs middle.client
+      → middle.text.items ≡ old.text.items ++ outputs_text outs → middle.told.items ≡ old.told.items → OnOk result (BeginsTimer timer middle new)
+      → OnOk result (TakesNotice me fits (timer_over number) false old new)
+  timer_taken_on (Ok done) timer number old middle new outs is now same leads text told begins =
+      subst (λ k. TakesNotice me fits (timer_over k) false old new) (sym now)
+      (timer_taken old middle new outs same leads text told (subst (λ t. BeginsTimer t middle new) is begins))
+  timer_taken_on (Err fault) timer number old middle new outs is now same leads text told begins = tt
+
   -- nothing comes of a notice
   unmoved : (old : Process C) (notice : NoticeData)
       → ((c : Configuration) (p n : ℕ) (history : List Entry) (lines : List (List ℕ)) (notices : List NoticeData) (later : List (List Entry)) (sent_later told_later : List ℕ) (ending : Ending)
@@ -179,6 +195,18 @@ module _ {C : Type 0} (me : C → ℕ) (fits : C → Configuration → List Entr
             (subst (λ t. Serves c (me old.client) (waits t) (n + 1) lines notices later sent_later told_later ending) begins.timer_is serves);
       } in
       subst (λ q. Advances me fits c q history (idle old.timer.number) (waits new.timer) n (n + 1) (l ∷ []) [] old new) holds.me_is go
+
+  -- It began, unless memory ran out. timer: the one that begins.
+  pub call_begun_on : {E : Type 0} (result : Result (Unit {0}) E) (timer : Timer) (old middle new : Process C) (op : Operation) (outs : List Output) → timer ≡ first_timer old.timer.number
+      → me middle.client ≡ me old.client
+      → ((c : Configuration) (history : List Entry) → fits old.client c history
+      → (timestamp : ℕ) × fits middle.client c (after_event (me old.client) (Invoke (client_number (me old.client)) timestamp op) outs history)
+      × AreSentAsMeant c (me old.client) outs)
+      → middle.text.items ≡ old.text.items ++ outputs_text outs → middle.told.items ≡ old.told.items → OnOk result (BeginsTimer timer middle new)
+      → OnOk result (BeginsCall me fits op old new)
+  call_begun_on (Ok done) timer old middle new op outs is same leads text told begins =
+      call_begun old middle new op outs same leads text told (subst (λ t. BeginsTimer t middle new) is begins)
+  call_begun_on (Err fault) timer old middle new op outs is same leads text told begins = tt
 
   -- A line was refused, and told as such.
   pub line_refused : (old new : Process C) (fault : LineFault) (l : List ℕ) → Refuses fault l → new.client ≡ old.client → new.timer ≡ old.timer → new.text.items ≡ old.text.items

@@ -1,6 +1,6 @@
 //! A call of a client's process, and the records that it reads and writes.
 
-ghost use Rattle.std.specs.Prelude.{◌≡◌, ◌++◌, ◌+◌, [], List, ℕ, false, Ok, option_map, IfOk, IfErr, OnOk, Option};
+ghost use Rattle.std.specs.Prelude.{◌≡◌, ◌++◌, ◌+◌, [], List, ℕ, false, option_map, IfOk, IfErr, OnOk, Option};
 ghost use Rattle.tuple_codec.specs.OperationView.{operation_of, outcome_of};
 ghost use Rattle.tuple_text.specs.Lines.{IsLine};
 ghost use Rattle.one_space.specs.Run.{result_line};
@@ -91,7 +91,7 @@ impl<C: Caller> Process<C> {
     ) -> Result<bool, ConverseFault>
         requires none_due { IsClear self.old }
         ensures none_due { OnOk result (self.new.text.items ≡ []) }
-        ensures quiet { result ≡ Ok false → self.new.told.items ≡ [] }
+        ensures quiet { IfOk result (λ answered. answered ≡ false → self.new.told.items ≡ []) }
         ensures serves { (o : Opening) (n : ℕ) (unread told : Option (List ℕ))
             → IsAt C.me C.fits o (waits self.old.timer) n unread (left_of R.remaining records.old)
             (scene (F.contents frames.old) told) self.old
@@ -110,7 +110,7 @@ impl<C: Caller> Process<C> {
         records: &mut RecordReader<R>,
     ) -> Result<bool, ConverseFault>
         requires none_due { IsClear self.old }
-        ensures quiet { result ≡ Ok false → self.new.told.items ≡ [] }
+        ensures quiet { IfOk result (λ answered. answered ≡ false → self.new.told.items ≡ []) }
         ensures takes { (o : Opening) (n : ℕ) (unread : Option (List ℕ)) (now : Scene)
             → IsAt C.me C.fits o (waits self.old.timer) n unread (left_of R.remaining records.old) now self.old
             → ServesRecord C.me C.fits result o n unread (left_of R.remaining records.new) now self.new }
@@ -130,7 +130,8 @@ impl<C: Caller> Process<C> {
     fn take(&mut self, alloc: Global, notice: Notice<'_>) -> Result<bool, ConverseFault>
         ensures takes { IfOk result (λ answered. TakesNotice C.me C.fits (notice_data notice.entry) answered
             self.old self.new) }
-        ensures quiet { result ≡ Ok false → self.new.told.items ≡ self.old.told.items }
+        ensures quiet { IfOk result (λ answered. answered ≡ false
+            → self.new.told.items ≡ self.old.told.items) }
         ensures err { IfErr result StopsBetween }
     {
         match notice {
@@ -145,7 +146,8 @@ impl<C: Caller> Process<C> {
 
     fn take_frame(&mut self, alloc: Global, frame: &[u8]) -> Result<bool, ConverseFault>
         ensures takes { IfOk result (λ answered. TakesNotice C.me C.fits (came frame.now) answered self.old self.new) }
-        ensures quiet { result ≡ Ok false → self.new.told.items ≡ self.old.told.items }
+        ensures quiet { IfOk result (λ answered. answered ≡ false
+            → self.new.told.items ≡ self.old.told.items) }
         ensures err { IfErr result StopsBetween }
     {
         let outputs = self.client.got(alloc, frame)?;

@@ -1,4 +1,5 @@
 use Rattle.std.proofs.lemmas.Result.{err_from_is_err_and}
+use Rattle.client_process.specs.declared.fault.ConverseFault.TheVariants.{Read}
 use Rattle.client_process.proofs.Standing.{if_true, if_false, stops_between}
 use Rattle.client_process.proofs.process.Process.run.Goals as goal
 
@@ -21,4 +22,4 @@ returns-in_err-serve_line g c o here =
 
 pub returns : goal.returns
 returns g c o here =
-    stops_between g.C.Caller.me g.C.Caller.fits g.met.C.Caller.is_right o _ tt _ _ _ _ _ _ _ _ c.loop-number.invariant.clear.0 c.loop-number.invariant.clear.1 (c.loop-number.invariant.along o here)
+    stops_between g.C.Caller.me g.C.Caller.fits g.met.C.Caller.is_right o (Read c.from.result) tt _ _ _ _ _ _ _ _ c.loop-number.invariant.clear.0 c.loop-number.invariant.clear.1 (c.loop-number.invariant.along o here)

@@ -10,7 +10,7 @@ abbrev pub invariant-loop-number : goal.invariant-loop-number
 invariant-loop-number g l = record {
   clear : IsClear l.self;
   along : (o : Opening) → IsAt g.C.Caller.me g.C.Caller.fits o (idle l.fn.self.timer.number) 1
-      (g.B.BufRead.remaining l.fn.lines) (left_of g.R.Read.remaining l.fn.records) (scene_of g.F.Write.contents g.W.Write.contents l.fn.frames l.fn.results) l.fn.self
+      (g.B.Read.remaining l.fn.lines) (left_of g.R.Read.remaining l.fn.records) (scene_of g.F.Write.contents g.W.Write.contents l.fn.frames l.fn.results) l.fn.self
       → IsAt g.C.Caller.me g.C.Caller.fits o (idle l.self.timer.number) l.number
-      (g.B.BufRead.remaining l.lines) (left_of g.R.Read.remaining l.records) (scene_of g.F.Write.contents g.W.Write.contents l.frames l.results) l.self;
+      (g.B.Read.remaining l.lines) (left_of g.R.Read.remaining l.records) (scene_of g.F.Write.contents g.W.Write.contents l.frames l.results) l.self;
 }

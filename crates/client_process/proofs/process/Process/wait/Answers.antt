@@ -1,5 +1,5 @@
-use Rattle.std.proofs.Common.{ap, Ok}
 use Rattle.std.proofs.lemmas.Result.{err_from_is_err_and}
+use Rattle.client_process.specs.declared.fault.ConverseFault.TheVariants.{Read}
 use Rattle.client_process.proofs.Standing.{still_open, is_over, stops_between}
 use Rattle.client_process.proofs.process.Process.wait.Goals as goal
 
@@ -7,7 +7,7 @@ pub loop-preserved : goal.loop-preserved
 loop-preserved g c =
     let served = c.in_ok-serve_record.ensures {u = tt} in
     record {
-      clear = (served.none_due, served.quiet (ap (λ b. Ok b) c.if-branch.false));
+      clear = (served.none_due, served.quiet c.if-branch.false);
       along = λ o n unread told here.
           still_open g.C.Caller.me g.C.Caller.fits g.met.C.Caller.is_right o _ c.if-branch.false _ n unread _ _ _ _ _ (served.serves o n unread told (c.loop.invariant.along o n unread told here));
     }
@@ -24,4 +24,4 @@ returns-in_err-serve_record-clause-ends g c o n unread told here =
 
 pub returns-clause-ends : goal.returns-clause-ends
 returns-clause-ends g c o n unread told here =
-    stops_between g.C.Caller.me g.C.Caller.fits g.met.C.Caller.is_right o _ tt _ n unread _ _ _ _ _ c.loop.invariant.clear.0 c.loop.invariant.clear.1 (c.loop.invariant.along o n unread told here)
+    stops_between g.C.Caller.me g.C.Caller.fits g.met.C.Caller.is_right o (Read c.from.result) tt _ n unread _ _ _ _ _ c.loop.invariant.clear.0 c.loop.invariant.clear.1 (c.loop.invariant.along o n unread told here)
