@@ -1,27 +1,20 @@
 -- Courses over lines and records, one after another.
-use Rattle.std.proofs.Common.{◌≡◌, ◌≢◌, ℕ, ◌+◌, Bool, true, false, List, [], ◌∷◌, ◌++◌, Option, None, Some, IfSome, refl, sym, ap, subst, ◌∙◌, arith, append_assoc, append-nil}
+use Rattle.std.proofs.Common.{◌≡◌, ℕ, List, [], ◌∷◌, ◌++◌, Option, Some, refl, sym, ap, subst, ◌∙◌, arith, append_assoc, append-nil}
 use Rattle.std.specs.Str.Lines.{lines}
-use Rattle.std.specs.Io.KnownBytes.{Appends}
 use Rattle.std.proofs.KnownBytes.{Appends-nil, Appends-trans}
 use Rattle.wire_format.specs.Lists.{Each}
 use Rattle.wire_format.specs.Spelling.{piece}
-use Rattle.protocol.specs.System.Configuration.{Configuration}
 use Rattle.protocol.specs.System.Trace.{Entry}
 use Rattle.protocol.specs.Client.RightClient.{IsPromptClient}
 use Rattle.events.specs.Outputs.{after_entries}
-use Rattle.party_runs.specs.Interleavings.{IsEventOf, trace_after, trace_of}
-use Rattle.records.specs.Records.{IsBody, NoticeData, TellsNotice, TellsNothing, TellNotices, tells, passes, ends as bytes_end, IsPartial, TakesRecord, kept_of}
+use Rattle.party_runs.specs.Interleavings.{IsEventOf, trace_after}
+use Rattle.records.specs.Records.{NoticeData, TellsNotice, TellsNothing, TellNotices, tells, passes, ends as bytes_end, IsPartial, TakesRecord}
 use Rattle.records.proofs.Framing.{is_short}
 use Rattle.records.proofs.Telling.{kept_tell_the_same}
-use Rattle.one_space.specs.NextLines.{IsNextLine}
 use Rattle.client_process.specs.Serving.{Ending, complete, unanswered, cut_short, Turn, idle, waits, Serves, ends, waits_on, stops}
-use Rattle.client_process.specs.Endings.{Converses, Scene, scene, Writes, WritesFronts, StopsBy}
-use Rattle.client_process.specs.Faults.{StopsBetween, IsWriteFault}
-use Rattle.client_process.specs.Texts.{FrontIsWritten, FailsToWrite, Holds, Advances, Opening, Along, Stands, IsAt, BringsLine, HasStopped, HasEnded}
+use Rattle.client_process.specs.Endings.{Converses, Scene, Writes, WritesFronts}
+use Rattle.client_process.specs.Texts.{FrontIsWritten, Opening, Along, BringsLine}
 use Rattle.client_process.specs.declared.timer.Timer.{Timer}
-use Rattle.client_process.specs.declared.process.Process.{Process}
-use Rattle.client_process.specs.declared.fault.ConverseFault.{ConverseFault}
-use Rattle.client_process.specs.declared.fault.ConverseFault.TheVariants.{NoMemory, Stopped, Unanswered, TooLarge, Read, Write}
 
 each_append : {A : Type 0} (P : A → Type 0) (xs ys : List A) → Each P xs → Each P ys → Each P (xs ++ ys)
 each_append P [] ys h k = k

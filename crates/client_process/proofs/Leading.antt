@@ -1,5 +1,5 @@
 -- The client of `client_cert` leads as its process wants.
-use Rattle.std.proofs.Common.{◌≡◌, ℕ, suc, ◌+◌, false, List, Result, Ok, Err, IfOk, sym, subst, arith}
+use Rattle.std.proofs.Common.{◌≡◌, ℕ, suc, false, List, Result, Ok, Err, IfOk, subst, arith}
 use Rattle.terms.specs.Parties.{client_party, client_number}
 use Rattle.tuple_codec.specs.declared.operations.Op.{Op}
 use Rattle.tuple_codec.specs.OperationView.{operation_of}

@@ -1,6 +1,5 @@
 -- The outputs of a step as entries, and their records.
 use Rattle.std.proofs.Common.{◌≡◌, ℕ, Bool, true, false, List, [], ◌∷◌, ◌++◌, map, Option, None, Some, option_map, refl, ap, subst, ◌∙◌}
-use Rattle.terms.specs.Parties.{party_number}
 use Rattle.wire_format.specs.Lists.{Each}
 use Rattle.tuple_codec.specs.Operations.{Outcome}
 use Rattle.protocol.specs.System.Configuration.{Configuration}

@@ -1,25 +1,23 @@
 -- A process between two inputs.
-use Rattle.std.proofs.Common.{◌≡◌, ◌≢◌, ℕ, ◌+◌, Bool, true, false, MatchBool, List, [], ◌∷◌, ◌++◌, Option, None, Some, IfSome, Result, Ok, Err, IfOk, IfErr, OnOk, MatchResult, refl, sym, ap, subst, ◌∙◌, append-nil}
+use Rattle.std.proofs.Common.{◌≡◌, ℕ, ◌+◌, Bool, true, false, MatchBool, List, [], ◌∷◌, ◌++◌, Option, None, Some, IfSome, Result, Ok, Err, IfOk, IfErr, OnOk, MatchResult, refl, sym, subst, ◌∙◌}
 use Rattle.std.specs.Str.Lines.{lines}
 use Rattle.std.specs.Io.BufRead.{DropsThrough, drop_through}
 use Rattle.std.specs.Io.KnownBytes.{Appends}
-use Rattle.std.proofs.KnownBytes.{Appends-nil}
 use Rattle.tuple_codec.specs.Operations.{Operation}
 use Rattle.tuple_text.specs.Lines.{IsLine, IsSkipped}
 use Rattle.tuple_text.specs.declared.faults.LineFault.{LineFault}
 use Rattle.one_space.specs.NextLines.{IsNextLine, IsCutLine, ReturnsLine, NextLineFails, ReadsLine, ReadsNext}
 use Rattle.one_space.specs.declared.input.NextLine.{NextLine}
-use Rattle.one_space.specs.declared.input.NextLine.TheVariants as next
 use Rattle.one_space.specs.declared.input.NoLine.{NoLine}
 use Rattle.protocol.specs.System.Configuration.{Configuration}
 use Rattle.protocol.specs.System.Trace.{Entry}
 use Rattle.protocol.specs.Client.RightClient.{IsPromptClient}
 use Rattle.party_runs.specs.Interleavings.{trace_after}
-use Rattle.records.specs.Records.{NoticeData, TellsNotice, TellsNothing, TellNotices, IsPartial, TakesRecord}
-use Rattle.client_process.specs.Serving.{Ending, cut_short, Turn, idle, waits, Serves, refused_line}
+use Rattle.records.specs.Records.{NoticeData, TellsNotice, TellsNothing, IsPartial, TakesRecord}
+use Rattle.client_process.specs.Serving.{cut_short, Turn, idle, waits, refused_line}
 use Rattle.client_process.specs.Endings.{Scene, scene, Writes, StopsBy}
 use Rattle.client_process.specs.Faults.{StopsBetween, IsWriteFault}
-use Rattle.client_process.specs.Texts.{FrontIsWritten, FailsToWrite, WritesAll, Refuses, Holds, Advances, IsClear, TakesNotice, BeginsCall, turn_after, Opening, Along, Stands, IsAt, BringsLine, GoesOn, HasStopped, HasEnded, ServesRecord}
+use Rattle.client_process.specs.Texts.{FrontIsWritten, FailsToWrite, WritesAll, Refuses, Holds, Advances, IsClear, TakesNotice, BeginsCall, turn_after, Opening, Stands, IsAt, BringsLine, HasStopped, HasEnded, ServesRecord}
 use Rattle.client_process.specs.declared.timer.Timer.{Timer}
 use Rattle.client_process.specs.declared.process.Process.{Process}
 use Rattle.client_process.specs.declared.fault.ConverseFault.{ConverseFault}

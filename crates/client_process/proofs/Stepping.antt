@@ -1,21 +1,20 @@
 -- A client's steps, each of which is one of a course.
-use Rattle.std.proofs.Common.{◌≡◌, ◌≢◌, ℕ, ◌+◌, Bool, true, false, List, [], ◌∷◌, ◌++◌, map, Option, None, Some, Result, Ok, Err, OnOk, refl, sym, ap, subst, ◌∙◌, append_assoc, append-nil}
+use Rattle.std.proofs.Common.{◌≡◌, ℕ, ◌+◌, true, false, List, [], ◌∷◌, ◌++◌, map, None, Some, Result, Ok, Err, OnOk, refl, sym, ap, subst, ◌∙◌, append_assoc, append-nil}
 use Rattle.terms.specs.Parties.{client_number}
 use Rattle.tuple_codec.specs.Operations.{Operation, Outcome}
-use Rattle.tuple_text.specs.Lines.{IsLine, IsSkipped}
+use Rattle.tuple_text.specs.Lines.{IsSkipped}
 use Rattle.tuple_text.specs.declared.faults.LineFault.{LineFault}
-use Rattle.wire_format.specs.Lists.{Each}
 use Rattle.protocol.specs.System.Configuration.{Configuration}
 use Rattle.protocol.specs.System.Trace.{Entry, is_output}
 use Rattle.protocol.specs.System.Trace.Entry.{Invoke, Got, Tick}
 use Rattle.protocol.specs.Client.RightClient.{IsPromptClient}
 use Rattle.events.specs.declared.output.Output.{Output}
-use Rattle.events.specs.Outputs.{entry_of, after_entries, after_event, AreSentAsMeant}
-use Rattle.party_runs.specs.Interleavings.{IsEventOf, trace_after}
+use Rattle.events.specs.Outputs.{entry_of, after_event, AreSentAsMeant}
+use Rattle.party_runs.specs.Interleavings.{IsEventOf}
 use Rattle.records.specs.Records.{NoticeData, came, timer_over, linked}
 use Rattle.one_space.specs.Run.{result_line}
 use Rattle.client_process.specs.Timers.{first_timer, next_timer}
-use Rattle.client_process.specs.Serving.{Turn, idle, waits, Ending, Serves, skips, refuses, calls, takes, accepts, retries, is_late, notes, frames_text, timer_text, refused_line, accepted_in}
+use Rattle.client_process.specs.Serving.{idle, waits, Ending, Serves, skips, refuses, calls, takes, accepts, retries, is_late, notes, frames_text, timer_text, refused_line}
 use Rattle.client_process.specs.Texts.{outputs_text, accepted_of, Holds, Advances, TakesNotice, BeginsCall, BeginsTimer, Refuses}
 use Rattle.client_process.specs.declared.timer.Timer.{Timer}
 use Rattle.client_process.specs.declared.process.Process.{Process}

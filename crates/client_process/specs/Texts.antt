@@ -16,7 +16,7 @@ use Rattle.events.specs.declared.output.Output.TheVariants as outputs
 use Rattle.protocol.specs.System.Configuration.{Configuration}
 use Rattle.protocol.specs.System.Trace.{Entry}
 use Rattle.party_runs.specs.Interleavings.{IsEventOf, trace_after, trace_of}
-use Rattle.records.specs.Records.{NoticeData, TellNotices, IsPartial, frame_record}
+use Rattle.records.specs.Records.{NoticeData, TellNotices, frame_record}
 use Rattle.one_space.specs.NextLines.{IsNextLine}
 use Rattle.client_process.specs.Serving.{Ending, Turn, idle, waits, complete, Serves, timer_text}
 use Rattle.client_process.specs.Endings.{Scene, Writes, StopsBy, EndsConversing}

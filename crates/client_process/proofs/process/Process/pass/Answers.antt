@@ -1,5 +1,4 @@
-use Rattle.std.proofs.Common.{Some, ◌+◌, refl, subst}
-use Rattle.std.specs.Io.BufRead.{drop_through}
+use Rattle.std.proofs.Common.{Some, refl}
 use Rattle.std.proofs.lemmas.Result.{err_from_is_err_and}
 use Rattle.client_process.specs.declared.fault.ConverseFault.TheVariants.{NoMemory, Read}
 use Rattle.client_process.proofs.Standing.{cut_line, rest_passed, rest_is, stops_between}

@@ -1,4 +1,3 @@
-use Rattle.std.proofs.Common.{ℕ, List, Option}
 use Rattle.records.specs.ReaderView.{left_of}
 use Rattle.client_process.specs.Serving.{idle}
 use Rattle.client_process.specs.Endings.{scene_of}

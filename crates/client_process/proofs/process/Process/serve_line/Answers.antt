@@ -1,4 +1,4 @@
-use Rattle.std.proofs.Common.{◌+◌, Some, refl, sym}
+use Rattle.std.proofs.Common.{Some, refl, sym}
 use Rattle.std.proofs.lemmas.Result.{err_from_is_err_and}
 use Rattle.client_process.proofs.Standing.{ended_here, skipped_on, gives_line, fails_line, rest_is}
 use Rattle.client_process.proofs.process.Process.serve_line.Goals as goal
