@@ -23,6 +23,7 @@ CHECKS = {
     "tools/theorem --check": True,
     "tools/layers --check": True,
     "tools/sizes --check": True,
+    "tools/premises --check": True,
     "tools/examples": True,
     "edits/table --check": True,
 }

@@ -115,6 +115,7 @@ Commands:
   run       Runs a script on a running cluster and prints a result line for each operation
   schedule  Runs a schedule in a world of replicas and clients and prints what was accepted
   keys      Writes a file for each party, with the keys that it may have
+  replica   Serves a replica by the file of its keys, over records
   show      Prints the tuple that is encoded by these bytes
   help      Print this message or the help of the given subcommand(s)
 
@@ -136,6 +137,7 @@ Commands:
   run       Runs a script on a running cluster and prints a result line for each operation
   schedule  Runs a schedule in a world of replicas and clients and prints what was accepted
   keys      Writes a file for each party, with the keys that it may have
+  replica   Serves a replica by the file of its keys, over records
   show      Prints the tuple that is encoded by these bytes
   help      Print this message or the help of the given subcommand(s)
 
@@ -186,7 +188,7 @@ Options:
         why: NoWords::Wrong,
         output: "",
         errors: "error: 'btspace' requires a subcommand but one was not provided
-  [subcommands: local, run, schedule, keys, show, help]
+  [subcommands: local, run, schedule, keys, replica, show, help]
 
 Usage: btspace <COMMAND>
 
