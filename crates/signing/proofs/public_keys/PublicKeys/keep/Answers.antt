@@ -11,4 +11,4 @@ keep-requires c =
     let here : slice_get (publics_of c.self.inside.origin) c.args.signer.0 ≡ Some c.args.key = rw (← c.self.view_is) at c.requires in
     let dealt : slice_get (derived_publics (arc_value c.in-Dealt.dealt).seed (arc_value c.in-Dealt.dealt).faults) c.args.signer.0 ≡ Some c.args.key =
     subst (λ origin. slice_get (publics_of origin) c.args.signer.0 ≡ Some c.args.key) c.in-Dealt.is here in
-    known_key (arc_value c.in-Dealt.dealt).seed (arc_value c.in-Dealt.dealt).faults c.args.signer.0 c.args.key dealt
+    rw c.deref.ensures (known_key (arc_value c.in-Dealt.dealt).seed (arc_value c.in-Dealt.dealt).faults c.args.signer.0 c.args.key dealt)
