@@ -1,7 +1,7 @@
 //! Why a client's process doesn't begin, or ends before its script does.
 
 ghost use Rattle.std.specs.Prelude.{◌≡◌};
-ghost use Rattle.client_command.specs.Faults.{IsComplaint, IsConverseComplaint, IsKeysComplaint, IsStatus};
+ghost use Rattle.client_command.specs.Faults.{IsComplaint, IsConverseComplaint, IsStatus};
 
 use client_process::ConverseFault;
 use keys_file::KeysFault;
@@ -19,14 +19,20 @@ pub enum ClientFault {
     /// The file is a replica's.
     #[error("`party` is {number}, and has to be from 256 to {last_client}")]
     Replica { number: u16, last_client: u16 },
+    /// The life would begin above the last timestamp.
+    #[error("no timestamp is left above {above}")]
+    Spent { above: u64 },
     /// The path of the keys names the standard input.
     #[error("the standard input is read for the script")]
     StandardInput,
+    /// The clock was not read, by which the life would begin.
+    #[error("the clock can't be read: {0}")]
+    Clock(io::Error),
     /// The file from which records come was not opened.
     #[error("{0}")]
     RecordsIn(io::Error),
     /// The file to which records go was not opened.
-    #[error("{0}")]
+    #[error("the file for records can't be opened: {0}")]
     RecordsOut(io::Error),
     #[error("out of memory")]
     NoMemory,
@@ -41,24 +47,16 @@ impl ClientFault {
         ensures { IsComplaint self.now keys.now records_in.now result }
     {
         match self {
-            ClientFault::Keys(fault) => keys_complaint(fault, keys),
+            ClientFault::Keys(fault) => fault.complaint(keys),
             ClientFault::Replica { .. } => Complaint::Configuration,
+            ClientFault::Spent { .. } => Complaint::Configuration,
             ClientFault::StandardInput => Complaint::Unreadable { path: keys },
+            ClientFault::Clock(_) => Complaint::Stopped,
             ClientFault::RecordsIn(error) => Complaint::of_open(error, records_in),
-            ClientFault::RecordsOut(error) => Complaint::of_write(error),
+            ClientFault::RecordsOut(_) => Complaint::Stopped,
             ClientFault::NoMemory => Complaint::Stopped,
             ClientFault::Converse(fault) => converse_complaint(fault),
         }
-    }
-}
-
-fn keys_complaint<'a>(fault: &KeysFault, path: &'a str) -> Complaint<'a>
-    ensures { IsKeysComplaint fault.now path.now result }
-{
-    match fault {
-        KeysFault::File(_) => Complaint::Configuration,
-        KeysFault::NoMemory => Complaint::Stopped,
-        KeysFault::Read(_) => Complaint::Unreadable { path },
     }
 }
 

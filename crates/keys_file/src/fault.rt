@@ -1,7 +1,10 @@
 //! Why no party's keys were read.
 
+ghost use Rattle.std.specs.Prelude.{◌≡◌};
+ghost use Rattle.keys_file.specs.Faults.{IsComplaint};
 ghost use Rattle.keys_file.specs.Reading.{IsReadFault};
 
+use one_space::Complaint;
 use party_keys::FileFault;
 use std::io;
 use thiserror::Error;
@@ -28,6 +31,17 @@ impl KeysFault {
             KeysFault::NoMemory
         } else {
             KeysFault::Read(error)
+        }
+    }
+
+    /// The complaint about this fault, where the file stands at this path.
+    pub fn complaint<'a>(&self, path: &'a str) -> Complaint<'a>
+        ensures { IsComplaint self.now path.now result }
+    {
+        match self {
+            KeysFault::File(_) => Complaint::Configuration,
+            KeysFault::NoMemory => Complaint::Stopped,
+            KeysFault::Read(_) => Complaint::Unreadable { path },
         }
     }
 }
