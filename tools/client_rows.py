@@ -1,5 +1,5 @@
-"""The rows of tools/test about the word `client`: what one process writes for what it reads, and clients and replicas that
-are joined by pipes.
+"""The rows of tools/test about the word `client`: what one process writes for what it reads, and clients and replicas
+that are joined by pipes.
 
 What has to come stands in docs/formats.md, and is computed here by Python's hmac and hashlib.
 """
@@ -95,7 +95,8 @@ def conversations():
         "done\n", 0, "",
     )
     yield (
-        "a timer that is over", rdp, (timer_over(1), timer_over(1), timer_over(2), *replied((0, 1, 2), 1001, ORDERED, FOUND)),
+        "a timer that is over", rdp,
+        (timer_over(1), timer_over(1), timer_over(2), *replied((0, 1, 2), 1001, ORDERED, FOUND)),
         (
             read, timer, asks(1001, ORDERED, RDP), timer_begins(2, 2 * FIRST), asks(1001, ORDERED, RDP),
             timer_begins(3, 4 * FIRST),
@@ -116,8 +117,8 @@ def conversations():
     )
     yield "two replies", out, (*done[:2], *done[:2]), (request, timer), "", 3, UNANSWERED
     yield (
-        "three replies with two answers", out, (*done[:2], *replied((2,), 1001, ORDERED, ABSENT)), (request, timer), "", 3,
-        UNANSWERED,
+        "three replies with two answers", out, (*done[:2], *replied((2,), 1001, ORDERED, ABSENT)), (request, timer),
+        "", 3, UNANSWERED,
     )
     yield "records that are cut", out, (*done[:2], done[2][:-1]), (request, timer), "", 3, UNANSWERED
 
@@ -134,10 +135,10 @@ def fault_of_conversation(program, above, script, records, wanted, results, stat
     def test(room):
         records_of(room, records)
         ended = run([program, "client", "--above", str(above), "c0.toml", "in", "out"], room, script.encode())
-        written = (room / "out").read_bytes()
+        written, due = (room / "out").read_bytes(), b"".join(wanted)
         if ended != (status, results.encode(), said.encode()):
             return f"wanted status {status}, {shown(results)} and {shown(said)}, got {ended.as_text()}"
-        return None if written == b"".join(wanted) else f"wanted the records {shown(b''.join(wanted))}, got {shown(written)}"
+        return None if written == due else f"wanted the records {shown(due)}, got {shown(written)}"
 
     return with_files(test)
 
@@ -197,20 +198,27 @@ def refused():
         "the row of another client", "file in out", client.replace("party = 256", "party = 258"), 1,
         f"{REFUSED}`party` is 258, and has to be from 0 to 3 or from 256 to 257\n",
     )
-    yield "a file that is too long", "file in out", client + "#" * 65536, 1, f"{REFUSED}the file has more than 65536 bytes\n"
     yield (
-        "no timestamp is left", f"--above {LAST} c0.toml in out", "", 1, f"{REFUSED}no timestamp is left above {LAST}\n",
+        "a file that is too long", "file in out", client + "#" * 65536, 1,
+        f"{REFUSED}the file has more than 65536 bytes\n",
     )
-    yield "a replica's file and no timestamp", f"--above {LAST} r0.toml in out", "", 1, (
-        f"{REFUSED}`party` is 0, and has to be from 256 to 257\n"
+    yield (
+        "no timestamp is left", f"--above {LAST} c0.toml in out", "", 1,
+        f"{REFUSED}no timestamp is left above {LAST}\n",
+    )
+    yield (
+        "a replica's file and no timestamp", f"--above {LAST} r0.toml in out", "", 1,
+        f"{REFUSED}`party` is 0, and has to be from 256 to 257\n",
     )
     yield "keys that aren't there", "nothing in out", "", 1, f"cannot read nothing\n{NOT_THERE}\n"
-    yield "keys from the standard input", "- in out", "", 1, (
-        "cannot read -\nthe standard input is read for the script\n"
+    yield (
+        "keys from the standard input", "- in out", "", 1,
+        "cannot read -\nthe standard input is read for the script\n",
     )
     yield "records that aren't there", "c0.toml nothing out", "", 1, f"cannot read nothing\n{NOT_THERE}\n"
-    yield "no file for records", "c0.toml file nothing", "", 3, (
-        f"stopped\nthe file for records can't be opened: {NOT_THERE}\n"
+    yield (
+        "no file for records", "c0.toml file nothing", "", 3,
+        f"stopped\nthe file for records can't be opened: {NOT_THERE}\n",
     )
 
 
@@ -222,7 +230,8 @@ def fault_of_stream(program, wanted, words="c0.toml in out", **streams):
 
     def test(room):
         records_of(room, replied((0, 1, 2), 1001, ORDERED, DONE))
-        ended = run([program, "client", "--above", str(ABOVE), *words.split()], room, **{"given": b"out (1)\n", **streams})
+        how = {"given": b"out (1)\n", **streams}
+        ended = run([program, "client", "--above", str(ABOVE), *words.split()], room, **how)
         return None if (ended.status, ended.said.decode()) == wanted else ended.as_text()
 
     return with_files(test)
@@ -256,11 +265,12 @@ def fault_of_unreadable(program):
 
 
 class Client:
-    """A client's process. It keeps what it was given and what it wrote, and tells each record that it wrote. Its records
-    are named pipes, or those that it finds below /dev/fd."""
+    """A client's process. It keeps what it was given and what it wrote, and tells each record that it wrote. Its pipes
+    have names, or it finds them below /dev/fd."""
 
     def __init__(self, program, room, number, told, above=None, is_named=False):
-        self.number, self.room, self.told, self.written, self.given, self.results = C0 + number, room, told, b"", [], b""
+        self.number, self.room, self.told = C0 + number, room, told
+        self.given, self.written, self.results = [], b"", b""
         begin = () if above is None else ("--above", str(above))
         self.words = [program, "client", *begin, f"c{number}.toml"]
         self.far, self.give_to, self.take_from, names = self.pipes(number) if is_named else self.inherited()
@@ -362,7 +372,8 @@ class Cluster:
         return self.place(C0 + number, Client(self.program, self.room, number, self.told, **how))
 
     def carry(self, number, awaited):
-        """Carries frames until this client has told a record of this kind, or a result, and returns it. No timer ends."""
+        """Carries frames until this client has told a record of this kind, or a result, which it returns. No timer
+        ends."""
         while True:
             sender, kind, content = self.told.get(timeout=LONGEST)
             receivers, frame = sent(content) if kind == FRAME else ([], b"")
@@ -428,8 +439,8 @@ def fault_of_joined(program):
 
 
 def fault_of_lives(program):
-    """A client is killed in an open call, and ends well in its next life, each by the clock. All later calls are answered,
-    and the one that it left open acts once."""
+    """A client is killed in an open call, and is started again, each time by the clock. All calls of its later lives are
+    answered, and the one that it left open acts once."""
 
     def test(cluster):
         first = cluster.client(0)
@@ -486,8 +497,9 @@ def all_rows(programs):
     yield Row("nobody reads the results: btspace client", lambda: fault_of_unread(program))
     yield Row("the script can't be read: btspace client", lambda: fault_of_unreadable(program))
     yield Row(
-        "the records can't be read: btspace client", lambda: fault_of_stream(program, (3, IS_FOLDER), words="c0.toml . out")
+        "the records can't be read: btspace client",
+        lambda: fault_of_stream(program, (3, IS_FOLDER), words="c0.toml . out"),
     )
-    yield Row("four replicas and two clients that are joined by pipes: btspace client", lambda: fault_of_joined(program))
+    yield Row("four replicas and two clients joined by pipes: btspace client", lambda: fault_of_joined(program))
     yield Row("a client that is started again: btspace client", lambda: fault_of_lives(program))
     yield Row("a prompt at a terminal: btspace client", lambda: fault_of_terminal(program))

@@ -28,4 +28,5 @@ IsComplaint (Converse fault) path records c = IsConverseComplaint fault c
 
 -- the status that the program ends with: that of the complaint
 abbrev pub IsStatus : ClientFault → List ℕ → List ℕ → ℕ → Type 0
-IsStatus fault path records status = (c : Complaint) × IsComplaint fault path records c × (status ≡ complaints.status_of c)
+IsStatus fault path records status =
+    (c : Complaint) × IsComplaint fault path records c × (status ≡ complaints.status_of c)

@@ -17,8 +17,8 @@ Gives c k = k ≡ keys_of c k.party
 
 -- ---- the client
 
--- The keys are a client's, and this is the client before its first call: it has their number, and fits the empty history of
--- a life above this timestamp, in each configuration that gives it these keys.
+-- The keys are a client's, and this is the client before its first call: it has their number, and fits the empty history
+-- of a life above this timestamp, in each configuration that gives it these keys.
 pub record BeginsAs (k : PartyData) (above : ℕ) (client : ClientState) : Type 0 where
   pub is_client : FIRST_CLIENT ≤ k.party
   pub me_is : me_of client ≡ k.party
@@ -38,15 +38,17 @@ BeginsByKeys k above (Err _) = ⊥
 
 -- ---- its process
 
--- In each configuration that gives the party these keys, its process ended so for the script and the records that the readers
--- have, if they are known. Its history is one life of its client, above this timestamp.
-abbrev pub ConversesAs : PartyData → ℕ → Result (Unit {0}) ConverseFault → Option (List ℕ) → Option (List ℕ) → Scene → Scene
-    → Type 0
+-- In each configuration that gives the party these keys, its process ended so for the script and the records that the
+-- readers have, if they are known. Its history is one life of its client, above this timestamp.
+abbrev pub ConversesAs : PartyData → ℕ → Result (Unit {0}) ConverseFault → Option (List ℕ) → Option (List ℕ) → Scene
+    → Scene → Type 0
 ConversesAs k above result script records old new =
     (c : Configuration) → Gives c k → IfSome script (λ text. IfSome records (λ bytes.
     EndsConversing c k.party above result text bytes old new))
 
-abbrev pub EndsAs : PartyData → ℕ → Result (Unit {0}) ClientFault → Option (List ℕ) → Option (List ℕ) → Scene → Scene → Type 0
+-- It ended so, and by no other fault.
+abbrev pub EndsAs : PartyData → ℕ → Result (Unit {0}) ClientFault → Option (List ℕ) → Option (List ℕ) → Scene → Scene
+    → Type 0
 EndsAs k above (Ok done) script records old new = ConversesAs k above (Ok done) script records old new
 EndsAs k above (Err (Converse fault)) script records old new = ConversesAs k above (Err fault) script records old new
 EndsAs k above (Err _) script records old new = ⊥

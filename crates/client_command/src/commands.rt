@@ -13,8 +13,8 @@ use std::io;
 use std::rt::Files;
 use std::time::Clock;
 
-/// What `client` is asked for: the paths of its file of keys and of where it reads and writes records, and the timestamp
-/// above which its life begins, if the clock isn't to tell it.
+/// What `client` is asked for: the paths of its file of keys and of where it reads and writes records, and the
+/// timestamp above which its life begins, if the clock isn't to tell it.
 #[derive(Clone, Copy, Debug)]
 pub struct ClientRequest<'a> {
     pub keys: &'a str,
@@ -23,9 +23,9 @@ pub struct ClientRequest<'a> {
     pub above: Option<u64>,
 }
 
-/// Serves the client whose file stands at the path of keys: calls the operations of the script on standard input, and writes
-/// their results to standard output. It opens the other two paths, first that from which it reads records, once it has a
-/// client. Someone who sits at a terminal is shown a prompt there. Gives the status of the program.
+/// Serves the client whose file stands at the path of keys: calls the operations of the script on standard input, and
+/// writes their results to standard output. Once it has a client it opens the other two paths, first that from which it
+/// reads records. Someone who sits at a terminal is shown a prompt there. Gives the status of the program.
 pub fn run_client<R: Files + Input + Print + Eprint + AllocGlobal + Clock>(
     rt: &R,
     terminals: Terminals,

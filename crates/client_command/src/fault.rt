@@ -42,7 +42,8 @@ pub enum ClientFault {
 }
 
 impl ClientFault {
-    /// The complaint about this fault, where the party's file and the file from which records come stand at these paths.
+    /// The complaint about this fault, where the party's file and the file from which records come stand at these
+    /// paths.
     pub fn complaint<'a>(&self, keys: &'a str, records_in: &'a str) -> Complaint<'a>
         ensures { IsComplaint self.now keys.now records_in.now result }
     {

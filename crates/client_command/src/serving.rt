@@ -18,13 +18,13 @@ use terms::{ClientId, FIRST_CLIENT, NoMemory, Party, Timestamp};
 /// The greatest timestamp of a client.
 pub const LAST_TIMESTAMP: u64 = 1 << 62;
 
-/// The client that has these keys, before its first call. Its life begins above the timestamp, which has to be none below
-/// one of its earlier lives. The keys of a replica are refused.
+/// The client that has these keys, before its first call. Its life begins above the timestamp, which has to be none
+/// below one of its earlier lives. The keys of a replica are refused.
 ///
 /// # Errors
 ///
-/// The first that applies: [`ClientFault::Replica`] for a replica's keys; [`ClientFault::Spent`] if no timestamp is left
-/// above this one; and NoMemory if memory runs out.
+/// The first that applies: [`ClientFault::Replica`] for a replica's keys; [`ClientFault::Spent`] if no timestamp is
+/// left above this one; and NoMemory if memory runs out.
 pub fn begin_client(
     alloc: Global,
     keys: &PartyKeys,
@@ -67,8 +67,8 @@ fn client_of(
     Ok(Client::start_above(me, keys.faults(), ring, publics, above))
 }
 
-/// Serves the client: calls the operations of the script's lines, and writes a line of results for each. It talks to the
-/// replicas by records.
+/// Serves the client: calls the operations of the script's lines, and writes a line of results for each. It talks to
+/// the replicas by records.
 ///
 /// # Errors
 ///

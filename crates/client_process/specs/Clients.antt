@@ -1,4 +1,4 @@
--- The life of a client's process. It begins above the timestamp start; the first one, which may be the only one, above 0.
+-- The life of a client's process. It begins above the timestamp start; the first one may begin above 0.
 use Rattle.std.specs.Prelude.{◌≡◌, ℕ, false, List, []}
 use Rattle.protocol.specs.System.Configuration.{Configuration}
 use Rattle.protocol.specs.System.Trace.{Entry}
@@ -6,8 +6,8 @@ use Rattle.protocol.specs.Client.RightClient.{reaction, Reacts}
 use Rattle.client_cert.specs.State.{ClientState}
 use Rattle.client_cert.specs.Fits.{FitsLife}
 
--- The history is one life of a correct client, which has not stopped: the outputs of each event, to the end of it, are its
--- reaction's. Above 0 it is that of a client with one life (`IsPromptClient`).
+-- The history is one life of a correct client, which has not stopped: the outputs of each event, to the end of it, are
+-- its reaction's. Above 0 it is that of a client with one life (`IsPromptClient`).
 abbrev pub IsPromptLife : Configuration → ℕ → ℕ → List Entry → Type 0
 IsPromptLife c me start history = Reacts c me start (reaction c me) [] history
 

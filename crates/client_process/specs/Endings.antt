@@ -13,9 +13,9 @@ use Rattle.client_process.specs.declared.fault.ConverseFault.{ConverseFault}
 use Rattle.client_process.specs.declared.fault.ConverseFault.TheVariants.{NoMemory, Stopped, Unanswered, TooLarge, Read, Write}
 
 -- For the lines of this script and a front of these records the client writes these texts, of records and of result
--- lines, up to this ending. Its history is one life of a correct client, above the timestamp start, which has not stopped:
--- it is safe, and does all that it owes. The records behind the front are unread. If the last call is unanswered, there are
--- none.
+-- lines, up to this ending. Its history is one life of a correct client, above the timestamp start, which has not
+-- stopped: it is safe, and does all that it owes. The records behind the front are unread. If the last call is
+-- unanswered, there are none.
 pub record Converses (c : Configuration) (me start : ℕ) (script records : List ℕ) (ending : Ending) (sent told : List ℕ)
     : Type 0 where
   pub events : List (List Entry)
@@ -41,13 +41,13 @@ abbrev pub scene_of : {F W : Type 0} → (F → Option (List ℕ)) → (W → Op
 scene_of frames_in results_in frames results = scene (frames_in frames) (results_in results)
 
 -- It converses up to this ending, and what it writes is appended.
-pub record Writes (c : Configuration) (me start : ℕ) (script records : List ℕ) (ending : Ending) (old new : Scene) : Type 0
-  where
-    pub sent : List ℕ
-    pub told : List ℕ
-    pub converses : Converses c me start script records ending sent told
-    pub wrote_records : Appends old.sent new.sent sent
-    pub wrote_results : Appends old.told new.told told
+pub record Writes (c : Configuration) (me start : ℕ) (script records : List ℕ) (ending : Ending) (old new : Scene)
+    : Type 0 where
+  pub sent : List ℕ
+  pub told : List ℕ
+  pub converses : Converses c me start script records ending sent told
+  pub wrote_records : Appends old.sent new.sent sent
+  pub wrote_results : Appends old.told new.told told
 
 -- It converses up to some input, and a front of either text is appended.
 pub record WritesFronts (c : Configuration) (me start : ℕ) (script records : List ℕ) (old new : Scene) : Type 0 where

@@ -79,8 +79,8 @@ pub record Holds {C : Type 0} (me : C → ℕ) (fits : C → Configuration → �
 -- These lines were taken, of which the first has number n, and these notices: the client has these events more, and
 -- these texts are appended to those that are due. Any course over what follows makes a course with them.
 pub record Advances {C : Type 0} (me : C → ℕ) (fits : C → Configuration → ℕ → List Entry → Type 0) (c : Configuration)
-    (start p : ℕ) (history : List Entry) (before after : Turn) (n m : ℕ) (taken : List (List ℕ)) (heard : List NoticeData)
-    (old new : Process C) : Type 0 where
+    (start p : ℕ) (history : List Entry) (before after : Turn) (n m : ℕ) (taken : List (List ℕ))
+    (heard : List NoticeData) (old new : Process C) : Type 0 where
   pub events : List (List Entry)
   pub sent : List ℕ
   pub told : List ℕ
@@ -121,8 +121,8 @@ Refuses fault l = (fault ≢ NoMemory) × RefusesLine fault l
 
 -- ---- a course so far
 
--- what a session began with: the configuration, the client's party, the timestamp above which its life begins, both inputs,
--- and the bytes that the writers had
+-- what a session began with: the configuration, the client's party, the timestamp above which its life begins, both
+-- inputs, and the bytes that the writers had
 pub record Opening : Type 0 where
   pub c : Configuration
   pub me : ℕ

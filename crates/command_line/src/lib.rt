@@ -407,10 +407,10 @@ fn replica<'a>(alloc: Global) -> Result<Command<'a>, AllocError> {
 }
 
 const LIVES: &str =
-    "It calls the operations of the lines on standard input, and prints a line for each: its result, or ! and why the line is
-refused. Something else has to carry the records between the parties: it reads them at IN and writes them to OUT, which are
-named pipes or /dev/fd/N. A client that is started again begins above all its earlier timestamps. Those that it has by the
-clock do so, unless the clock is set back.";
+    "It calls the operations of the lines on standard input, and prints a line for each: the result, or ! and why the line
+is refused. Something else has to carry records between the parties: they are read at IN and written to OUT, which are
+named pipes or /dev/fd/N. A client that is started again has to begin above all its earlier timestamps. By the clock it
+does, unless that is set back.";
 
 fn client<'a>(alloc: Global) -> Result<Command<'a>, AllocError> {
     Command::new(alloc, "client")
