@@ -603,9 +603,7 @@ fn reads_the_words_of_client(rt: HostRuntime) {
     let alloc = rt.alloc();
     let words = ["btspace", "client", "c0.toml", "in", "out"];
     assert!(rt; asks_for_client(alloc, &words, None));
-    let words = [
-        "btspace", "client", "c0.toml", "in", "--above", "0", "out",
-    ];
+    let words = ["btspace", "client", "c0.toml", "in", "--above", "0", "out"];
     assert!(rt; asks_for_client(alloc, &words, Some(0)));
     let words = [
         "btspace",
