@@ -422,11 +422,7 @@ fn client<'a>(alloc: Global) -> Result<Command<'a>, AllocError> {
             "KEYS",
             "The file of the client's keys, as keys writes it",
         ))?
-        .arg(required(
-            alloc,
-            "IN",
-            "The file from which it reads records",
-        ))?
+        .arg(required(alloc, "IN", "The file from which it reads records"))?
         .arg(required(alloc, "OUT", "The file to which it writes records"))
 }
 
@@ -435,7 +431,9 @@ fn above_option<'a>(alloc: Global) -> Arg<'a> {
         .long("above")
         .value_name("TIMESTAMP")
         .value_parser(value_parser!(u64))
-        .help("Begin above this timestamp, below 2^62 [default: the milliseconds since 1970, times 2^20]")
+        .help(
+            "Begin above this timestamp, below 2^62 [default: the milliseconds since 1970, times 2^20]",
+        )
 }
 
 fn show<'a>(alloc: Global) -> Result<Command<'a>, AllocError> {

@@ -350,12 +350,10 @@ For more information, try '--help'.
 ",
     },
     Row {
-        words: &["btspace", "client", "--above", "-1", "c0.toml", "in", "out"],
+        words: &["btspace", "client", "--above", "now", "a", "b", "c"],
         why: NoWords::Wrong,
         output: "",
-        errors: "error: unexpected argument '-1' found
-
-Usage: btspace client [OPTIONS] <KEYS> <IN> <OUT>
+        errors: "error: invalid value 'now' for '--above <TIMESTAMP>': invalid digit found in string
 
 For more information, try '--help'.
 ",
@@ -603,9 +601,7 @@ fn reads_the_words_of_client(rt: HostRuntime) {
     let alloc = rt.alloc();
     let words = ["btspace", "client", "c0.toml", "in", "out"];
     assert!(rt; asks_for_client(alloc, &words, None));
-    let words = [
-        "btspace", "client", "c0.toml", "in", "--above", "0", "out",
-    ];
+    let words = ["btspace", "client", "c0.toml", "in", "--above", "0", "out"];
     assert!(rt; asks_for_client(alloc, &words, Some(0)));
     let words = [
         "btspace",
