@@ -350,12 +350,10 @@ For more information, try '--help'.
 ",
     },
     Row {
-        words: &["btspace", "client", "--above", "-1", "c0.toml", "in", "out"],
+        words: &["btspace", "client", "--above", "now", "a", "b", "c"],
         why: NoWords::Wrong,
         output: "",
-        errors: "error: unexpected argument '-1' found
-
-Usage: btspace client [OPTIONS] <KEYS> <IN> <OUT>
+        errors: "error: invalid value 'now' for '--above <TIMESTAMP>': invalid digit found in string
 
 For more information, try '--help'.
 ",
