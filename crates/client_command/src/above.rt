@@ -1,7 +1,7 @@
 //! The timestamp above which a life begins.
 
-ghost use Rattle.std.specs.Prelude.{◌≡◌, ◌*◌, ◌/◌, ◌^◌, ◌-◌, ◌<◌, ◌≤◌, IfSome, IsSome, IfOk, IsOk};
-ghost use Rattle.core.specs.Duration.{as_nanos};
+ghost use Rattle.std.specs.Prelude.{◌≡◌, ◌*◌, ◌^◌, ◌-◌, ◌<◌, ◌≤◌, IfSome, IsSome, IfOk, IsOk};
+ghost use Rattle.client_command.specs.Moments.{milliseconds_of};
 
 use crate::fault::ClientFault;
 use std::time::{Clock, Duration};
@@ -35,9 +35,8 @@ pub(crate) fn above_of<R: Clock>(rt: &R, asked: Option<u64>) -> Result<Timestamp
 /// many. It is above all timestamps of earlier lives if none of them made more than 2^20 calls for each millisecond that
 /// it lasted, and the clock didn't go back.
 pub fn above_at(since_1970: Duration) -> Timestamp
-    ensures early { as_nanos since_1970 / 1_000_000 < 2 ^ 44
-        → result.0 ≡ as_nanos since_1970 / 1_000_000 * 2 ^ 20 }
-    ensures late { 2 ^ 44 ≤ as_nanos since_1970 / 1_000_000 → result.0 ≡ 2 ^ 64 - 1 }
+    ensures early { milliseconds_of since_1970 < 2 ^ 44 → result.0 ≡ milliseconds_of since_1970 * 2 ^ 20 }
+    ensures late { 2 ^ 44 ≤ milliseconds_of since_1970 → result.0 ≡ 2 ^ 64 - 1 }
 {
     let milliseconds = since_1970.as_millis();
     if milliseconds < TOO_LATE {
