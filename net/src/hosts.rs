@@ -1,11 +1,15 @@
 //! `hosts.toml`: where the replicas listen, and the files for TLS.
 
-use crate::party::Party;
-use serde::de::{Deserialize, Deserializer, MapAccess, Visitor};
 use std::fmt;
+use std::fs::File;
+use std::io::Read;
 use std::net::IpAddr;
 use std::path::{Path, PathBuf};
+
+use serde::de::{Deserialize, Deserializer, MapAccess, Visitor};
 use toml::Value;
+
+use crate::party::Party;
 
 /// Replicas of the clusters that there are: `3f + 1`, for `f` from 1 to 3.
 const SIZES: [usize; 3] = [4, 7, 10];
@@ -110,10 +114,13 @@ impl Hosts {
     /// Reads the file. The folder of certificates is relative to that of the file.
     pub fn read(path: &Path) -> Result<Hosts, HostsFault> {
         let unreadable = |error: std::io::Error| HostsFault::Unreadable(error.to_string());
-        if std::fs::metadata(path).map_err(unreadable)?.len() > LONGEST {
+        let mut text = String::new();
+        // A path may be that of a file without an end.
+        let file = File::open(path).map_err(unreadable)?;
+        file.take(LONGEST + 1).read_to_string(&mut text).map_err(unreadable)?;
+        if text.len() as u64 > LONGEST {
             return Err(HostsFault::TooLong);
         }
-        let text = std::fs::read_to_string(path).map_err(unreadable)?;
         Hosts::from_text(&text, path.parent().unwrap_or_else(|| Path::new("")))
     }
 
@@ -223,6 +230,11 @@ mod tests {
 
     fn refusal(text: &str) -> String {
         Hosts::from_text(text, Path::new("")).map_or_else(|why| why.to_string(), |_| "taken".to_string())
+    }
+
+    #[test]
+    fn a_file_without_an_end() {
+        assert!(matches!(Hosts::read(Path::new("/dev/zero")), Err(HostsFault::TooLong)));
     }
 
     #[test]

@@ -1,50 +1,27 @@
-//! Links that others dial.
+//! Links that other parties dial.
 
-use std::collections::VecDeque;
 use std::net::SocketAddr;
 use std::sync::Arc;
-use std::time::Duration;
 
 use tokio::io::{split, AsyncReadExt};
 use tokio::net::{TcpListener, TcpStream};
-use tokio::task::{spawn, JoinHandle};
-use tokio::time::{sleep, timeout};
+use tokio::task::spawn;
+use tokio::time::timeout;
 
 use crate::link::{send, LinkEnd, Receiver, BEGINNING};
-use crate::log::{event, Level};
+use crate::log::Level;
 use crate::node::Node;
 use crate::party::Party;
 use crate::record::HELLO;
 use crate::secure::Stream;
-
-/// Links that haven't said who dials. One more ends the oldest of them.
-const STRANGERS: usize = 64;
-
-/// How long to wait after a link could not be accepted, as when descriptors ran out.
-const PAUSE: Duration = Duration::from_millis(100);
+use crate::welcome::keep_accepting;
 
 /// The head of the dialler's first word: its number.
 const FIRST_WORD: [u8; 5] = [0, 0, 0, 3, HELLO];
 
-/// Accepts links for ever.
-pub async fn keep_accepting(node: Arc<Node>, listener: TcpListener) {
-    let mut strangers: VecDeque<JoinHandle<()>> = VecDeque::new();
-    loop {
-        match listener.accept().await {
-            Ok((stream, from)) => {
-                strangers.retain(|it| !it.is_finished());
-                if strangers.len() == STRANGERS {
-                    strangers.pop_front().iter().for_each(JoinHandle::abort);
-                }
-                strangers.push_back(spawn(meet(node.clone(), stream, from)));
-            }
-            Err(error) => {
-                let reason = error.to_string();
-                node.strangers.event(Level::Warn, "accept.failed", format_args!("reason={reason:?}"));
-                sleep(PAUSE).await;
-            }
-        }
-    }
+/// Lets links of parties begin, for ever.
+pub async fn keep_meeting(node: Arc<Node>, listener: TcpListener) {
+    keep_accepting(listener, &node.strangers, |stream, from| meet(node.clone(), stream, from)).await;
 }
 
 /// Learns who dials, and lets the link begin.
@@ -78,9 +55,9 @@ async fn greet(node: &Node, stream: TcpStream) -> Result<(Party, Box<dyn Stream>
 
 /// Carries frames over the link until it ends.
 async fn carry(node: &Node, peer: Party, stream: Box<dyn Stream>, from: SocketAddr) {
-    let link = node.accept(peer);
+    let (link, traffic) = (node.accept(peer), node.traffic_of(peer));
     let level = if peer.is_replica() { Level::Info } else { Level::Debug };
-    event(level, "link.accepted", format_args!("peer={peer} address={from}"));
+    traffic.quota.event(level, "link.accepted", format_args!("peer={peer} address={from}"));
     // The dialler waits for a word.
     link.outbox.acknowledge(0);
     let (reader, writer) = split(stream);
@@ -91,5 +68,5 @@ async fn carry(node: &Node, peer: Party, stream: Box<dyn Stream>, from: SocketAd
     };
     node.leave(peer, &link);
     let reason = end.to_string();
-    event(level, "link.left", format_args!("peer={peer} address={from} reason={reason:?}"));
+    traffic.quota.event(level, "link.left", format_args!("peer={peer} address={from} reason={reason:?}"));
 }

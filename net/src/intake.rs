@@ -10,7 +10,7 @@ use tokio::sync::Notify;
 
 use crate::record::{put_record, LINKS, TIMER};
 
-/// Bytes of whole records that wait in a lane, beside the last ones that were put there.
+/// Bytes of whole records that wait in a lane, beside the last one that was put there.
 const ROOM: usize = 65_536;
 
 /// The records of one peer that the child hasn't got.
@@ -98,8 +98,8 @@ impl Intake {
 }
 
 impl Lane {
-    /// Adds whole records, once those before have left room.
-    pub async fn put(self: &Arc<Lane>, records: &[u8]) {
+    /// Adds a whole record, once those before have left room.
+    pub async fn put(self: &Arc<Lane>, record: &[u8]) {
         loop {
             // Who waits from here on is told, even if the room comes before it is looked for.
             let room = self.has_room.notified();
@@ -108,15 +108,15 @@ impl Lane {
             }
             room.await;
         }
-        if self.add(records) {
+        if self.add(record) {
             self.intake.give_turn(self);
         }
     }
 
-    /// Adds the records, and gives whether the lane has to be given a turn.
-    fn add(&self, records: &[u8]) -> bool {
+    /// Adds the record, and gives whether the lane has to be given a turn.
+    fn add(&self, record: &[u8]) -> bool {
         let mut ready = self.ready.lock().unwrap();
-        ready.records.extend_from_slice(records);
+        ready.records.extend_from_slice(record);
         !std::mem::replace(&mut ready.has_turn, true)
     }
 
@@ -134,11 +134,11 @@ impl Lane {
 mod tests {
     use super::*;
 
-    /// Puts records, and gives whether there was room at once.
-    async fn put(lane: &Arc<Lane>, records: &[u8]) -> bool {
+    /// Puts a record, and gives whether there was room at once.
+    async fn put(lane: &Arc<Lane>, record: &[u8]) -> bool {
         tokio::select! {
             biased;
-            _ = lane.put(records) => true,
+            _ = lane.put(record) => true,
             _ = std::future::ready(()) => false,
         }
     }

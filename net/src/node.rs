@@ -17,8 +17,9 @@ use crate::secure::Security;
 use crate::timer::Timer;
 use crate::traffic::Traffic;
 
-/// Accepted links of one party that are kept, the newest.
-const LINKS_OF_A_PARTY: usize = 4;
+/// Accepted links of one party that are kept, the newest. So 256 clients leave some of a process's 1,024 descriptors.
+const LINKS_OF_A_REPLICA: usize = 4;
+const LINKS_OF_A_CLIENT: usize = 2;
 
 /// Another replica, which is dialled.
 pub struct Replica {
@@ -127,10 +128,11 @@ impl Node {
     pub fn accept(&self, party: Party) -> Arc<Accepted> {
         let outbox = Outbox::of_accepted(&self.budget, self.traffic_of(party));
         let link = Arc::new(Accepted { outbox, is_replaced: Notify::new() });
+        let most = if party.is_replica() { LINKS_OF_A_REPLICA } else { LINKS_OF_A_CLIENT };
         self.with_known(party, |it| {
             it.accepted.push(link.clone());
             it.traffic.link_begins();
-            if it.accepted.len() > LINKS_OF_A_PARTY {
+            if it.accepted.len() > most {
                 it.accepted.remove(0).is_replaced.notify_one();
             }
         });
@@ -202,6 +204,18 @@ mod tests {
 
     #[test]
     fn the_newest_links_of_a_party_are_kept() {
+        let node = Node::of_client();
+        for (party, most) in [(Party(0), 4), (Party(300), 2)] {
+            let links: Vec<_> = (0..6).map(|_| node.accept(party)).collect();
+            let known = node.known.lock().unwrap();
+            let kept: Vec<bool> =
+                links.iter().map(|it| known[&party].accepted.iter().any(|other| Arc::ptr_eq(it, other))).collect();
+            assert_eq!(kept, [vec![false; 6 - most], vec![true; most]].concat());
+        }
+    }
+
+    #[test]
+    fn links_come_and_go() {
         let node = Node::of_client();
         let links: Vec<_> = (0..6).map(|_| node.accept(Party(0))).collect();
         node.send(Party(0), &Shared::from(&b"to a replica"[..]));

@@ -184,10 +184,16 @@ def go_on_beside_liar(cluster, load):
 
 
 def kill_a_client(cluster, load):
-    """A client dies in a call. Nobody knows whether that one acted. The others and a new one go on."""
-    load.kill(0)
-    load.add(cluster.client(5))
-    load.go_on(CALLS, "without a client")
+    """A client dies in a call. Nobody knows whether that one acted. The others go on, and it does so in a new life. Two lives
+    at once are refused."""
+    second = cluster.client(1)
+    if second.process.begun.wait(BOUND) != 3 or "is at work" not in second.process.said():
+        raise Trouble(f"c1 started twice: {second.process.said()}")
+    for place in (0, -1):
+        load.kill(place)
+        load.go_on(CALLS, "without a client")
+        load.add(cluster.client(0))
+        load.go_on(CALLS, "in a new life")
 
 
 def stop_in_order(cluster, load):
@@ -248,8 +254,8 @@ SCENARIOS = (
     Scenario("a link is held in one direction", hold_one_direction, THROUGH),
     Scenario("frames are delayed, reordered, lost and repeated", disturb, THROUGH),
     Scenario("noise and floods on each port", floods),
-    Scenario("a client dies in a call", kill_a_client),
-    Scenario("SIGTERM in order, and no second life with the same keys", stop_in_order),
+    Scenario("a client dies in a call, and starts again", kill_a_client),
+    Scenario("SIGTERM in order, and no second life of a replica", stop_in_order),
     Scenario("TLS, and false names", refuse_false_names, {"tls": True}),
     *(
         Scenario(f"replica {it} lies: {lie}", go_on_beside_liar, {"liars": {it: lie}})

@@ -1,10 +1,13 @@
 //! What went to and came from a peer, counted for the metrics.
 
 use crate::counter::Counter;
+use crate::log::Quota;
 
 /// Counts since the start, but for the links at present.
 #[derive(Default)]
 pub struct Traffic {
+    /// For events that the peer causes.
+    pub quota: Quota,
     pub frames_sent: Counter,
     pub bytes_sent: Counter,
     pub frames_received: Counter,
@@ -21,8 +24,8 @@ impl Traffic {
         self.bytes_sent.add(bytes as u64);
     }
 
-    pub fn received(&self, frames: u64, bytes: usize) {
-        self.frames_received.add(frames);
+    pub fn received(&self, bytes: usize) {
+        self.frames_received.add(1);
         self.bytes_received.add(bytes as u64);
     }
 

@@ -13,7 +13,7 @@ use crate::intake::Lane;
 use crate::node::Node;
 use crate::outbox::Outbox;
 use crate::party::Party;
-use crate::record::{Records, WrongLength, ACKNOWLEDGED, FRAME, LONGEST, LONGEST_OF_CLIENT, QUESTION};
+use crate::record::{Record, Records, WrongLength, ACKNOWLEDGED, FRAME, LONGEST, LONGEST_OF_CLIENT, QUESTION};
 use crate::traffic::Traffic;
 
 /// How long a link may take to begin.
@@ -117,7 +117,6 @@ impl Receiver<'_> {
 
     async fn take_all(&mut self, mut link: impl AsyncRead + Unpin) -> Result<Infallible, LinkEnd> {
         let mut records = Records::new(self.longest);
-        let mut frames = Vec::new();
         loop {
             let read = timeout(SILENCE, link.read(records.room())).await;
             let count = read.map_err(|_| LinkEnd::Silent)??;
@@ -125,38 +124,30 @@ impl Receiver<'_> {
                 return Err(LinkEnd::Closed);
             }
             records.came(count);
-            let has_asked = self.take_records(&mut records, &mut frames)?;
-            if !frames.is_empty() {
-                self.lane.put(&frames).await;
-                frames.clear();
-                frames.shrink_to(2 * BYTES_TOLD);
+            let mut has_asked = false;
+            while let Some(record) = records.next()? {
+                has_asked |= record.kind == QUESTION;
+                self.take(&record).await;
             }
             self.acknowledge(has_asked);
         }
     }
 
-    /// Takes the records that came whole, and gives whether the peer asks how many did.
-    fn take_records(&mut self, records: &mut Records, frames: &mut Vec<u8>) -> Result<bool, WrongLength> {
-        let (mut count, mut has_asked) = (0, false);
-        while let Some(record) = records.next()? {
-            match record.kind {
-                FRAME => {
-                    frames.extend_from_slice(record.bytes);
-                    count += 1;
-                }
-                QUESTION => has_asked = true,
-                ACKNOWLEDGED => {
-                    if let Ok(number) = record.content.try_into() {
-                        self.outbox.acknowledged(u64::from_be_bytes(number));
-                    }
-                }
-                _ => {}
+    async fn take(&mut self, record: &Record<'_>) {
+        match record.kind {
+            FRAME => {
+                self.lane.put(record.bytes).await;
+                self.frames_came += 1;
+                self.bytes_untold += record.bytes.len();
+                self.traffic.received(record.bytes.len());
             }
+            ACKNOWLEDGED => {
+                if let Ok(number) = record.content.try_into() {
+                    self.outbox.acknowledged(u64::from_be_bytes(number));
+                }
+            }
+            _ => {}
         }
-        self.frames_came += count;
-        self.bytes_untold += frames.len();
-        self.traffic.received(count, frames.len());
-        Ok(has_asked)
     }
 
     fn acknowledge(&mut self, has_asked: bool) {

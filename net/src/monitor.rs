@@ -12,9 +12,11 @@ use tokio::net::{TcpListener, TcpStream};
 use tokio::time::timeout;
 
 use crate::node::Node;
+use crate::traffic::Traffic;
+use crate::welcome::keep_accepting;
 
-/// The most bytes of a question's first line, and how long it may take.
-const LONGEST_QUESTION: usize = 1024;
+/// The most bytes of a question, and how long it and its answer may take.
+const LONGEST_QUESTION: usize = 8192;
 const LONGEST_WAIT: Duration = Duration::from_secs(2);
 
 /// How a party stands: how many replicas are linked to it, and how many it needs.
@@ -43,24 +45,30 @@ impl fmt::Display for Health {
     }
 }
 
-/// Answers questions for ever, one after another.
+/// Answers questions for ever.
 pub async fn keep_answering(node: Arc<Node>, listener: TcpListener) {
-    loop {
-        if let Ok((stream, _)) = listener.accept().await {
+    let meet = |stream, _| {
+        let node = node.clone();
+        async move {
             let _ = timeout(LONGEST_WAIT, answer(&node, stream)).await;
         }
+    };
+    keep_accepting(listener, &node.strangers, meet).await;
+}
+
+/// Reads a question to the blank line behind its head. What is left unread would cut off the answer.
+async fn read_question(stream: &mut TcpStream) -> io::Result<Vec<u8>> {
+    let mut question = Vec::with_capacity(LONGEST_QUESTION);
+    while !question.ends_with(b"\r\n\r\n") && question.len() < LONGEST_QUESTION {
+        if stream.read_buf(&mut question).await? == 0 {
+            break;
+        }
     }
+    Ok(question)
 }
 
 async fn answer(node: &Node, mut stream: TcpStream) -> io::Result<()> {
-    let mut question = Vec::new();
-    let mut piece = [0; LONGEST_QUESTION];
-    while !question.contains(&b'\n') && question.len() < LONGEST_QUESTION {
-        match stream.read(&mut piece).await? {
-            0 => return Ok(()),
-            count => question.extend_from_slice(&piece[..count]),
-        }
-    }
+    let question = read_question(&mut stream).await?;
     let (status, text) = if question.starts_with(b"GET /metrics ") {
         ("200 OK", metrics(node))
     } else if question.starts_with(b"GET /health ") {
@@ -139,7 +147,7 @@ fn of_party(node: &Node) -> Vec<Metric<'static>> {
 /// The metrics with a value for each peer.
 fn by_peer(node: &Node) -> Vec<Metric<'static>> {
     let traffic = node.traffic();
-    let read = |name, kind, help, value: fn(&crate::traffic::Traffic) -> u64| Metric {
+    let read = |name, kind, help, value: fn(&Traffic) -> u64| Metric {
         name,
         kind,
         help,

@@ -1,6 +1,7 @@
 //! A carrier's life: from its settings to the status with which it ends.
 
 use std::fmt;
+use std::fs::File;
 use std::future::pending;
 use std::io;
 use std::net::SocketAddr;
@@ -15,8 +16,8 @@ use tokio::signal::unix::{signal, Signal, SignalKind};
 use tokio::task::{spawn, JoinHandle};
 use tokio::time::{sleep, timeout, Instant};
 
-use crate::accept::keep_accepting;
-use crate::child::{leave_mark, mark_of, Program, Started};
+use crate::accept::keep_meeting;
+use crate::child::{claim, leave_mark, mark_of, Program, Started};
 use crate::dial::keep_dialling;
 use crate::hosts::{Address, Hosts};
 use crate::log::{event, Level};
@@ -51,6 +52,8 @@ pub struct Settings {
 pub enum StartFault {
     Tls(TlsFault),
     Listen(String, io::Error),
+    AtWork(PathBuf),
+    Keys(PathBuf, io::Error),
     StartedBefore(PathBuf),
     Mark(PathBuf, io::Error),
     Program(PathBuf, io::Error),
@@ -62,9 +65,11 @@ impl fmt::Display for StartFault {
         match self {
             StartFault::Tls(fault) => fault.fmt(f),
             StartFault::Listen(address, error) => write!(f, "can't listen at {address}: {error}"),
+            StartFault::AtWork(keys) => write!(f, "another carrier is at work for {}", keys.display()),
+            StartFault::Keys(keys, error) => write!(f, "can't open {}: {error}", keys.display()),
             StartFault::StartedBefore(mark) => write!(
                 f,
-                "this party was started before, as {} tells: it needs new keys, since it doesn't know what it sent",
+                "this replica was started before, as {} tells, and has lost what it sent: it counts as faulty now",
                 mark.display()
             ),
             StartFault::Mark(mark, error) => write!(f, "can't write {}: {error}", mark.display()),
@@ -88,6 +93,7 @@ pub async fn run(settings: &Settings) -> Result<u8, StartFault> {
     let security = Security::new(files.as_ref()).map_err(StartFault::Tls)?;
     let node = Node::new(settings.party, &settings.hosts.replicas, security);
     let stops = Stops::new()?;
+    let _claim = settings.claim()?;
     let listener = listen_for_links(settings).await?;
     if let Some(address) = settings.metrics {
         let listener = listen(&address.to_string()).await?;
@@ -95,17 +101,45 @@ pub async fn run(settings: &Settings) -> Result<u8, StartFault> {
     }
     let started = start_child(settings)?;
     if let Some(listener) = listener {
-        spawn(keep_accepting(node.clone(), listener));
+        spawn(keep_meeting(node.clone(), listener));
     }
     for replica in &node.replicas {
         spawn(keep_dialling(node.clone(), replica.clone()));
     }
     let status = live(&node, started, stops).await;
     if node.records_of_child.get() == 0 {
-        // A party that did nothing may start again.
-        let _ = std::fs::remove_file(mark_of(&settings.keys));
+        // A replica that did nothing may start again.
+        settings.take_mark();
     }
     Ok(status)
+}
+
+impl Settings {
+    /// Keeps other carriers from the party while this one lives.
+    fn claim(&self) -> Result<File, StartFault> {
+        claim(&self.keys).map_err(|error| match error.kind() {
+            io::ErrorKind::WouldBlock => StartFault::AtWork(self.keys.clone()),
+            _ => StartFault::Keys(self.keys.clone(), error),
+        })
+    }
+
+    /// Leaves the mark of a replica, which starts once. A client may start again: its timestamps tell its lives apart.
+    fn leave_mark(&self) -> Result<(), StartFault> {
+        if !self.party.is_replica() {
+            return Ok(());
+        }
+        leave_mark(&self.keys).map_err(|error| match error.kind() {
+            io::ErrorKind::AlreadyExists => StartFault::StartedBefore(mark_of(&self.keys)),
+            _ => StartFault::Mark(mark_of(&self.keys), error),
+        })
+    }
+
+    /// Takes the mark that was left.
+    fn take_mark(&self) {
+        if self.party.is_replica() {
+            let _ = std::fs::remove_file(mark_of(&self.keys));
+        }
+    }
 }
 
 async fn listen_for_links(settings: &Settings) -> Result<Option<TcpListener>, StartFault> {
@@ -125,13 +159,10 @@ async fn listen(address: &str) -> Result<TcpListener, StartFault> {
 
 fn start_child(settings: &Settings) -> Result<Started, StartFault> {
     let Settings { btspace, keys, party, has_prompt, .. } = settings;
-    leave_mark(keys).map_err(|error| match error.kind() {
-        io::ErrorKind::AlreadyExists => StartFault::StartedBefore(mark_of(keys)),
-        _ => StartFault::Mark(mark_of(keys), error),
-    })?;
+    settings.leave_mark()?;
     let program = Program { btspace, keys, party: *party, has_prompt: *has_prompt };
     program.start().map_err(|error| {
-        let _ = std::fs::remove_file(mark_of(keys));
+        settings.take_mark();
         StartFault::Program(btspace.clone(), error)
     })
 }

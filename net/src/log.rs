@@ -9,6 +9,7 @@
 
 use std::fmt;
 use std::io::Write;
+use std::os::unix::io::AsRawFd;
 use std::str::FromStr;
 use std::sync::atomic::{AtomicU16, AtomicU64, AtomicU8, Ordering};
 use std::time::{SystemTime, UNIX_EPOCH};
@@ -58,9 +59,9 @@ pub fn begin(party: Party, most: Level) {
     PARTY.store(party.0, Ordering::Relaxed);
 }
 
-/// Tells an event. Nothing comes of it if standard error can't be written.
+/// Tells an event. Nothing comes of it if standard error can't be written, or if nobody reads it.
 pub fn event(level: Level, name: &str, fields: fmt::Arguments<'_>) {
-    if level as u8 > MOST.load(Ordering::Relaxed) {
+    if level as u8 > MOST.load(Ordering::Relaxed) || !takes_a_line(&std::io::stderr()) {
         return;
     }
     let now = SystemTime::now().duration_since(UNIX_EPOCH).unwrap_or_default();
@@ -68,6 +69,13 @@ pub fn event(level: Level, name: &str, fields: fmt::Arguments<'_>) {
     let time = Time { seconds: now.as_secs(), milliseconds: now.subsec_millis() };
     let line = format!("{time} {level} {party} {name} {fields}");
     let _ = writeln!(std::io::stderr().lock(), "{}", line.trim_end());
+}
+
+/// Whether a line can be written at once. A full pipe would hold up all that the carrier does.
+fn takes_a_line(file: &impl AsRawFd) -> bool {
+    let mut end = libc::pollfd { fd: file.as_raw_fd(), events: libc::POLLOUT, revents: 0 };
+    // SAFETY: the call reads and writes one structure, and doesn't wait.
+    unsafe { libc::poll(&mut end, 1, 0) == 1 }
 }
 
 /// Bounds how many events a second strangers can cause.
@@ -131,6 +139,21 @@ fn date_of(day: u64) -> (u64, u64, u64) {
 #[cfg(test)]
 mod tests {
     use super::*;
+
+    #[test]
+    fn a_pipe_that_nobody_reads_is_full_once() {
+        let (reader, writer) = crate::pipe::pipe().unwrap();
+        let mut file = std::fs::File::from(writer);
+        let mut lines = 0;
+        while takes_a_line(&file) {
+            file.write_all(&[b'a'; 4096]).unwrap();
+            lines += 1;
+        }
+        assert!(lines > 0);
+        drop(reader);
+        // Then a line fails at once.
+        assert!(takes_a_line(&file) && file.write_all(b"a").is_err());
+    }
 
     #[test]
     fn times_of_the_calendar() {

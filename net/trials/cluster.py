@@ -3,6 +3,7 @@
 import os
 import random
 import re
+import shutil
 import signal
 import socket
 import subprocess
@@ -89,13 +90,17 @@ def await_that(holds, what, seconds=BOUND):
         time.sleep(0.02)
 
 
+# Carriers end with the test, even if that is killed.
+ENDS_TOO = ("setpriv", "--pdeathsig", "KILL") if shutil.which("setpriv") else ()
+
+
 class Process:
     """A carrier with its child."""
 
     def __init__(self, words, log, **pipes):
         self.log = log
         with open(log, "wb") as errors:
-            self.begun = subprocess.Popen(words, stderr=errors, start_new_session=True, **pipes)
+            self.begun = subprocess.Popen([*ENDS_TOO, *words], stderr=errors, start_new_session=True, **pipes)
         self.running = {Running.of(self.begun.pid)} - {None}
 
     def all_running(self):
@@ -136,6 +141,12 @@ class Process:
         return self.log.read_text(errors="replace")
 
 
+def make_certificates(room, names):
+    if not shutil.which("openssl"):
+        subprocess.run([HERE.parent / "install", "openssl"], check=True, capture_output=True)
+    subprocess.run([HERE.parent / "certificates", "tls", *names], cwd=room, check=True, capture_output=True)
+
+
 class Cluster:
     """`3f + 1` replicas in a folder. `network` says whether links go through one of the test's own, and `liars` which
     replicas lie and how."""
@@ -147,7 +158,7 @@ class Cluster:
         subprocess.run([programs.btspace, "keys", "cluster.toml", "keys"], cwd=room, check=True, capture_output=True)
         names = [f"r{it}" for it in range(self.count)] + [f"c{it}" for it in range(clients)]
         if tls:
-            subprocess.run([HERE.parent / "certificates", "tls", *names], cwd=room, check=True, capture_output=True)
+            make_certificates(room, names)
         self.ports = free_ports(2 * self.count)
         self.network = Network(seed, not tls) if network else None
 
@@ -251,12 +262,13 @@ class Cluster:
             it.send(signal.SIGKILL)
 
 
-def operations(seed, name):
-    """Operations without end, on a few keys, so that clients meet. Each tuple that is put has a number of its own."""
-    source, number = random.Random(f"{seed} {name}"), 0
+def operations(seed, place):
+    """Operations without end of the client at this place, on a few keys, so that clients meet. Each tuple that is put has a
+    number of its own."""
+    source, number = random.Random(f"{seed} {place}"), 0
     while True:
         number += 1
-        key, own = source.randrange(3), 1000 * int(name[1:]) + number
+        key, own = source.randrange(3), 1000 * place + number
         yield source.choice((
             out(key, own), out(key, own), inp(key, INT), inp(key, INT), inp(INT, ANY), rdp(key, INT), rdp(key, ANY),
             cas((key, INT), (key, own)), rd_all(8, key, INT),
@@ -308,13 +320,13 @@ class Load:
             self.add(it)
 
     def add(self, client):
-        thread = threading.Thread(target=self.run, args=(client,), daemon=True)
+        thread = threading.Thread(target=self.run, args=(client, len(self.clients)), daemon=True)
         self.clients.append(client)
         self.threads.append(thread)
         thread.start()
 
-    def run(self, client):
-        for op in operations(self.seed, client.name):
+    def run(self, client, place):
+        for op in operations(self.seed, place):
             if self.is_stopped.is_set() or client.call(op) is None:
                 return
             # Histories are judged by a search, and a few hundred calls are enough for it.

@@ -5,7 +5,7 @@ use std::time::Duration;
 
 use tokio::io::{split, AsyncReadExt, AsyncWriteExt};
 use tokio::net::TcpStream;
-use tokio::time::{interval, sleep, timeout};
+use tokio::time::{interval, sleep, timeout, Instant};
 
 use crate::link::{send, LinkEnd, Receiver, BEGINNING};
 use crate::log::{event, Level};
@@ -24,14 +24,17 @@ const ASKING: Duration = Duration::from_secs(2);
 /// The head of the acceptor's first word: so many frames came.
 const FIRST_WORD: [u8; 5] = [0, 0, 0, 9, ACKNOWLEDGED];
 
-/// Dials a replica for ever. The pause doubles with each dial that comes to nothing.
+/// Dials a replica for ever. The pause doubles with each dial that comes to nothing, or to a link that ends at once.
 pub async fn keep_dialling(node: Arc<Node>, replica: Arc<Replica>) {
     let mut pause = FIRST_PAUSE;
     loop {
         match begin_link(&node, &replica).await {
             Ok(stream) => {
-                pause = FIRST_PAUSE;
+                let begin = Instant::now();
                 carry(&node, &replica, stream).await;
+                if begin.elapsed() > LONGEST_PAUSE {
+                    pause = FIRST_PAUSE;
+                }
             }
             Err(end) => {
                 let level = if pause == FIRST_PAUSE { Level::Info } else { Level::Debug };

@@ -75,19 +75,30 @@ fn leave_our_group() -> io::Result<()> {
     }
 }
 
-/// Where a mark says that the party of this file was started once.
+/// Opens the file of keys, and keeps other carriers of this machine from the party for as long as it is open. It fails
+/// with `WouldBlock` if another one has it.
+pub fn claim(keys: &Path) -> io::Result<File> {
+    let file = File::open(keys)?;
+    // SAFETY: the call only locks an open file, or fails.
+    match unsafe { libc::flock(file.as_raw_fd(), libc::LOCK_EX | libc::LOCK_NB) } {
+        0 => Ok(file),
+        _ => Err(io::Error::last_os_error()),
+    }
+}
+
+/// Where a mark says that the replica of this file was started once.
 pub fn mark_of(keys: &Path) -> PathBuf {
     let mut name = keys.as_os_str().to_os_string();
     name.push(".started");
     PathBuf::from(name)
 }
 
-/// Leaves the mark, which outlasts a crash. It fails with `AlreadyExists` if the party was started before.
+/// Leaves the mark, which outlasts a crash. It fails with `AlreadyExists` if the replica was started before.
 pub fn leave_mark(keys: &Path) -> io::Result<()> {
     let path = mark_of(keys);
     let mut mark = OpenOptions::new().write(true).create_new(true).mode(0o600).open(&path)?;
     mark.write_all(
-        b"This party was started. It has lost what it knew, and must not start again with the same keys.\n",
+        b"This replica was started. It has lost what it knew, and must not start again with the same keys.\n",
     )?;
     mark.sync_all()?;
     let folder = match path.parent() {
@@ -101,14 +112,33 @@ pub fn leave_mark(keys: &Path) -> io::Result<()> {
 mod tests {
     use super::*;
 
-    #[test]
-    fn a_party_starts_once() {
-        let folder = std::env::temp_dir().join(format!("btspace-node-{}", std::process::id()));
+    /// Acts in a folder of its own.
+    fn in_folder<T>(name: &str, act: impl FnOnce(&Path) -> T) -> T {
+        let folder = std::env::temp_dir().join(format!("btspace-node-{name}-{}", std::process::id()));
         std::fs::create_dir(&folder).unwrap();
-        let keys = folder.join("r0.toml");
-        let (first, second) = (leave_mark(&keys), leave_mark(&keys));
+        let given = act(&folder);
         std::fs::remove_dir_all(&folder).unwrap();
+        given
+    }
+
+    #[test]
+    fn a_replica_starts_once() {
+        let marks = |folder: &Path| [leave_mark(&folder.join("r0.toml")), leave_mark(&folder.join("r0.toml"))];
+        let [first, second] = in_folder("mark", marks);
         first.unwrap();
         assert_eq!(second.unwrap_err().kind(), io::ErrorKind::AlreadyExists);
+    }
+
+    #[test]
+    fn a_party_is_carried_once_at_a_time() {
+        in_folder("claim", |folder| {
+            let keys = folder.join("c0.toml");
+            assert_eq!(claim(&keys).unwrap_err().kind(), io::ErrorKind::NotFound);
+            File::create(&keys).unwrap();
+            let first = claim(&keys).unwrap();
+            assert_eq!(claim(&keys).unwrap_err().kind(), io::ErrorKind::WouldBlock);
+            drop(first);
+            assert!(claim(&keys).is_ok());
+        });
     }
 }

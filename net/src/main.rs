@@ -38,6 +38,7 @@ mod run;
 mod secure;
 mod timer;
 mod traffic;
+mod welcome;
 mod words;
 
 use std::io::IsTerminal;
@@ -58,12 +59,22 @@ const WRONG_WORDS: u8 = 2;
 const NOT_BEGUN: u8 = 3;
 
 fn main() -> ExitCode {
+    end_with_any_task();
     let status = match Words::parse().request {
         Request::Replica { listen, common } => carry(common, listen, true),
         Request::Client { common } => carry(common, None, false),
         Request::Health { address } => tell_health(address),
     };
     ExitCode::from(status)
+}
+
+/// A carrier one of whose tasks is gone serves nobody, so a fault in one ends all. Its child ends with it.
+fn end_with_any_task() {
+    let tell = std::panic::take_hook();
+    std::panic::set_hook(Box::new(move |fault| {
+        tell(fault);
+        std::process::abort();
+    }));
 }
 
 fn complain(status: u8, why: impl std::fmt::Display) -> u8 {
