@@ -3,12 +3,12 @@
 use std::net::SocketAddr;
 use std::sync::Arc;
 
-use tokio::io::{split, AsyncReadExt};
+use tokio::io::AsyncReadExt;
 use tokio::net::{TcpListener, TcpStream};
 use tokio::task::spawn;
 use tokio::time::timeout;
 
-use crate::link::{send, LinkEnd, Receiver, BEGINNING};
+use crate::link::{self, LinkEnd, Receiver, BEGINNING};
 use crate::log::Level;
 use crate::node::Node;
 use crate::party::Party;
@@ -60,10 +60,9 @@ async fn carry(node: &Node, peer: Party, stream: Box<dyn Stream>, from: SocketAd
     traffic.quota.event(level, "link.accepted", format_args!("peer={peer} address={from}"));
     // The dialler waits for a word.
     link.outbox.acknowledge(0);
-    let (reader, writer) = split(stream);
     let end = tokio::select! {
-        end = Receiver::new(node, peer, &link.outbox).receive(reader) => end,
-        end = send(&link.outbox, writer) => end,
+        biased;
+        end = link::carry(Receiver::new(node, peer, &link.outbox), stream) => end,
         _ = link.is_replaced.notified() => LinkEnd::Replaced,
     };
     node.leave(peer, &link);

@@ -3,14 +3,13 @@
 use std::sync::Arc;
 use std::time::Duration;
 
-use tokio::io::{split, AsyncReadExt, AsyncWriteExt};
+use tokio::io::{AsyncReadExt, AsyncWriteExt};
 use tokio::net::TcpStream;
 use tokio::time::{interval, sleep, timeout, Instant};
 
-use crate::link::{send, LinkEnd, Receiver, BEGINNING};
+use crate::link::{self, LinkEnd, Receiver, BEGINNING};
 use crate::log::{event, Level};
 use crate::node::{Node, Replica};
-use crate::outbox::Outbox;
 use crate::record::{put_record, ACKNOWLEDGED, HELLO};
 use crate::secure::Stream;
 
@@ -76,12 +75,7 @@ async fn carry(node: &Node, replica: &Replica, stream: Box<dyn Stream>) {
     replica.set_reached(true);
     traffic.link_begins();
     node.tell_links();
-    let (reader, writer) = split(stream);
-    let end = tokio::select! {
-        end = Receiver::new(node, peer, &replica.outbox).receive(reader) => end,
-        end = send(&replica.outbox, writer) => end,
-        end = ask_again(&replica.outbox) => end,
-    };
+    let end = link::carry(Receiver::new(node, peer, &replica.outbox), stream).await;
     replica.outbox.end_link();
     replica.set_reached(false);
     traffic.link_ends();
@@ -90,11 +84,11 @@ async fn carry(node: &Node, replica: &Replica, stream: Box<dyn Stream>) {
     event(Level::Info, "link.down", format_args!("peer={peer} address={address} reason={reason:?}"));
 }
 
-/// Asks the peer again and again. This never ends.
-async fn ask_again(outbox: &Outbox) -> LinkEnd {
+/// Asks each replica again and again.
+pub async fn keep_asking(node: Arc<Node>) {
     let mut asking = interval(ASKING);
     loop {
         asking.tick().await;
-        outbox.ask();
+        node.replicas.iter().for_each(|it| it.outbox.ask());
     }
 }

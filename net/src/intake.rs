@@ -2,8 +2,10 @@
 //! alone.
 
 use std::collections::VecDeque;
+use std::future::poll_fn;
 use std::io;
-use std::sync::{Arc, Mutex};
+use std::sync::{Arc, Mutex, MutexGuard};
+use std::task::{Context, Poll, Waker};
 
 use tokio::io::{AsyncWrite, AsyncWriteExt};
 use tokio::sync::Notify;
@@ -30,7 +32,6 @@ struct Ready {
 #[derive(Default)]
 pub struct Intake {
     due: Mutex<Due>,
-    is_due: Notify,
 }
 
 #[derive(Default)]
@@ -40,6 +41,8 @@ struct Due {
     /// counts.
     links: Option<u8>,
     timer: Option<u64>,
+    /// Wakes the task that feeds the child, if it waits for something to be due.
+    feeder: Option<Waker>,
 }
 
 impl Intake {
@@ -48,52 +51,76 @@ impl Intake {
     }
 
     pub fn tell_links(&self, count: u8) {
-        self.due.lock().unwrap().links = Some(count);
-        self.is_due.notify_one();
+        self.change(|due| due.links = Some(count));
     }
 
     pub fn tell_timer(&self, number: u64) {
-        self.due.lock().unwrap().timer = Some(number);
-        self.is_due.notify_one();
+        self.change(|due| due.timer = Some(number));
     }
 
     fn give_turn(&self, lane: &Arc<Lane>) {
-        self.due.lock().unwrap().turns.push_back(lane.clone());
-        self.is_due.notify_one();
+        self.change(|due| due.turns.push_back(lane.clone()));
+    }
+
+    fn due(&self) -> MutexGuard<'_, Due> {
+        self.due.lock().unwrap()
+    }
+
+    fn change(&self, act: impl FnOnce(&mut Due)) {
+        let mut due = self.due();
+        act(&mut due);
+        if let Some(feeder) = due.feeder.take() {
+            feeder.wake();
+        }
     }
 
     /// Writes what comes to the child, until that fails.
     pub async fn feed(&self, mut child: impl AsyncWrite + Unpin) -> io::Error {
         let mut text = Vec::new();
         loop {
-            if !self.take(&mut text) {
-                self.is_due.notified().await;
-                continue;
-            }
+            poll_fn(|context| self.poll_take(&mut text, context)).await;
             if let Err(error) = child.write_all(&text).await {
                 return error;
             }
         }
     }
 
-    /// Puts what is due in place of the text, in turns of the lanes, and gives whether there was something.
-    pub(crate) fn take(&self, text: &mut Vec<u8>) -> bool {
+    fn poll_take(&self, text: &mut Vec<u8>, context: &mut Context<'_>) -> Poll<()> {
+        let mut due = self.due();
+        due.take(text);
+        if text.is_empty() {
+            due.feeder = Some(context.waker().clone());
+            return Poll::Pending;
+        }
+        Poll::Ready(())
+    }
+
+    /// What is due, taken.
+    #[cfg(test)]
+    pub fn next(&self) -> Vec<u8> {
+        let mut text = Vec::new();
+        self.due().take(&mut text);
+        text
+    }
+}
+
+impl Due {
+    /// Puts what is due in place of the text, in turns of the lanes.
+    fn take(&mut self, text: &mut Vec<u8>) {
         text.clear();
         text.shrink_to(2 * ROOM);
-        let mut due = self.due.lock().unwrap();
-        if let Some(count) = due.links.take() {
+        if let Some(count) = self.links.take() {
             put_record(LINKS, &[&[count]], text);
         }
-        if let Some(number) = due.timer.take() {
+        if let Some(number) = self.timer.take() {
             put_record(TIMER, &[&number.to_be_bytes()], text);
         }
         while text.len() < ROOM {
-            let Some(lane) = due.turns.pop_front() else {
+            let Some(lane) = self.turns.pop_front() else {
                 break;
             };
             lane.take(text);
         }
-        !text.is_empty()
     }
 }
 
@@ -150,13 +177,10 @@ mod tests {
         assert!(put(&flood, &vec![1; ROOM]).await);
         assert!(!put(&flood, &[1]).await);
         assert!(put(&quiet, &[2]).await);
-        let mut text = Vec::new();
-        assert!(intake.take(&mut text));
-        assert_eq!(text.len(), ROOM);
+        assert_eq!(intake.next().len(), ROOM);
         assert!(put(&flood, &[3]).await);
-        assert!(intake.take(&mut text));
-        assert_eq!(text, [2, 3]);
-        assert!(!intake.take(&mut text));
+        assert_eq!(intake.next(), [2, 3]);
+        assert_eq!(intake.next(), []);
     }
 
     #[test]
@@ -166,8 +190,6 @@ mod tests {
             intake.tell_links(number);
             intake.tell_timer(number.into());
         }
-        let mut text = Vec::new();
-        assert!(intake.take(&mut text));
-        assert_eq!(text, b"\0\0\0\x02\x03\x03\0\0\0\x09\x02\0\0\0\0\0\0\0\x03");
+        assert_eq!(intake.next(), b"\0\0\0\x02\x03\x03\0\0\0\x09\x02\0\0\0\0\0\0\0\x03");
     }
 }

@@ -3,24 +3,27 @@
 use std::convert::Infallible;
 use std::fmt;
 use std::io;
+use std::pin::pin;
 use std::sync::Arc;
 use std::time::Duration;
 
-use tokio::io::{AsyncRead, AsyncReadExt, AsyncWrite, AsyncWriteExt};
-use tokio::time::timeout;
+use tokio::io::{split, AsyncRead, AsyncReadExt, AsyncWrite, AsyncWriteExt};
+use tokio::task::JoinSet;
+use tokio::time::{sleep, Instant};
 
 use crate::intake::Lane;
 use crate::node::Node;
 use crate::outbox::Outbox;
 use crate::party::Party;
 use crate::record::{Record, Records, WrongLength, ACKNOWLEDGED, FRAME, LONGEST, LONGEST_OF_CLIENT, QUESTION};
+use crate::secure::Stream;
 use crate::traffic::Traffic;
 
 /// How long a link may take to begin.
 pub const BEGINNING: Duration = Duration::from_secs(5);
 
-/// After so long without a word from the peer a link ends.
-pub const SILENCE: Duration = Duration::from_secs(10);
+/// A link ends if nothing came in a whole one of these.
+pub const SILENCE: Duration = Duration::from_secs(5);
 
 /// A peer is told how many frames came once so many more did, or so many bytes more, or if it asks.
 const FRAMES_TOLD: u64 = 64;
@@ -68,8 +71,21 @@ impl From<WrongLength> for LinkEnd {
     }
 }
 
+/// Carries what goes and comes over a link until one of both ends. The halves are tasks of their own, so that what comes
+/// wakes one alone.
+pub async fn carry(receiver: Receiver, stream: Box<dyn Stream>) -> LinkEnd {
+    let (reader, writer) = split(stream);
+    let mut sending = JoinSet::new();
+    sending.spawn(send(receiver.outbox.clone(), writer));
+    tokio::select! {
+        biased;
+        end = receiver.receive(reader) => end,
+        Some(Ok(end)) = sending.join_next() => end,
+    }
+}
+
 /// Writes what waits for the peer until that fails. What is ready goes in one write.
-pub async fn send(outbox: &Outbox, mut link: impl AsyncWrite + Unpin) -> LinkEnd {
+async fn send(outbox: Arc<Outbox>, mut link: impl AsyncWrite + Unpin) -> LinkEnd {
     let mut text = Vec::new();
     loop {
         outbox.take(&mut text).await;
@@ -84,22 +100,22 @@ pub async fn send(outbox: &Outbox, mut link: impl AsyncWrite + Unpin) -> LinkEnd
 }
 
 /// Takes what comes from a party over a link. Frames are all that the child gets of it.
-pub struct Receiver<'a> {
+pub struct Receiver {
     lane: Arc<Lane>,
     traffic: Arc<Traffic>,
-    outbox: &'a Outbox,
+    outbox: Arc<Outbox>,
     longest: usize,
     frames_came: u64,
     frames_told: u64,
     bytes_untold: usize,
 }
 
-impl Receiver<'_> {
-    pub fn new<'a>(node: &Node, party: Party, outbox: &'a Outbox) -> Receiver<'a> {
+impl Receiver {
+    pub fn new(node: &Node, party: Party, outbox: &Arc<Outbox>) -> Receiver {
         Receiver {
             lane: node.lane_of(party),
             traffic: node.traffic_of(party),
-            outbox,
+            outbox: outbox.clone(),
             longest: if party.is_replica() { LONGEST } else { LONGEST_OF_CLIENT },
             frames_came: 0,
             frames_told: 0,
@@ -108,7 +124,7 @@ impl Receiver<'_> {
     }
 
     /// Takes records until the link ends. While the child is full, nothing is read.
-    pub async fn receive(mut self, link: impl AsyncRead + Unpin) -> LinkEnd {
+    async fn receive(mut self, link: impl AsyncRead + Unpin) -> LinkEnd {
         match self.take_all(link).await {
             Ok(never) => match never {},
             Err(end) => end,
@@ -117,20 +133,38 @@ impl Receiver<'_> {
 
     async fn take_all(&mut self, mut link: impl AsyncRead + Unpin) -> Result<Infallible, LinkEnd> {
         let mut records = Records::new(self.longest);
+        // A timer for each read would cost more than what it watches.
+        let mut silence = pin!(sleep(SILENCE));
+        let mut is_silent = true;
         loop {
-            let read = timeout(SILENCE, link.read(records.room())).await;
-            let count = read.map_err(|_| LinkEnd::Silent)??;
-            if count == 0 {
-                return Err(LinkEnd::Closed);
+            tokio::select! {
+                biased;
+                read = link.read(records.room()) => match read? {
+                    0 => return Err(LinkEnd::Closed),
+                    count => records.came(count),
+                },
+                _ = &mut silence => {
+                    if is_silent {
+                        return Err(LinkEnd::Silent);
+                    }
+                    is_silent = true;
+                    silence.as_mut().reset(Instant::now() + SILENCE);
+                    continue;
+                }
             }
-            records.came(count);
-            let mut has_asked = false;
-            while let Some(record) = records.next()? {
-                has_asked |= record.kind == QUESTION;
-                self.take(&record).await;
-            }
-            self.acknowledge(has_asked);
+            is_silent = false;
+            self.take_records(&mut records).await?;
         }
+    }
+
+    async fn take_records(&mut self, records: &mut Records) -> Result<(), WrongLength> {
+        let mut has_asked = false;
+        while let Some(record) = records.next()? {
+            has_asked |= record.kind == QUESTION;
+            self.take(&record).await;
+        }
+        self.acknowledge(has_asked);
+        Ok(())
     }
 
     async fn take(&mut self, record: &Record<'_>) {
@@ -169,10 +203,7 @@ mod tests {
         let node = Node::of_client();
         let outbox = Outbox::of_accepted(&node.budget, node.traffic_of(party));
         let end = Receiver::new(&node, party, &outbox).receive(bytes).await;
-        let (mut child, mut peer) = (Vec::new(), Vec::new());
-        node.intake.take(&mut child);
-        outbox.put_next(&mut peer);
-        (end.to_string(), child, peer)
+        (end.to_string(), node.intake.next(), outbox.next())
     }
 
     #[tokio::test(flavor = "current_thread")]

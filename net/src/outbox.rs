@@ -1,9 +1,9 @@
 //! What waits for a peer. It never blocks who puts something in: what has no room is dropped, the oldest first.
 
 use std::collections::VecDeque;
+use std::future::poll_fn;
 use std::sync::{Arc, Mutex, MutexGuard, Weak};
-
-use tokio::sync::Notify;
+use std::task::{Context, Poll, Waker};
 
 use crate::counter::Counter;
 use crate::record::{put_record, ACKNOWLEDGED, QUESTION};
@@ -43,12 +43,16 @@ impl Budget {
         self.used.get()
     }
 
-    /// Makes room for so many bytes: the peer for which most waits loses its oldest records.
-    fn make_room(&self, count: usize) {
-        while self.used() as usize + count > self.limit {
+    fn has_no_room(&self) -> bool {
+        self.used() as usize > self.limit
+    }
+
+    /// Takes back what is above the limit: the peer for which most waits loses its oldest records.
+    fn make_room(&self) {
+        while self.has_no_room() {
             let outboxes = self.outboxes.lock().unwrap();
             let fullest = outboxes.iter().filter_map(Weak::upgrade).max_by_key(|it| it.waiting().bytes);
-            if !fullest.map_or(false, |it| it.drop_oldest()) {
+            if !fullest.map_or(false, |it| it.drop_oldest(&mut it.waiting())) {
                 return;
             }
         }
@@ -70,6 +74,8 @@ struct Waiting {
     /// How many frames came, if the peer is to be told, and whether it is to be asked for that.
     acknowledgement: Option<u64>,
     has_question: bool,
+    /// Wakes the task that writes, if it waits for something to write.
+    writer: Option<Waker>,
 }
 
 impl Waiting {
@@ -82,6 +88,16 @@ impl Waiting {
         self.bytes -= oldest.len();
         Some(oldest)
     }
+
+    fn has_no_room(&self) -> bool {
+        self.bytes > self.room
+    }
+
+    fn wake_writer(&mut self) {
+        if let Some(writer) = self.writer.take() {
+            writer.wake();
+        }
+    }
 }
 
 /// What waits for one link or one peer.
@@ -89,7 +105,6 @@ pub struct Outbox {
     waiting: Mutex<Waiting>,
     /// Whether what was written is kept until the peer acknowledges it.
     keeps_written: bool,
-    is_due: Notify,
     budget: Arc<Budget>,
     traffic: Arc<Traffic>,
 }
@@ -107,8 +122,7 @@ impl Outbox {
 
     fn new(budget: &Arc<Budget>, traffic: Arc<Traffic>, room: usize, keeps_written: bool) -> Arc<Outbox> {
         let waiting = Mutex::new(Waiting::with_room(room));
-        let outbox =
-            Arc::new(Outbox { waiting, keeps_written, is_due: Notify::new(), budget: budget.clone(), traffic });
+        let outbox = Arc::new(Outbox { waiting, keeps_written, budget: budget.clone(), traffic });
         let mut outboxes = budget.outboxes.lock().unwrap();
         outboxes.retain(|it| it.strong_count() > 0);
         outboxes.push(Arc::downgrade(&outbox));
@@ -121,23 +135,20 @@ impl Outbox {
 
     /// Adds a record. The oldest ones are dropped if there is no room.
     pub fn put(&self, record: &Shared) {
-        while self.has_no_room(record.len()) && self.drop_oldest() {}
-        self.budget.make_room(record.len());
         let mut waiting = self.waiting();
-        waiting.unwritten.push_back(record.clone());
         waiting.bytes += record.len();
         self.budget.used.add(record.len() as u64);
-        self.is_due.notify_one();
-    }
-
-    fn has_no_room(&self, count: usize) -> bool {
-        let waiting = self.waiting();
-        waiting.bytes + count > waiting.room
+        while waiting.has_no_room() && self.drop_oldest(&mut waiting) {}
+        waiting.unwritten.push_back(record.clone());
+        waiting.wake_writer();
+        drop(waiting);
+        if self.budget.has_no_room() {
+            self.budget.make_room();
+        }
     }
 
     /// Drops the oldest record, and gives whether there was one.
-    fn drop_oldest(&self) -> bool {
-        let mut waiting = self.waiting();
+    fn drop_oldest(&self, waiting: &mut Waiting) -> bool {
         let is_written = !waiting.written.is_empty();
         let Some(oldest) = waiting.pop_oldest() else {
             return false;
@@ -155,13 +166,13 @@ impl Outbox {
         let mut again = std::mem::take(&mut waiting.written);
         again.append(&mut waiting.unwritten);
         *waiting = Waiting { bytes: waiting.bytes, unwritten: again, ..Waiting::with_room(ROOM) };
-        self.is_due.notify_one();
     }
 
     /// The link ended. Little is kept until the next one begins.
     pub fn end_link(&self) {
-        self.waiting().room = ROOM_UNLINKED;
-        while self.has_no_room(0) && self.drop_oldest() {}
+        let mut waiting = self.waiting();
+        waiting.room = ROOM_UNLINKED;
+        while waiting.has_no_room() && self.drop_oldest(&mut waiting) {}
     }
 
     /// The peer tells that so many records came over this link. It can't acknowledge what wasn't written.
@@ -185,14 +196,16 @@ impl Outbox {
 
     /// Tells the peer how many records came.
     pub fn acknowledge(&self, count: u64) {
-        self.waiting().acknowledgement = Some(count);
-        self.is_due.notify_one();
+        let mut waiting = self.waiting();
+        waiting.acknowledgement = Some(count);
+        waiting.wake_writer();
     }
 
     /// Asks the peer how many records came.
     pub fn ask(&self) {
-        self.waiting().has_question = true;
-        self.is_due.notify_one();
+        let mut waiting = self.waiting();
+        waiting.has_question = true;
+        waiting.wake_writer();
     }
 
     /// The bytes that wait, and those that aren't acknowledged.
@@ -201,21 +214,32 @@ impl Outbox {
         self.waiting().bytes
     }
 
+    /// What would be written next.
+    #[cfg(test)]
+    pub fn next(&self) -> Vec<u8> {
+        let mut text = Vec::new();
+        self.put_next(&mut self.waiting(), &mut text);
+        text
+    }
+
     /// Waits until something is to be written, and puts it in place of the text: all that fits into one piece.
     pub async fn take(&self, text: &mut Vec<u8>) {
         text.clear();
         text.shrink_to(2 * PIECE);
-        loop {
-            self.put_next(text);
-            if !text.is_empty() {
-                return;
-            }
-            self.is_due.notified().await;
-        }
+        poll_fn(|context| self.poll_next(text, context)).await;
     }
 
-    pub(crate) fn put_next(&self, text: &mut Vec<u8>) {
+    fn poll_next(&self, text: &mut Vec<u8>, context: &mut Context<'_>) -> Poll<()> {
         let mut waiting = self.waiting();
+        self.put_next(&mut waiting, text);
+        if text.is_empty() {
+            waiting.writer = Some(context.waker().clone());
+            return Poll::Pending;
+        }
+        Poll::Ready(())
+    }
+
+    fn put_next(&self, waiting: &mut Waiting, text: &mut Vec<u8>) {
         if let Some(count) = waiting.acknowledgement.take() {
             put_record(ACKNOWLEDGED, &[&count.to_be_bytes()], text);
         }
@@ -230,7 +254,7 @@ impl Outbox {
             }
             text.extend_from_slice(&record);
             count += 1;
-            self.keep_or_forget(&mut waiting, record);
+            self.keep_or_forget(waiting, record);
         }
         waiting.count_written += count;
         self.traffic.sent(count, text.len());
@@ -261,13 +285,6 @@ mod tests {
         Outbox::of_dialled(budget, Arc::new(Traffic::default()))
     }
 
-    /// What would be written next.
-    fn next(outbox: &Outbox) -> Vec<u8> {
-        let mut text = Vec::new();
-        outbox.put_next(&mut text);
-        text
-    }
-
     fn put(outbox: &Outbox, text: &[u8]) {
         outbox.put(&Shared::from(text));
     }
@@ -278,8 +295,8 @@ mod tests {
         put(&outbox, b"ab");
         put(&outbox, b"c");
         outbox.acknowledge(7);
-        assert_eq!(next(&outbox), b"\0\0\0\x09\x02\0\0\0\0\0\0\0\x07abc");
-        assert_eq!(next(&outbox), b"");
+        assert_eq!(outbox.next(), b"\0\0\0\x09\x02\0\0\0\0\0\0\0\x07abc");
+        assert_eq!(outbox.next(), b"");
     }
 
     #[test]
@@ -290,13 +307,13 @@ mod tests {
         for text in [b"a", b"b", b"c"] {
             put(&outbox, text);
         }
-        assert_eq!(next(&outbox), b"abc");
+        assert_eq!(outbox.next(), b"abc");
         outbox.acknowledged(1);
         assert!(!outbox.is_settled());
         put(&outbox, b"d");
         outbox.end_link();
         outbox.begin_link();
-        assert_eq!(next(&outbox), b"bcd");
+        assert_eq!(outbox.next(), b"bcd");
         outbox.acknowledged(9);
         assert!(outbox.is_settled());
         assert_eq!((outbox.bytes(), budget.used()), (0, 0));
@@ -313,8 +330,8 @@ mod tests {
         put(&outbox, b"c");
         assert_eq!(outbox.bytes(), ROOM_UNLINKED);
         outbox.begin_link();
-        assert_eq!(next(&outbox).len(), long.len());
-        assert_eq!(next(&outbox), b"c");
+        assert_eq!(outbox.next().len(), long.len());
+        assert_eq!(outbox.next(), b"c");
         // One record may be longer than the room.
         let longest = vec![7; ROOM + 1];
         put(&outbox, &longest);
@@ -331,10 +348,10 @@ mod tests {
             put(&first, text);
         }
         put(&second, b"dddd");
-        put(&second, b"ee");
-        assert_eq!((first.bytes(), second.bytes(), budget.used()), (4, 6, 10));
-        assert_eq!(next(&first), b"bbcc");
-        assert_eq!(next(&second), b"ddddee");
+        put(&second, b"e");
+        assert_eq!((first.bytes(), second.bytes(), budget.used()), (4, 5, 9));
+        assert_eq!(first.next(), b"bbcc");
+        assert_eq!(second.next(), b"dddde");
     }
 
     #[test]
@@ -342,7 +359,7 @@ mod tests {
         let budget = Budget::new(100);
         let outbox = Outbox::of_accepted(&budget, Arc::new(Traffic::default()));
         put(&outbox, b"ab");
-        assert_eq!(next(&outbox), b"ab");
+        assert_eq!(outbox.next(), b"ab");
         assert_eq!((outbox.bytes(), budget.used()), (0, 0));
     }
 }

@@ -18,7 +18,7 @@ use tokio::time::{sleep, timeout, Instant};
 
 use crate::accept::keep_meeting;
 use crate::child::{claim, leave_mark, mark_of, Program, Started};
-use crate::dial::keep_dialling;
+use crate::dial::{keep_asking, keep_dialling};
 use crate::hosts::{Address, Hosts};
 use crate::log::{event, Level};
 use crate::monitor::keep_answering;
@@ -106,6 +106,7 @@ pub async fn run(settings: &Settings) -> Result<u8, StartFault> {
     for replica in &node.replicas {
         spawn(keep_dialling(node.clone(), replica.clone()));
     }
+    spawn(keep_asking(node.clone()));
     let status = live(&node, started, stops).await;
     if node.records_of_child.get() == 0 {
         // A replica that did nothing may start again.

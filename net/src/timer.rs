@@ -72,11 +72,12 @@ mod tests {
     /// The number of which the child is told after so many milliseconds at most, if it is told of one.
     async fn told(intake: &Intake, milliseconds: u64) -> Option<u8> {
         let waiting = async {
-            let mut text = Vec::new();
-            while !intake.take(&mut text) {
+            loop {
+                if let [.., number] = *intake.next() {
+                    return number;
+                }
                 sleep(Duration::from_millis(1)).await;
             }
-            text[12]
         };
         timeout(Duration::from_millis(milliseconds), waiting).await.ok()
     }
