@@ -125,29 +125,36 @@ def disturb(cluster, load):
     load.go_on(CALLS, "afterwards")
 
 
-def noise(source, way):
-    """Bytes that a stranger sends to a replica's port."""
-    greeting = b"\0\0\0\3\0" + source.choice((0, 1, 2, 3, 256, 300, 600, 65535)).to_bytes(2, "big")
-    records = b""
+def greeting(source):
+    return b"\0\0\0\3\0" + source.choice((0, 1, 2, 3, 256, 300, 600, 65535)).to_bytes(2, "big")
+
+
+def noise_records(source):
+    """Records of each kind, with noise in them."""
     for _ in range(100):
         content = source.randbytes(source.randrange(400))
-        records += (1 + len(content)).to_bytes(4, "big") + source.choice(b"\0\1\2\3\x80").to_bytes(1, "big") + content
-    return {
-        "bytes": source.randbytes(70_000),
-        "records": greeting + records,
-        "longest": greeting + (4_194_305).to_bytes(4, "big") + b"\1" + bytes(4_194_304),
-        "promises": greeting + b"\xff\xff\xff\xff",
-        "silence": b"",
-    }[way]
+        yield (1 + len(content)).to_bytes(4, "big") + source.choice(b"\0\1\2\3\x80").to_bytes(1, "big") + content
+
+
+# What strangers send to a port.
+NOISE = {
+    "bytes": lambda source: source.randbytes(70_000),
+    "records": lambda source: greeting(source) + b"".join(noise_records(source)),
+    "longest": lambda source: greeting(source) + (4_194_305).to_bytes(4, "big") + b"\1" + bytes(4_194_304),
+    "promises": lambda source: greeting(source) + b"\xff\xff\xff\xff",
+    "silence": lambda source: b"",
+}
 
 
 def flood(ports, seed, way, is_over):
     """Sends noise again and again. One of the ways lets links stand open and sends nothing."""
     source, links = random.Random(f"{seed} {way}"), []
+    # Clients are threads beside this one, and are to be hindered by the noise alone.
+    texts = [NOISE[way](source) for _ in range(8)]
     while not is_over.is_set():
         try:
             link = socket.create_connection(("127.0.0.1", source.choice(ports)), 2)
-            link.sendall(noise(source, way))
+            link.sendall(source.choice(texts))
             if way == "silence":
                 links = links[-200:] + [link]
             else:
@@ -160,14 +167,15 @@ def flood(ports, seed, way, is_over):
 def floods(cluster, load):
     """Noise on each port, by six strangers at once: five ways on those of replicas, and one on those of metrics."""
     is_over, links, metrics = threading.Event(), cluster.ports[: cluster.count], cluster.ports[cluster.count :]
-    strangers = [(links, way) for way in ("bytes", "records", "longest", "promises", "silence")] + [(metrics, "bytes")]
+    strangers = [(links, way) for way in NOISE] + [(metrics, "bytes")]
     threads = [
         threading.Thread(target=flood, args=(ports, cluster.seed, way, is_over), daemon=True) for ports, way in strangers
     ]
     for it in threads:
         it.start()
     try:
-        load.go_on(5 * CALLS, "beside floods")
+        time.sleep(PAUSE)
+        load.go_on(CALLS, "beside floods")
     finally:
         is_over.set()
         for it in threads:
