@@ -60,11 +60,12 @@ async fn carry(node: &Node, peer: Party, stream: Box<dyn Stream>, from: SocketAd
     traffic.quota.event(level, "link.accepted", format_args!("peer={peer} address={from}"));
     // The dialler waits for a word.
     link.outbox.acknowledge(0);
-    let end = tokio::select! {
-        biased;
-        end = link::carry(Receiver::new(node, peer, &link.outbox), stream) => end,
-        _ = link.is_replaced.notified() => LinkEnd::Replaced,
+    let own = link.clone();
+    let replaced = async move {
+        own.is_replaced.notified().await;
+        LinkEnd::Replaced
     };
+    let end = link::carry(Receiver::new(node, peer, &link.outbox), stream, replaced).await;
     node.leave(peer, &link);
     let reason = end.to_string();
     traffic.quota.event(level, "link.left", format_args!("peer={peer} address={from} reason={reason:?}"));

@@ -1,5 +1,6 @@
 //! Links to replicas, which are dialled again and again.
 
+use std::future::pending;
 use std::sync::Arc;
 use std::time::Duration;
 
@@ -75,7 +76,7 @@ async fn carry(node: &Node, replica: &Replica, stream: Box<dyn Stream>) {
     replica.set_reached(true);
     traffic.link_begins();
     node.tell_links();
-    let end = link::carry(Receiver::new(node, peer, &replica.outbox), stream).await;
+    let end = link::carry(Receiver::new(node, peer, &replica.outbox), stream, pending()).await;
     replica.outbox.end_link();
     replica.set_reached(false);
     traffic.link_ends();

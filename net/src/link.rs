@@ -2,6 +2,7 @@
 
 use std::convert::Infallible;
 use std::fmt;
+use std::future::Future;
 use std::io;
 use std::pin::pin;
 use std::sync::Arc;
@@ -71,16 +72,21 @@ impl From<WrongLength> for LinkEnd {
     }
 }
 
-/// Carries what goes and comes over a link until one of both ends. The halves are tasks of their own, so that what comes
-/// wakes one alone.
-pub async fn carry(receiver: Receiver, stream: Box<dyn Stream>) -> LinkEnd {
+/// Carries what goes and comes over a link until one of both ends, or until it is told to end. What goes is a task of its
+/// own, so that a wake has one of both to look at.
+pub async fn carry(
+    receiver: Receiver,
+    stream: Box<dyn Stream>,
+    told_to_end: impl Future<Output = LinkEnd> + Send + 'static,
+) -> LinkEnd {
     let (reader, writer) = split(stream);
-    let mut sending = JoinSet::new();
-    sending.spawn(send(receiver.outbox.clone(), writer));
+    let mut others = JoinSet::new();
+    others.spawn(send(receiver.outbox.clone(), writer));
+    others.spawn(told_to_end);
     tokio::select! {
         biased;
         end = receiver.receive(reader) => end,
-        Some(Ok(end)) = sending.join_next() => end,
+        Some(Ok(end)) = others.join_next() => end,
     }
 }
 

@@ -1,5 +1,6 @@
 """The rows of net/test, which tools/test runs too: the unit tests, and each scenario."""
 
+import io
 import os
 import re
 import signal
@@ -76,9 +77,11 @@ def unit_tests(*_):
 
 
 def checker_tests(*_):
-    result = unittest.TextTestRunner(verbosity=0).run(unittest.defaultTestLoader.loadTestsFromModule(linear_test))
+    said = io.StringIO()
+    tests = unittest.defaultTestLoader.loadTestsFromModule(linear_test)
+    result = unittest.TextTestRunner(said).run(tests)
     if not result.wasSuccessful() or not result.testsRun:
-        raise Trouble("the checker's tests fail")
+        raise Trouble(said.getvalue())
     return f"{result.testsRun} passed"
 
 
