@@ -9,16 +9,14 @@ use std::process::Stdio;
 
 use tokio::process::{Child, ChildStdin, ChildStdout, Command};
 
-use crate::party::Party;
 use crate::pipe::{inherit, pipe, PipeEnd};
+use crate::run::Role;
 
 /// What to start.
 pub struct Program<'a> {
     pub btspace: &'a Path,
     pub keys: &'a Path,
-    pub party: Party,
-    /// Whether a client's lines come from us in place of our own standard input.
-    pub has_prompt: bool,
+    pub role: &'a Role,
 }
 
 /// A child that runs, and our ends of the pipes with its records.
@@ -35,12 +33,16 @@ impl Program<'_> {
         let (records_out, childs_output) = pipe()?;
         let mut command = Command::new(self.btspace);
         command.kill_on_drop(true);
-        if self.party.is_replica() {
-            command.arg("replica").arg(self.keys).stdin(Stdio::from(childs_input)).stdout(Stdio::from(childs_output));
-            // SAFETY: it is one system call, which may follow a fork.
-            unsafe { command.pre_exec(leave_our_group) };
-        } else {
-            self.start_client_with(&mut command, childs_input, childs_output);
+        match self.role {
+            Role::Replica { .. } => self.be_replica(&mut command, childs_input, childs_output),
+            Role::Client { above, has_prompt } => {
+                self.be_client(&mut command, childs_input, childs_output);
+                command.args(above.iter().flat_map(|it| ["--above".to_string(), it.to_string()]));
+                if *has_prompt {
+                    // Its lines come from us in place of our own standard input.
+                    command.stdin(Stdio::piped()).stdout(Stdio::piped());
+                }
+            }
         }
         let mut process = command.spawn()?;
         // The command has the child's ends, and closes ours of them.
@@ -49,13 +51,17 @@ impl Program<'_> {
         Ok(Started { process, records_in: PipeEnd::new(records_in)?, records_out: PipeEnd::new(records_out)?, lines })
     }
 
-    /// A client has its script and results at standard input and output, and opens its records by their paths.
-    fn start_client_with(&self, command: &mut Command, input: OwnedFd, output: OwnedFd) {
+    /// A replica has its records at standard input and output.
+    fn be_replica(&self, command: &mut Command, input: OwnedFd, output: OwnedFd) {
+        command.arg("replica").arg(self.keys).stdin(Stdio::from(input)).stdout(Stdio::from(output));
+        // SAFETY: it is one system call, which may follow a fork.
+        unsafe { command.pre_exec(leave_our_group) };
+    }
+
+    /// A client has its script and results there, and opens its records by their paths.
+    fn be_client(&self, command: &mut Command, input: OwnedFd, output: OwnedFd) {
         let (reads, writes) = (input.as_raw_fd(), output.as_raw_fd());
         command.arg("client").arg(self.keys).arg(format!("/dev/fd/{reads}")).arg(format!("/dev/fd/{writes}"));
-        if self.has_prompt {
-            command.stdin(Stdio::piped()).stdout(Stdio::piped());
-        }
         let keep_open = move || {
             // The closure has both, so that they live as long as the command.
             inherit(input.as_raw_fd())?;

@@ -72,7 +72,7 @@ impl std::error::Error for HostsFault {}
 impl Address {
     /// Whether nothing but this machine reaches it.
     fn is_loopback(&self) -> bool {
-        self.host == "localhost" || self.host.parse::<IpAddr>().map_or(false, |it| it.is_loopback())
+        self.host == "localhost" || self.host.parse::<IpAddr>().is_ok_and(|it| it.is_loopback())
     }
 }
 

@@ -48,9 +48,9 @@ use std::process::ExitCode;
 use clap::Parser;
 use tokio::runtime::{Builder, Runtime};
 
-use crate::hosts::{Address, Hosts};
+use crate::hosts::Hosts;
 use crate::log::Level;
-use crate::run::Settings;
+use crate::run::{Role, Settings};
 use crate::words::{Common, Request, Words};
 
 /// Statuses: a file or the party is refused; words are wrong; the carrier can't begin. `clap` has 2 as well.
@@ -61,8 +61,10 @@ const NOT_BEGUN: u8 = 3;
 fn main() -> ExitCode {
     end_with_any_task();
     let status = match Words::parse().request {
-        Request::Replica { listen, common } => carry(common, listen, true),
-        Request::Client { common } => carry(common, None, false),
+        Request::Replica { listen, common } => carry(common, Role::Replica { listen }),
+        Request::Client { above, common } => {
+            carry(common, Role::Client { above, has_prompt: std::io::stdin().is_terminal() })
+        }
         Request::Health { address } => tell_health(address),
     };
     ExitCode::from(status)
@@ -83,10 +85,10 @@ fn complain(status: u8, why: impl std::fmt::Display) -> u8 {
 }
 
 /// Carries the frames of a party until it ends.
-fn carry(common: Common, listen: Option<Address>, is_replica: bool) -> u8 {
+fn carry(common: Common, role: Role) -> u8 {
     // A client tells of links only if it is asked to.
-    let level = common.log.unwrap_or(if is_replica { Level::Info } else { Level::Warn });
-    let settings = match settings_of(common, listen, is_replica) {
+    let level = common.log.unwrap_or(if role.is_replica() { Level::Info } else { Level::Warn });
+    let settings = match settings_of(common, role) {
         Ok(settings) => settings,
         Err((status, why)) => return complain(status, why),
     };
@@ -99,10 +101,10 @@ fn carry(common: Common, listen: Option<Address>, is_replica: bool) -> u8 {
 }
 
 /// What the words and the file of hosts tell, or the status to end with, and why.
-fn settings_of(common: Common, listen: Option<Address>, is_replica: bool) -> Result<Settings, (u8, String)> {
+fn settings_of(common: Common, role: Role) -> Result<Settings, (u8, String)> {
     let party = common.party().map_err(|why| (WRONG_WORDS, why))?;
-    if party.is_replica() != is_replica {
-        let kind = if is_replica { "replica" } else { "client" };
+    if party.is_replica() != role.is_replica() {
+        let kind = if role.is_replica() { "replica" } else { "client" };
         return Err((WRONG_WORDS, format!("{party} is no {kind}")));
     }
     let Common { hosts: path, keys, btspace, metrics, .. } = common;
@@ -111,8 +113,7 @@ fn settings_of(common: Common, listen: Option<Address>, is_replica: bool) -> Res
     if !party.is_of(count) {
         return Err((REFUSED, format!("there is no {party} among {count} replicas")));
     }
-    let has_prompt = !is_replica && std::io::stdin().is_terminal();
-    Ok(Settings { party, hosts, btspace, keys, listen, metrics, has_prompt })
+    Ok(Settings { party, role, hosts, btspace, keys, metrics })
 }
 
 fn tell_health(address: SocketAddr) -> u8 {

@@ -52,7 +52,7 @@ impl Budget {
         while self.has_no_room() {
             let outboxes = self.outboxes.lock().unwrap();
             let fullest = outboxes.iter().filter_map(Weak::upgrade).max_by_key(|it| it.waiting().bytes);
-            if !fullest.map_or(false, |it| it.drop_oldest(&mut it.waiting())) {
+            if !fullest.is_some_and(|it| it.drop_oldest(&mut it.waiting())) {
                 return;
             }
         }

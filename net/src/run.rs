@@ -38,13 +38,31 @@ const KILLED: u8 = 3;
 /// What a carrier is told to do.
 pub struct Settings {
     pub party: Party,
+    pub role: Role,
     pub hosts: Hosts,
     pub btspace: PathBuf,
     pub keys: PathBuf,
-    /// Where a replica listens, if not where others dial it.
-    pub listen: Option<Address>,
     pub metrics: Option<SocketAddr>,
-    pub has_prompt: bool,
+}
+
+/// What the party is, and what is told of such a one alone.
+pub enum Role {
+    Replica {
+        /// Where it listens, if not where others dial it.
+        listen: Option<Address>,
+    },
+    Client {
+        /// The timestamp above which it begins, if not above those of the clock.
+        above: Option<u64>,
+        /// Whether a person types its lines.
+        has_prompt: bool,
+    },
+}
+
+impl Role {
+    pub fn is_replica(&self) -> bool {
+        matches!(self, Role::Replica { .. })
+    }
 }
 
 /// Why a carrier doesn't begin.
@@ -126,7 +144,7 @@ impl Settings {
 
     /// Leaves the mark of a replica, which starts once. A client may start again: its timestamps tell its lives apart.
     fn leave_mark(&self) -> Result<(), StartFault> {
-        if !self.party.is_replica() {
+        if !self.role.is_replica() {
             return Ok(());
         }
         leave_mark(&self.keys).map_err(|error| match error.kind() {
@@ -137,18 +155,18 @@ impl Settings {
 
     /// Takes the mark that was left.
     fn take_mark(&self) {
-        if self.party.is_replica() {
+        if self.role.is_replica() {
             let _ = std::fs::remove_file(mark_of(&self.keys));
         }
     }
 }
 
 async fn listen_for_links(settings: &Settings) -> Result<Option<TcpListener>, StartFault> {
-    if !settings.party.is_replica() {
+    let Role::Replica { listen: given } = &settings.role else {
         return Ok(None);
-    }
+    };
     let own = &settings.hosts.replicas[usize::from(settings.party.0)];
-    let address = settings.listen.as_ref().unwrap_or(own).to_string();
+    let address = given.as_ref().unwrap_or(own).to_string();
     let listener = listen(&address).await?;
     event(Level::Info, "listens", format_args!("address={address}"));
     Ok(Some(listener))
@@ -159,9 +177,9 @@ async fn listen(address: &str) -> Result<TcpListener, StartFault> {
 }
 
 fn start_child(settings: &Settings) -> Result<Started, StartFault> {
-    let Settings { btspace, keys, party, has_prompt, .. } = settings;
+    let Settings { btspace, keys, role, .. } = settings;
     settings.leave_mark()?;
-    let program = Program { btspace, keys, party: *party, has_prompt: *has_prompt };
+    let program = Program { btspace, keys, role };
     program.start().map_err(|error| {
         settings.take_mark();
         StartFault::Program(btspace.clone(), error)
@@ -197,11 +215,10 @@ async fn live(node: &Arc<Node>, started: Started, mut stops: Stops) -> u8 {
     let of_timer = node.clone();
     spawn(async move { of_timer.timer.run(&of_timer.intake).await });
     let talking = async {
-        match lines {
-            // Once a person's lines end, so do the child's.
-            Some(lines) => prompt::converse(node.clone(), lines).await.unwrap_or_default(),
-            None => {}
+        if let Some(lines) = lines {
+            prompt::converse(node.clone(), lines).await.unwrap_or_default();
         }
+        // Once a person's lines end, so do the child's, and then it ends.
         pending::<()>().await
     };
     let is_stopped = tokio::select! {

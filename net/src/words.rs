@@ -32,6 +32,9 @@ pub enum Request {
     },
     /// Run a client: script lines at standard input, a result line for each at standard output
     Client {
+        /// Begin above this timestamp, if the clock was set back since the client's last life
+        #[arg(long, value_name = "TIMESTAMP")]
+        above: Option<u64>,
         #[command(flatten)]
         common: Common,
     },
