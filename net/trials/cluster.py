@@ -22,8 +22,8 @@ from space import ANY, INT, cas, inp, out, rd_all, rdp
 HERE = Path(__file__).resolve().parent
 FIRST_CLIENT = 256
 # No process takes longer to begin, to answer after a fault, or to end, in seconds. A primary that is gone costs a timer of
-# two seconds, the next one four; a machine at work takes several times as long.
-BOUND = 60
+# two seconds, the next one four, and so on; a machine at work takes several times as long.
+BOUND = 120
 
 
 class Trouble(Exception):
