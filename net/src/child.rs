@@ -33,6 +33,8 @@ impl Program<'_> {
         let (records_out, childs_output) = pipe()?;
         let mut command = Command::new(self.btspace);
         command.kill_on_drop(true);
+        // SAFETY: it is one system call, which may follow a fork.
+        unsafe { command.pre_exec(leave_our_group) };
         match self.role {
             Role::Replica { .. } => self.be_replica(&mut command, childs_input, childs_output),
             Role::Client { above, has_prompt } => {
@@ -54,8 +56,6 @@ impl Program<'_> {
     /// A replica has its records at standard input and output.
     fn be_replica(&self, command: &mut Command, input: OwnedFd, output: OwnedFd) {
         command.arg("replica").arg(self.keys).stdin(Stdio::from(input)).stdout(Stdio::from(output));
-        // SAFETY: it is one system call, which may follow a fork.
-        unsafe { command.pre_exec(leave_our_group) };
     }
 
     /// A client has its script and results there, and opens its records by their paths.

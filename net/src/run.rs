@@ -234,7 +234,8 @@ async fn live(node: &Arc<Node>, started: Started, mut stops: Stops) -> u8 {
     feeding.abort();
     if is_stopped && !node.me.is_replica() {
         // It may wait for a line, and nothing of it is to go out.
-        let _ = process.start_kill();
+        let _ = process.kill().await;
+        return KILLED;
     }
     let status = end_child(&mut process, routing).await;
     if is_stopped {

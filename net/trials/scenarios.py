@@ -192,15 +192,16 @@ def go_on_beside_liar(cluster, load):
 
 
 def kill_a_client(cluster, load):
-    """A client dies in a call. Nobody knows whether that one acted. The others go on, and it does so in a new life. Two lives
-    at once are refused."""
+    """A client dies in a call. Nobody knows whether that one acted. The others go on, and it does so in two new lives, of which
+    the last is told where to begin. Two lives at once are refused."""
     second = cluster.client(1)
     if second.process.begun.wait(BOUND) != 3 or "is at work" not in second.process.said():
         raise Trouble(f"c1 started twice: {second.process.said()}")
-    for place in (0, -1):
+    above = time.time_ns() // 1_000_000 + 3_600_000 << 20
+    for place, words in ((0, ()), (-1, ("--above", str(above)))):
         load.kill(place)
         load.go_on(CALLS, "without a client")
-        load.add(cluster.client(0))
+        load.add(cluster.client(0, *words))
         load.go_on(CALLS, "in a new life")
 
 
