@@ -51,7 +51,7 @@ def fault_of_try(page, program):
 
 def all_rows(programs):
     yield Row("net/build", lambda: carrier()[1])
-    for it in rows.all_rows():
+    for it in rows.all_rows(with_long=False):
         yield Row(f"net/test: {it.name}", lambda it=it: fault_of(it, programs.whole))
     for page in PAGES:
         yield Row(f"net/try, as {page} has it", lambda page=page: fault_of_try(page, programs.whole))

@@ -26,12 +26,13 @@ PAUSE = 3
 
 
 class Scenario(NamedTuple):
-    """Its name, what it does, and how its cluster is made."""
+    """Its name, what it does, how its cluster is made, and whether it may take minutes: then the gate leaves it out."""
 
     name: str
     act: Callable
     made: dict = {}
     clients: int = 3
+    is_long: bool = False
 
 
 def judge(histories, wanted=LINEAR):
@@ -255,7 +256,9 @@ SCENARIOS = (
     Scenario("seven replicas and three clients", nothing, {"faults": 2}),
     Scenario("kill -9 of a backup", kill(2)),
     Scenario("kill -9 of the primary", kill(0)),
-    Scenario("kill -9 of the primary and of the next one, of seven", kill(0, 1), {"faults": 2}),
+    Scenario("kill -9 of the primary and of a backup, of seven", kill(0, 2), {"faults": 2}),
+    # README.md of net says what makes it long.
+    Scenario("kill -9 of the primary and of the next one, of seven", kill(0, 1), {"faults": 2}, is_long=True),
     Scenario("a backup stands still for seconds, and is needed then", pause(1)),
     Scenario("the primary stands still for seconds, and is needed then", pause(0)),
     Scenario("the link of the primary to a backup is cut and healed, and the primary dies", cut_one_link, THROUGH),
