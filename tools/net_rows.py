@@ -1,5 +1,5 @@
-"""The rows of tools/test about the carrier of net/: that it builds, its unit tests, what net/test does to real processes, and
-net/try as the pages have it.
+"""The rows of tools/test about the carrier of net/: that it builds, its unit tests, what net/test does to real
+processes, and net/try as the pages have it.
 
 Nothing of it listens beyond loopback. What it needs is installed; where it can't be, the row of the build fails.
 """

@@ -70,7 +70,8 @@ def client_of(btspace):
 
 
 def unit_tests(*_):
-    passed = sum(map(int, re.findall(r"^test result: ok\. (\d+) passed", told([NET / "build", "--test"]), re.MULTILINE)))
+    results = re.findall(r"^test result: ok\. (\d+) passed", told([NET / "build", "--test"]), re.MULTILINE)
+    passed = sum(map(int, results))
     if not passed:
         raise Trouble("cargo ran no test")
     return f"{passed} passed"
