@@ -18,8 +18,9 @@ manual = tool("manual")
 # Words that ./btspace answers before anything is built.
 QUICK = (
     "", "--help", "-h", "--version", "-V", "help", "help local", "help run", "help schedule", "help keys", "help replica",
-    "help show", "local --help", "run --help", "schedule --help", "keys --help", "replica --help", "show --help", "nope",
-    "help nope", "--nope", "-q", "local", "run one", "local --space 3 one", "schedule --trace --trace one", "show one two",
+    "help client", "help show", "local --help", "run --help", "schedule --help", "keys --help", "replica --help",
+    "client --help", "show --help", "nope", "help nope", "--nope", "-q", "local", "run one", "client one two",
+    "local --space 3 one", "schedule --trace --trace one", "show one two",
 )
 # An answer at once takes less, in seconds, on a slow machine too.
 AT_ONCE = 5

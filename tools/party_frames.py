@@ -6,7 +6,7 @@ from hashlib import sha256
 import party_files
 from party_files import FIRST_CLIENT, be, mac
 
-REQUEST, PRE_PREPARE, VIEW_CHANGE, REPLY, FETCH = 0x41, 0x42, 0x46, 0x48, 0x49
+REQUEST, PRE_PREPARE, VIEW_CHANGE, NEW_VIEW, REPLY, FETCH, PAGE = 0x41, 0x42, 0x46, 0x47, 0x48, 0x49, 0x4B
 ORDERED, READ_ONLY = 0, 1
 # The kinds of records, those that a process reads and those that it writes.
 FRAME, TIMER, LINKS = 1, 2, 3

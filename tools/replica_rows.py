@@ -4,6 +4,7 @@ joined by pipes.
 What has to come stands in docs/formats.md, and is computed here by Python's hmac and hashlib.
 """
 
+import contextlib
 import os
 import queue
 import subprocess
@@ -11,11 +12,12 @@ import tempfile
 import threading
 from functools import cache
 from pathlib import Path
+from time import monotonic as time_now
 
 import party_files
-from party_frames import FETCH, FRAME, ORDERED, PRE_PREPARE, READ_ONLY, VIEW_CHANGE, Party, came, first_record, first_root
-from party_frames import goes, linked, long, piece, record, sent, timer_begins, timer_over
-from processes import LONGEST, Row, end_group, run, shown
+from party_frames import FETCH, FRAME, NEW_VIEW, ORDERED, PAGE, PRE_PREPARE, READ_ONLY, TIMER, VIEW_CHANGE, Party, came
+from party_frames import first_record, first_root, goes, linked, long, piece, record, sent, timer_begins, timer_over
+from processes import LONGEST, Row, bounded, end_group, run, shown
 
 SEED = bytes(range(32))
 REPLICAS = range(4)
@@ -42,11 +44,11 @@ def first_request():
     return party("c0").request(REPLICAS, 1, ORDERED, OUT)
 
 
-def with_files(test):
-    """Runs a test in a folder that has the files."""
+def with_files(test, period=16):
+    """Runs a test in a folder that has the files, with this period."""
     with tempfile.TemporaryDirectory() as folder:
         for name, text in files().items():
-            (Path(folder) / name).write_text(text)
+            (Path(folder) / name).write_text(text.replace("checkpoint = 16", f"checkpoint = {period}"))
         return test(Path(folder))
 
 
@@ -58,6 +60,25 @@ def fault_of_input(program, name, given, wanted):
         return None if ended == (0, wanted, b"") else f"wanted {shown(wanted)}, got {ended.as_text()}"
 
     return with_files(test)
+
+
+def write_pieces(place, pieces):
+    """Writes them one by one. A reader that ends before has its reason."""
+    with contextlib.suppress(BrokenPipeError), open(place, "wb", buffering=0) as pipe:
+        for it in pieces:
+            pipe.write(it)
+
+
+def run_over(words, room, pieces):
+    """Runs a program over pieces, which are written one by one."""
+    reader, writer = os.pipe()
+    writing = threading.Thread(target=write_pieces, args=(writer, pieces))
+    writing.start()
+    try:
+        return run(words, room, None, stdin=reader)
+    finally:
+        os.close(reader)
+        writing.join()
 
 
 def told_nothing():
@@ -113,6 +134,37 @@ def inputs():
         "too few links to suspect it", "r1", (linked(1), request, timer_over(1), linked(2), timer_over(1), timer_over(2)),
         (timer_begins(1, FIRST), timer_begins(2, FIRST), suspected(), timer_begins(3, 2 * FIRST)),
     )
+
+
+# ---- floods
+
+# So many of each of the longest records are more than the process has of addresses, in kilobytes.
+FLOOD, ADDRESSES = 8, 12_000
+
+
+def floods():
+    """The longest records of all kinds that are read, of two that aren't, and a frame that is too long by a byte."""
+    longest = bytes(4_194_304)
+    return *(record(it, longest) for it in (1, 2, 3, 4, 0x80)), record(1, longest + b"\0")
+
+
+def poured(last):
+    """Each record of the flood so many times, and then the last one."""
+    for it in floods():
+        yield from [it] * FLOOD
+    yield last
+
+
+def fault_of_flood(program):
+    """A flood costs no memory and changes nothing."""
+
+    def test(room):
+        words = bounded([program, "replica", "r0.toml"], ADDRESSES)
+        ended = run_over(words, room, poured(came(first_request())))
+        wanted = numbered() + timer_begins(1, FIRST)
+        return None if ended == (0, wanted, b"") else f"wanted {shown(wanted)}, got {ended.as_text()}"
+
+    return with_files(test)
 
 
 # ---- files that no replica has
@@ -222,8 +274,11 @@ class Process:
         said = self.begun.stderr.read()
         if (status, said) != (0, b""):
             return f"replica {self.number} ended with {status}: {shown(said)}"
-        again = run(self.words, self.room, b"".join(self.given))
-        return None if again == (0, self.written, b"") else f"replica {self.number} wrote other bytes when it ran again"
+        given = b"".join(self.given)
+        for pieces in ((given,), (given[at : at + 1] for at in range(len(given)))):
+            if run_over(self.words, self.room, pieces) != (0, self.written, b""):
+                return f"replica {self.number} wrote other bytes when it ran again"
+        return None
 
     def end(self):
         end_group(self.begun)
@@ -233,44 +288,125 @@ class Process:
             stream.close()
 
 
-def replies(processes, told, frame):
-    """Gives a client's frame to all, carries the frames between them, and returns the first one that each sends the
-    client."""
-    found = {}
-    for it in processes:
-        it.give(came(frame))
-    while len(found) < len(processes):
-        number, kind, content = told.get(timeout=LONGEST)
+class Four:
+    """Four processes, and the frames between them: none goes to a replica that is away or comes from it. No timer is
+    over but the first one of each, where that is said."""
+
+    def __init__(self):
+        self.told, self.processes = queue.Queue(), []
+        # What each sent, as pairs of its number and a frame's type.
+        self.away, self.are_first_over, self.sorts = set(), False, set()
+
+    def begin(self, program, room):
+        self.processes += (Process(program, room, it, self.told) for it in REPLICAS)
+
+    def present(self):
+        return [it for it in self.processes if it.number not in self.away]
+
+    def replies(self, frame):
+        """Gives a client's frame to all that are there, and returns the first one that each sends the client."""
+        for it in self.present():
+            it.give(came(frame))
+        found = {}
+        while len(found) < len(self.present()):
+            self.carry(found, LONGEST)
+        return found
+
+    def carry(self, found, seconds):
+        """Takes the next record that any of them wrote. Of the frames for the client each replica's first is kept."""
+        number, kind, content = self.told.get(timeout=seconds)
+        if number in self.away:
+            return
+        if kind == TIMER and self.are_first_over and content[:8] == long(1):
+            self.processes[number].give(timer_over(1))
         receivers, frame = sent(content) if kind == FRAME else ([], b"")
+        self.sorts |= {(number, frame[4])} if frame else set()
         for receiver in receivers:
             if receiver == CLIENT:
                 found.setdefault(number, frame)
-            else:
-                processes[receiver].give(came(frame))
-    return found
+            elif receiver not in self.away:
+                self.processes[receiver].give(came(frame))
+
+    def fault(self):
+        return next((why for why in (it.fault() for it in self.processes) if why), None)
+
+    def end(self):
+        for it in self.processes:
+            it.end()
 
 
-def fault_of_four(program):
-    """Four processes answer an `out` and a `rdp`, and each answer is that of its own replica."""
+def fault_of_replies(found, time, mode, number, answer):
+    """Each answer is that of its own replica."""
+    wanted = {it: party(f"r{it}").reply(CLIENT, time, mode, number, answer) for it in found}
+    others = [it for it in found if found[it] != wanted[it]]
+    return f"at time {time} replicas {others} replied otherwise" if others else None
 
-    def test(room):
-        told, processes = queue.Queue(), []
+
+def with_four(program, test, period=16):
+    """Runs a test of four processes. Then each has to write the same bytes again for what it read, byte by byte too."""
+
+    def test_in(room):
+        four = Four()
         try:
-            processes += (Process(program, room, it, told) for it in REPLICAS)
-            for mode, operation, answer in ((ORDERED, OUT, DONE), (READ_ONLY, RDP, FOUND)):
-                time = 1 + mode
-                found = replies(processes, told, party("c0").request(REPLICAS, time, mode, operation))
-                wanted = {it: party(f"r{it}").reply(CLIENT, time, mode, 1, answer) for it in REPLICAS}
-                if found != wanted:
-                    return f"at time {time} replicas {[it for it in REPLICAS if found[it] != wanted[it]]} replied otherwise"
-            return next((why for why in (it.fault() for it in processes) if why), None)
+            four.begin(program, room)
+            return test(four) or four.fault()
         except queue.Empty:
             return "no reply comes"
         finally:
-            for it in processes:
-                it.end()
+            four.end()
 
-    return with_files(test)
+    return with_files(test_in, period)
+
+
+def fault_of_four(program):
+    """Four processes answer an `out` and a `rdp`."""
+
+    def test(four):
+        for mode, operation, answer in ((ORDERED, OUT, DONE), (READ_ONLY, RDP, FOUND)):
+            found = four.replies(party("c0").request(REPLICAS, 1 + mode, mode, operation))
+            if why := fault_of_replies(found, 1 + mode, mode, 1, answer):
+                return why
+        return None
+
+    return with_four(program, test)
+
+
+def fault_of_view_change(program):
+    """The primary is away, and the others begin view 1 without it."""
+
+    def test(four):
+        four.away, four.are_first_over = {0}, True
+        found = four.replies(first_request())
+        lacks = {(1, VIEW_CHANGE), (2, VIEW_CHANGE), (3, VIEW_CHANGE), (1, NEW_VIEW)} - four.sorts
+        return f"no frames {lacks}" if lacks else fault_of_replies(found, 1, ORDERED, 1, DONE)
+
+    return with_four(program, test)
+
+
+def fault_of_transfer(program):
+    """A replica that was away for two batches fetches the state of the third one, and then has the reply to that."""
+
+    def test(four):
+        client = party("c0")
+        four.away = {3}
+        for time in (1, 2):
+            four.replies(client.request(REPLICAS, time, ORDERED, OUT))
+        four.away, found, last = set(), {}, client.request(REPLICAS, 3, ORDERED, OUT)
+        for it in four.processes[:3]:
+            it.give(came(last))
+        end = time_now() + LONGEST
+        while 3 not in found:
+            if time_now() > end:
+                return "replica 3 never replies"
+            try:
+                four.carry(found, 0.2)
+            except queue.Empty:
+                # It has the reply with the state, and gives it when the request comes.
+                four.processes[3].give(came(last))
+        lacks = {FETCH, PAGE} - {sort for _, sort in four.sorts}
+        return f"no frames {lacks}" if lacks else fault_of_replies(found, 3, ORDERED, 3, DONE)
+
+    return with_four(program, test, period=1)
 
 
 def all_rows(programs):
@@ -278,6 +414,7 @@ def all_rows(programs):
     for about, name, given, wanted in inputs():
         row = f"{about}: btspace replica {name}.toml"
         yield Row(row, lambda it=name, x=b"".join(given), y=b"".join(wanted): fault_of_input(program, it, x, y))
+    yield Row("a flood of the longest records: btspace replica", lambda: fault_of_flood(program))
     for about, text, said in wrong_files():
         yield Row(f"{about}: btspace replica", lambda it=text, why=said: fault_of_file(program, "file", it, 1, why))
     for words, why in (("nothing", NOT_THERE), ("-", "the standard input is read for the records")):
@@ -287,3 +424,5 @@ def all_rows(programs):
     yield Row("nobody reads the output: btspace replica", lambda: fault_of_unread(program))
     yield Row("the input can't be read: btspace replica", lambda: fault_of_unreadable(program))
     yield Row("four processes that are joined by pipes: btspace replica", lambda: fault_of_four(program))
+    yield Row("a view change, and its inputs again: btspace replica", lambda: fault_of_view_change(program))
+    yield Row("a transfer, and its inputs again: btspace replica", lambda: fault_of_transfer(program))

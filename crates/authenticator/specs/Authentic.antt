@@ -12,6 +12,7 @@ use Rattle.authenticator.specs.Mac.{hmac_of}
 abbrev pub mac_of : Keys → ℕ → BodyData → List ℕ
 mac_of keys party body = mac_between keys body.sender party (body_spelling body)
 
+-- The entry of an authenticator is for the party, and holds this MAC.
 abbrev pub is_mac_for : ℕ → List ℕ → MacData → Bool
 is_mac_for party mac entry = (entry.receiver == party) && bytes_eq entry.mac mac
 

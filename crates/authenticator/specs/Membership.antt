@@ -16,9 +16,11 @@ pub record Membership : Type 0 where
 abbrev pub replicas : Membership → ℕ
 replicas m = 3 * m.faults + 1
 
+-- The party is one of the replicas.
 abbrev pub is_replica : Membership → ℕ → Bool
 is_replica m party = nat_lt party (replicas m)
 
+-- The party is one of the clients.
 abbrev pub is_client : Membership → ℕ → Bool
 is_client m party = nat_le FIRST_CLIENT party && nat_lt party (FIRST_CLIENT + m.clients)
 

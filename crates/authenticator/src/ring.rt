@@ -120,9 +120,9 @@ impl Ring {
         Ok(Ring::from_source(alloc, faults, clients, source))
     }
 
-    /// The keys that a seed gives one party, and no other, as `deal` lists them. Each is derived when it is first needed,
-    /// so the ring holds the seed: it serves who plays all parties, and has the seed anyway. It takes no memory, so it
-    /// gives no error.
+    /// The keys that a seed gives one party, and no other, as `deal` lists them. They are dealt when the first of them is
+    /// needed; from then on the ring holds this row, and not the seed. It serves who plays all parties, of which most
+    /// never meet. It takes no memory, so it gives no error.
     pub fn dealt(alloc: Global, seed: &[u8; 32], faults: u8, clients: u16, me: Party) -> Ring
         ensures { result ≡ record {
           faults = faults;
@@ -193,7 +193,7 @@ impl Ring {
     }
 
     /// The authentication code of a text from one party to another, if they share a key.
-    pub(crate) fn shared_mac(&mut self, from: u16, to: u16, text: &[u8]) -> Option<[u8; 32]>
+    pub fn shared_mac(&mut self, from: u16, to: u16, text: &[u8]) -> Option<[u8; 32]>
         ensures code { result ≡ shared_mac self.old.keys from to text.now }
         ensures same { self.new ≡ self.old }
     {
@@ -209,12 +209,29 @@ impl Ring {
         ensures code { result ≡ shared_mac self.old.keys from to text.now }
         ensures same { self.new ≡ self.old }
     {
+        self.take_row();
         let bytes = self.shared_key(from, to)?;
         let key = Key::new(&bytes);
         let code = key.mac(text);
         // If there is no room for a key, it is made ready again at the next use.
         let _ = self.kept.insert((from, to), key);
         Some(code)
+    }
+
+    // A party whose keys are not dealt yet takes its row. If there is no room for it, the seed serves until the next key.
+    fn take_row(&mut self)
+        ensures { self.new ≡ self.old }
+    {
+        let dealt = match &self.source {
+            Source::Dealt(keys) => keys.row(self.alloc),
+            _ => None,
+        };
+        let Some(keys) = dealt else {
+            return;
+        };
+        if let Ok(row) = Arc::new(self.alloc, keys) {
+            self.source = Source::Row(row);
+        }
     }
 
     // The key from one party to another, if they share one.

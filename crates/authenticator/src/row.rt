@@ -1,6 +1,7 @@
 //! Shared keys, and how a seed gives them.
 
-ghost use Rattle.std.specs.Prelude.{◌≡◌, [], ◌∷◌, ◌++◌, ◌≤◌, ◌+◌, ◌*◌, ◌<◌, ◌==◌, ◌&&◌, not, nat_lt, IfOk, OnOk};
+ghost use Rattle.std.specs.Prelude.{◌≡◌, [], ◌∷◌, ◌++◌, ◌≤◌, ◌+◌, ◌*◌, ◌<◌, ◌==◌, ◌&&◌, not, nat_lt};
+ghost use Rattle.std.specs.Prelude.{IfOk, IfSome, OnOk};
 ghost use Rattle.std.specs.Int.{w16, to_be_bytes};
 ghost use Rattle.authenticator.specs.Dealing.{all_clients, both_keys, clients_of, dealt_keys, keys_with, other_replicas, others_among};
 ghost use Rattle.authenticator.specs.Keys.{derived_key, find_key, row, signing_seed};
@@ -11,7 +12,7 @@ ghost use Rattle.terms.specs.Parties.{party_number};
 use crate::mac::{Key, hmac};
 use std::alloc::{AllocError, Global};
 use std::marker::Model;
-use terms::{FIRST_CLIENT, NoMemory, Party};
+use terms::{FIRST_CLIENT, MAX_CLIENTS, NoMemory, Party};
 
 /// The key under which one party seals what it sends to another.
 #[derive(Drop)]
@@ -81,7 +82,7 @@ impl Seed {
     }
 }
 
-/// What a seed gives one party: the keys that `deal` lists, each derived when it is asked for.
+/// What a seed gives one party: the keys that `deal` lists, before they are dealt.
 #[derive(Drop)]
 pub(crate) struct DealtKeys {
     seed: Seed,
@@ -112,6 +113,16 @@ impl DealtKeys {
             clients: self.clients,
             me: self.me,
         }
+    }
+
+    /// The row of these keys. A system has up to 256 clients, and of more there is no row.
+    pub(crate) fn row(&self, alloc: Global) -> Option<Vec<SharedKey>>
+        ensures { IfSome result (λ keys. keys.items ≡ keys_dealt self.now) }
+    {
+        if usize::from(self.clients) > MAX_CLIENTS {
+            return None;
+        }
+        deal_by(alloc, &self.seed, self.faults, self.clients, self.me).ok()
     }
 
     /// The key from one party to another, if one of them is this party, and the other exchanges frames with it.
@@ -170,12 +181,24 @@ pub fn deal(
     requires clients { clients ≤ 256 }
     ensures { IfOk result (λ keys. keys.items ≡ dealt_keys seed.now faults clients (party_number me)) }
 {
-    let seed = Seed::new(seed);
-    let me = me.number();
+    deal_by(alloc, &Seed::new(seed), faults, clients, me.number())
+}
+
+// The keys that `deal` lists, by a seed that is ready.
+fn deal_by(
+    alloc: Global,
+    seed: &Seed,
+    faults: u8,
+    clients: u16,
+    me: u16,
+) -> Result<Vec<SharedKey>, NoMemory>
+    requires { clients ≤ 256 }
+    ensures { IfOk result (λ keys. keys.items ≡ dealt_keys seed.now faults clients me) }
+{
     let mut keys = Vec::new(alloc);
-    push_replicas(&seed, faults, me, &mut keys)?;
+    push_replicas(seed, faults, me, &mut keys)?;
     let clients = clients_of(me, clients);
-    push_clients(&seed, clients, me, &mut keys)?;
+    push_clients(seed, clients, me, &mut keys)?;
     Ok(keys)
 }
 

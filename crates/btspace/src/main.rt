@@ -6,13 +6,15 @@
 //! line has the answer that the operation's client accepted to this call. It did so in a trace of the cluster that is
 //! linearizable, if nothing in it is forged, unless two different texts of it have one digest. Without drills nothing
 //! is forged. At a fault `run` writes nothing, unless the writer failed. If the words are no request, the status
-//! follows from the reason. `keys` is that of `keys_command`, and `replica` that of `replica_command`.
+//! follows from the reason. `keys` is that of `keys_command`, `replica` that of `replica_command`, and
+//! `client` that of `client_command`.
 //!
 //! Tests show that a faulty party is refused before the script is read, and what the program shows while it runs.
 #![tactic(auto)]
 
 ghost use Rattle.std.specs.Prelude.{◌≡◌};
 
+use client_command::{ClientRequest, run_client};
 use cluster_run::{Drill, Open};
 use command_line::{Drills, NoRequest, Printed, Request, SpaceVersion, read_words};
 use config_text::Settings;
@@ -120,6 +122,20 @@ fn act_on<
         } => run_configured(rt, config, file, printed),
         Request::Keys { config, folder } => deal_keys(rt, config, folder),
         Request::Replica { keys } => run_replica(rt, keys),
+        Request::Client {
+            keys,
+            records_in,
+            records_out,
+            above,
+        } => {
+            let request = ClientRequest {
+                keys,
+                records_in,
+                records_out,
+                above,
+            };
+            run_client(rt, terminals, request)
+        }
     }
 }
 

@@ -52,7 +52,8 @@ fn act_on_words<R: Files + Env + Input + Print + Eprint + AllocGlobal>(
             Request::Run { .. }
             | Request::Schedule { .. }
             | Request::Keys { .. }
-            | Request::Replica { .. },
+            | Request::Replica { .. }
+            | Request::Client { .. },
         ) => refuse_command(rt),
         Err(why) => end_words(rt, why),
     }

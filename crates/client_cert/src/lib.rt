@@ -40,8 +40,7 @@ mod asking;
 mod ballots;
 mod call;
 mod client;
-mod receiving;
-
 pub mod laws;
+mod receiving;
 
 pub use client::{Client, Event, InvokeFault};

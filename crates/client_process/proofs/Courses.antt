@@ -5,12 +5,12 @@ use Rattle.std.proofs.KnownBytes.{Appends-nil, Appends-trans}
 use Rattle.wire_format.specs.Lists.{Each}
 use Rattle.wire_format.specs.Spelling.{piece}
 use Rattle.protocol.specs.System.Trace.{Entry}
-use Rattle.protocol.specs.Client.RightClient.{IsPromptClient}
 use Rattle.events.specs.Outputs.{after_entries}
 use Rattle.party_runs.specs.Interleavings.{IsEventOf, trace_after}
 use Rattle.records.specs.Records.{NoticeData, TellsNotice, TellsNothing, TellNotices, tells, passes, ends as bytes_end, IsPartial, TakesRecord}
 use Rattle.records.proofs.Framing.{is_short}
 use Rattle.records.proofs.Telling.{kept_tell_the_same}
+use Rattle.client_process.specs.Clients.{IsPromptLife}
 use Rattle.client_process.specs.Serving.{Ending, complete, unanswered, cut_short, Turn, idle, waits, Serves, ends, waits_on, stops}
 use Rattle.client_process.specs.Endings.{Converses, Scene, Writes, WritesFronts}
 use Rattle.client_process.specs.Texts.{FrontIsWritten, Opening, Along, BringsLine}
@@ -206,9 +206,9 @@ module _ (o : Opening) (history : List Entry) (turn : Turn) (n : ℕ) (unread kn
   -- ---- the end
 
   -- The course so far, up to this ending.
-  up_to : (ending : Ending) → (ending ≡ unanswered → IsPartial along.rest) → IsPromptClient o.c o.me history
+  up_to : (ending : Ending) → (ending ≡ unanswered → IsPartial along.rest) → IsPromptLife o.c o.me o.above history
       → Serves o.c o.me turn n (lines along.script) [] [] [] [] ending
-      → Converses o.c o.me o.script o.records ending (along.sent ++ unsent) (along.told ++ untold)
+      → Converses o.c o.me o.above o.script o.records ending (along.sent ++ unsent) (along.told ++ untold)
   up_to ending none right over =
       let whole = along.leads [] [] [] [] [] ending (bytes_end none_partial) over in
       record {
@@ -224,36 +224,36 @@ module _ (o : Opening) (history : List Entry) (turn : Turn) (n : ℕ) (unread kn
             (subst (λ t. Serves o.c o.me (idle 0) 1 (lines o.script) whole.0 along.events ((along.sent ++ unsent) ++ []) t ending) (append-nil (along.told ++ untold))
             (subst (λ e. Serves o.c o.me (idle 0) 1 (lines o.script) whole.0 e ((along.sent ++ unsent) ++ []) ((along.told ++ untold) ++ []) ending) (append-nil along.events) whole.2));
         each = along.each;
-        right = subst (λ h. IsPromptClient o.c o.me h) along.history_is right;
+        right = subst (λ h. IsPromptLife o.c o.me o.above h) along.history_is right;
       }
 
   -- nothing is left to write
-  all_written : (ending : Ending) → unsent ≡ [] → untold ≡ [] → Converses o.c o.me o.script o.records ending (along.sent ++ unsent) (along.told ++ untold)
-      → Writes o.c o.me o.script o.records ending o.start now
+  all_written : (ending : Ending) → unsent ≡ [] → untold ≡ [] → Converses o.c o.me o.above o.script o.records ending (along.sent ++ unsent) (along.told ++ untold)
+      → Writes o.c o.me o.above o.script o.records ending o.start now
   all_written ending no_sent no_told converses = record {
     sent = along.sent;
     told = along.told;
     converses =
-        subst (λ t. Converses o.c o.me o.script o.records ending t along.told) (ap (λ l. along.sent ++ l) no_sent ∙ append-nil along.sent)
-        (subst (λ t. Converses o.c o.me o.script o.records ending (along.sent ++ unsent) t) (ap (λ l. along.told ++ l) no_told ∙ append-nil along.told) converses);
+        subst (λ t. Converses o.c o.me o.above o.script o.records ending t along.told) (ap (λ l. along.sent ++ l) no_sent ∙ append-nil along.sent)
+        (subst (λ t. Converses o.c o.me o.above o.script o.records ending (along.sent ++ unsent) t) (ap (λ l. along.told ++ l) no_told ∙ append-nil along.told) converses);
     wrote_records = along.wrote_records;
     wrote_results = along.wrote_results;
   }
 
-  pub stops_here : unsent ≡ [] → untold ≡ [] → IsPromptClient o.c o.me history → Writes o.c o.me o.script o.records cut_short o.start now
+  pub stops_here : unsent ≡ [] → untold ≡ [] → IsPromptLife o.c o.me o.above history → Writes o.c o.me o.above o.script o.records cut_short o.start now
   stops_here no_sent no_told right = all_written cut_short no_sent no_told (up_to cut_short (λ e. absurd cc) right stops)
 
   -- writing failed behind fronts of the texts
   pub fails_here : (later : Scene) (left_sent left_told : List ℕ) → FrontIsWritten now.sent later.sent unsent left_sent → FrontIsWritten now.told later.told untold left_told
-      → IsPromptClient o.c o.me history → WritesFronts o.c o.me o.script o.records o.start later
+      → IsPromptLife o.c o.me o.above history → WritesFronts o.c o.me o.above o.script o.records o.start later
   fails_here later left_sent left_told sends tells_so right = record {
     sent = along.sent ++ sends.front;
     told = along.told ++ tells_so.front;
     unsent = left_sent;
     untold = left_told;
     converses =
-        subst (λ t. Converses o.c o.me o.script o.records cut_short t ((along.told ++ tells_so.front) ++ left_told)) (part along.sent sends.front left_sent unsent sends.split)
-        (subst (λ t. Converses o.c o.me o.script o.records cut_short (along.sent ++ unsent) t) (part along.told tells_so.front left_told untold tells_so.split)
+        subst (λ t. Converses o.c o.me o.above o.script o.records cut_short t ((along.told ++ tells_so.front) ++ left_told)) (part along.sent sends.front left_sent unsent sends.split)
+        (subst (λ t. Converses o.c o.me o.above o.script o.records cut_short (along.sent ++ unsent) t) (part along.told tells_so.front left_told untold tells_so.split)
         (up_to cut_short (λ e. absurd cc) right stops));
     wrote_records = Appends-trans o.start.sent now.sent later.sent along.sent sends.front along.wrote_records sends.wrote;
     wrote_results = Appends-trans o.start.told now.told later.told along.told tells_so.front along.wrote_results tells_so.wrote;
@@ -264,8 +264,8 @@ module _ (o : Opening) (history : List Entry) (turn : Turn) (n : ℕ) (unread kn
 
 -- the whole script was served
 pub ends_here : (o : Opening) (history : List Entry) (number n : ℕ) (unread known : Option (List ℕ)) (now : Scene) (unsent untold : List ℕ)
-    (along : Along o history (idle number) n unread known now unsent untold) → lines along.script ≡ [] → unsent ≡ [] → untold ≡ [] → IsPromptClient o.c o.me history
-    → Writes o.c o.me o.script o.records complete o.start now
+    (along : Along o history (idle number) n unread known now unsent untold) → lines along.script ≡ [] → unsent ≡ [] → untold ≡ [] → IsPromptLife o.c o.me o.above history
+    → Writes o.c o.me o.above o.script o.records complete o.start now
 ends_here o history number n unread known now unsent untold along none no_sent no_told right =
     all_written o history (idle number) n unread known now unsent untold along complete no_sent no_told
     (up_to o history (idle number) n unread known now unsent untold along complete (λ e. absurd cc) right
@@ -273,8 +273,8 @@ ends_here o history number n unread known now unsent untold along none no_sent n
 
 -- no record is left, and the call is open
 pub waits_here : (o : Opening) (history : List Entry) (timer : Timer) (n : ℕ) (unread known : Option (List ℕ)) (now : Scene) (unsent untold : List ℕ)
-    (along : Along o history (waits timer) n unread known now unsent untold) → IsPartial along.rest → unsent ≡ [] → untold ≡ [] → IsPromptClient o.c o.me history
-    → Writes o.c o.me o.script o.records unanswered o.start now
+    (along : Along o history (waits timer) n unread known now unsent untold) → IsPartial along.rest → unsent ≡ [] → untold ≡ [] → IsPromptLife o.c o.me o.above history
+    → Writes o.c o.me o.above o.script o.records unanswered o.start now
 waits_here o history timer n unread known now unsent untold along partial no_sent no_told right =
     all_written o history (waits timer) n unread known now unsent untold along unanswered no_sent no_told
     (up_to o history (waits timer) n unread known now unsent untold along unanswered (λ e. partial) right waits_on)

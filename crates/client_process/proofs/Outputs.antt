@@ -4,12 +4,13 @@ use Rattle.wire_format.specs.Lists.{Each}
 use Rattle.tuple_codec.specs.Operations.{Outcome}
 use Rattle.protocol.specs.System.Configuration.{Configuration}
 use Rattle.protocol.specs.System.Trace.{Entry, party_of, is_output, Always, AreOutputs, either}
-use Rattle.protocol.specs.Client.RightClient.{Reaction, reaction, IsReaction, MayInput, Reacts, IsPromptClient}
+use Rattle.protocol.specs.Client.RightClient.{Reaction, reaction, IsReaction, MayInput, Reacts}
 use Rattle.events.specs.Outputs.{entry_of, after_entries, receivers_in, AreSentAsMeant}
 use Rattle.events.specs.declared.output.Output.{Output}
 use Rattle.events.specs.declared.output.Output.TheVariants as outputs
 use Rattle.records.specs.Records.{frame_record}
 use Rattle.party_runs.specs.Interleavings.{IsOutputOf, IsEventOf}
+use Rattle.client_process.specs.Clients.{IsPromptLife}
 use Rattle.client_process.specs.Serving.{frames_text, accepted_in}
 use Rattle.client_process.specs.Texts.{outputs_text, accepted_of}
 
@@ -54,13 +55,13 @@ are_outputs me (out ∷ outs) = (is_output_entry me out, are_outputs me outs)
 -- ---- each entry is the party's own
 
 -- the entries of a prompt client
-own : (c : Configuration) (me : ℕ) (react : List Entry → Reaction) (outs history : List Entry) → Reacts c me react outs history
+own : (c : Configuration) (me start : ℕ) (react : List Entry → Reaction) (outs history : List Entry) → Reacts c me start react outs history
     → Always (λ past e. party_of e ≡ me) history
-own c me react outs [] h = tt
-own c me react outs (e ∷ past) h = (h.0, go (is_output e) h.1 (own c me react (e ∷ outs) past) (own c me react [] past))
+own c me start react outs [] h = tt
+own c me start react outs (e ∷ past) h = (h.0, go (is_output e) h.1 (own c me start react (e ∷ outs) past) (own c me start react [] past))
   where
-    go : (b : Bool) → either b (Reacts c me react (e ∷ outs) past) (MayInput past e × IsReaction c me (react (e ∷ past)) outs × Reacts c me react [] past)
-        → (Reacts c me react (e ∷ outs) past → Always (λ past e. party_of e ≡ me) past) → (Reacts c me react [] past → Always (λ past e. party_of e ≡ me) past)
+    go : (b : Bool) → either b (Reacts c me start react (e ∷ outs) past) (MayInput start past e × IsReaction c me (react (e ∷ past)) outs × Reacts c me start react [] past)
+        → (Reacts c me start react (e ∷ outs) past → Always (λ past e. party_of e ≡ me) past) → (Reacts c me start react [] past → Always (λ past e. party_of e ≡ me) past)
         → Always (λ past e. party_of e ≡ me) past
     go true k within between = within k
     go false k within between = between k.2
@@ -78,9 +79,9 @@ both me [] a b = tt
 both me (e ∷ entries) a b = ((a.0, b.0), both me entries a.1 b.1)
 
 -- An input and its outputs are an event of a prompt client.
-pub is_event : (c : Configuration) (me : ℕ) (input : Entry) (outs : List Output) (history : List Entry) → is_output input ≡ false
-    → IsPromptClient c me (after_entries (map (entry_of me) outs) (input ∷ history)) → IsEventOf me (input ∷ map (entry_of me) outs)
-is_event c me input outs history is right =
+pub is_event : (c : Configuration) (me start : ℕ) (input : Entry) (outs : List Output) (history : List Entry) → is_output input ≡ false
+    → IsPromptLife c me start (after_entries (map (entry_of me) outs) (input ∷ history)) → IsEventOf me (input ∷ map (entry_of me) outs)
+is_event c me start input outs history is right =
     let entries = map (entry_of me) outs in
-    let mine = last_own me entries (input ∷ history) (own c me (reaction c me) [] (after_entries entries (input ∷ history)) right) in
+    let mine = last_own me entries (input ∷ history) (own c me start (reaction c me) [] (after_entries entries (input ∷ history)) right) in
     (mine.1.0, is, both me entries mine.0 (are_outputs me outs))

@@ -11,9 +11,9 @@ use Rattle.one_space.specs.declared.input.NextLine.{NextLine}
 use Rattle.one_space.specs.declared.input.NoLine.{NoLine}
 use Rattle.protocol.specs.System.Configuration.{Configuration}
 use Rattle.protocol.specs.System.Trace.{Entry}
-use Rattle.protocol.specs.Client.RightClient.{IsPromptClient}
 use Rattle.party_runs.specs.Interleavings.{trace_after}
 use Rattle.records.specs.Records.{NoticeData, TellsNotice, TellsNothing, IsPartial, TakesRecord}
+use Rattle.client_process.specs.Clients.{IsPromptLife}
 use Rattle.client_process.specs.Serving.{cut_short, Turn, idle, waits, refused_line}
 use Rattle.client_process.specs.Endings.{Scene, scene, Writes, StopsBy}
 use Rattle.client_process.specs.Faults.{StopsBetween, IsWriteFault}
@@ -41,18 +41,18 @@ module _ {E : Type 0} (result : Result Bool E) (more : Bool) (is : result ≡ Ok
   pub known_partial : more ≡ false → IfSome known (λ xs. IsPartial xs × (kept ≡ []))
   known_partial e = subst (λ b. IfSome known (λ xs. MatchBool b (TakesRecord xs left kept) (IsPartial xs × (kept ≡ [])))) e advanced
 
-module _ {C : Type 0} (me : C → ℕ) (fits : C → Configuration → List Entry → Type 0) (is_right : (client : C) (c : Configuration) (history : List Entry) → fits client c history → IsPromptClient c (me client) history) (o : Opening) where
+module _ {C : Type 0} (me : C → ℕ) (fits : C → Configuration → ℕ → List Entry → Type 0) (is_right : (client : C) (c : Configuration) (start : ℕ) (history : List Entry) → fits client c start history → IsPromptLife c (me client) start history) (o : Opening) where
   -- the history of a process is right
   right : (turn : Turn) (n : ℕ) (unread known : Option (List ℕ)) (now : Scene) (client : C) (unsent untold : List ℕ)
-      (here : Stands me fits o turn n unread known now client unsent untold) → IsPromptClient o.c o.me here.history
+      (here : Stands me fits o turn n unread known now client unsent untold) → IsPromptLife o.c o.me o.above here.history
   right turn n unread known now client unsent untold here =
-      subst (λ p. IsPromptClient o.c p here.history) here.holds.me_is (is_right client o.c here.history here.holds.held)
+      subst (λ p. IsPromptLife o.c p o.above here.history) here.holds.me_is (is_right client o.c o.above here.history here.holds.held)
 
   -- ---- the next input
 
   pub line_taken : (before after : Turn) (n m : ℕ) (l : List ℕ) (unread rest known : Option (List ℕ)) (now : Scene) (old new : Process C)
       → BringsLine l unread rest → IsAt me fits o before n unread known now old
-      → ((history : List Entry) → Holds me fits o.c o.me history old.client → Advances me fits o.c o.me history before after n m (l ∷ []) [] old new)
+      → ((history : List Entry) → Holds me fits o.c o.above o.me history old.client → Advances me fits o.c o.above o.me history before after n m (l ∷ []) [] old new)
       → IsAt me fits o after m rest known now new
   line_taken before after n m l unread rest known now old new brings here step =
       let a = step here.history here.holds in
@@ -66,7 +66,7 @@ module _ {C : Type 0} (me : C → ℕ) (fits : C → Configuration → List Entr
   -- the record that was taken tells this
   pub notice_taken : (before after : Turn) (n : ℕ) (unread known left : Option (List ℕ)) (kept : List ℕ) (now : Scene) (old new : Process C) (notice : NoticeData)
       → IfSome known (λ xs. TakesRecord xs left kept) → TellsNotice kept notice → IsAt me fits o before n unread known now old
-      → ((history : List Entry) → Holds me fits o.c o.me history old.client → Advances me fits o.c o.me history before after n n [] (notice ∷ []) old new)
+      → ((history : List Entry) → Holds me fits o.c o.above o.me history old.client → Advances me fits o.c o.above o.me history before after n n [] (notice ∷ []) old new)
       → IsAt me fits o after n unread left now new
   notice_taken before after n unread known left kept now old new notice taken told here step =
       let a = step here.history here.holds in
@@ -184,7 +184,7 @@ module _ {C : Type 0} (me : C → ℕ) (fits : C → Configuration → List Entr
       → IfSome known (λ xs. TakesRecord xs left kept) → TellsNotice kept notice → IsClear old → IsAt me fits o (waits old.timer) n unread known now old
       → IfOk result (λ answered. TakesNotice me fits notice answered old new) → IfErr result StopsBetween → ServesRecord me fits result o n unread left now new
   taken_on (Ok answered) n unread known left kept now old new notice taken told clear here takes err =
-      notice_taken (waits old.timer) (turn_after answered new.timer) n unread known left kept now old new notice taken told here (λ history holds. takes o.c o.me n history holds)
+      notice_taken (waits old.timer) (turn_after answered new.timer) n unread known left kept now old new notice taken told here (λ history holds. takes o.c o.above o.me n history holds)
   taken_on (Err fault) n unread known left kept now old new notice taken told clear here takes err =
       stops_between fault err (waits old.timer) n unread known now old.client old.text.items old.told.items clear.0 clear.1 here
 
@@ -192,7 +192,7 @@ module _ {C : Type 0} (me : C → ℕ) (fits : C → Configuration → List Entr
   pub called_on : (op : Operation) (n : ℕ) (l : List ℕ) (unread rest known : Option (List ℕ)) (now : Scene) (old new : Process C) → BringsLine l unread rest → IsLine op l
       → IsAt me fits o (idle old.timer.number) n unread known now old → BeginsCall me fits op old new → IsAt me fits o (waits new.timer) (n + 1) rest known now new
   called_on op n l unread rest known now old new brings is_line here begins =
-      line_taken (idle old.timer.number) (waits new.timer) n (n + 1) l unread rest known now old new brings here (λ history holds. begins o.c o.me n history l is_line holds)
+      line_taken (idle old.timer.number) (waits new.timer) n (n + 1) l unread rest known now old new brings here (λ history holds. begins o.c o.above o.me n history l is_line holds)
 
   -- ---- one line, and what comes of it
 
@@ -202,7 +202,7 @@ module _ {C : Type 0} (me : C → ℕ) (fits : C → Configuration → List Entr
       → IsAt me fits o (idle old.timer.number) n unread known now old → IsAt me fits o (idle new.timer.number) (n + 1) rest known now new
   skipped_on n l unread rest known now old new brings skipped client timer text told here =
       line_taken (idle old.timer.number) (idle new.timer.number) n (n + 1) l unread rest known now old new brings here
-      (λ history holds. line_skipped me fits is_right old new l skipped client timer text told o.c o.me n history holds)
+      (λ history holds. line_skipped me fits is_right old new l skipped client timer text told o.c o.above o.me n history holds)
 
   -- The line was refused, and told as such.
   pub refused_on : (fault : LineFault) (n : ℕ) (l : List ℕ) (unread rest known : Option (List ℕ)) (now : Scene) (old new : Process C) → BringsLine l unread rest → Refuses fault l
@@ -210,7 +210,7 @@ module _ {C : Type 0} (me : C → ℕ) (fits : C → Configuration → List Entr
       → IsAt me fits o (idle old.timer.number) n unread known now old → IsAt me fits o (idle new.timer.number) (n + 1) rest known now new
   refused_on fault n l unread rest known now old new brings refuses client timer text told here =
       line_taken (idle old.timer.number) (idle new.timer.number) n (n + 1) l unread rest known now old new brings here
-      (λ history holds. line_refused me fits is_right old new fault l refuses client timer text n told o.c o.me history holds)
+      (λ history holds. line_refused me fits is_right old new fault l refuses client timer text n told o.c o.above o.me history holds)
 
   -- The rest of the line was passed.
   pub rest_is : (turn : Turn) (n : ℕ) (known : Option (List ℕ)) (now : Scene) (client : C) (unsent untold : List ℕ) (before after : Option (List ℕ)) → after ≡ before
@@ -261,8 +261,8 @@ if_known P None h = tt
 if_known P (Some bytes) h = h bytes refl
 
 -- Nothing is read yet.
-pub at_start : {C : Type 0} (me : C → ℕ) (fits : C → Configuration → List Entry → Type 0) (o : Opening) (unread known : Option (List ℕ)) (process : Process C)
-    → Holds me fits o.c o.me [] process.client → IsClear process → unread ≡ Some o.script → known ≡ Some o.records
+pub at_start : {C : Type 0} (me : C → ℕ) (fits : C → Configuration → ℕ → List Entry → Type 0) (o : Opening) (unread known : Option (List ℕ)) (process : Process C)
+    → Holds me fits o.c o.above o.me [] process.client → IsClear process → unread ≡ Some o.script → known ≡ Some o.records
     → IsAt me fits o (idle 0) 1 unread known o.start process
 at_start me fits o unread known process holds clear unread_is known_is = record {
   history = [];
@@ -271,27 +271,27 @@ at_start me fits o unread known process holds clear unread_is known_is = record 
 }
 
 -- What is written up to some input is all that there is if it stopped between two inputs.
-stops_by : (c : Configuration) (me : ℕ) (fault : ConverseFault) → StopsBetween fault → (script records : List ℕ) (old new : Scene)
-    → Writes c me script records cut_short old new → StopsBy c me fault script records old new
-stops_by c me NoMemory h script records old new writes = writes
-stops_by c me Stopped h script records old new writes = writes
-stops_by c me Unanswered h script records old new writes = absurd h
-stops_by c me TooLarge h script records old new writes = writes
-stops_by c me (Read error) h script records old new writes = writes
-stops_by c me (Write error) h script records old new writes = absurd h
+stops_by : (c : Configuration) (me start : ℕ) (fault : ConverseFault) → StopsBetween fault → (script records : List ℕ) (old new : Scene)
+    → Writes c me start script records cut_short old new → StopsBy c me start fault script records old new
+stops_by c me start NoMemory h script records old new writes = writes
+stops_by c me start Stopped h script records old new writes = writes
+stops_by c me start Unanswered h script records old new writes = absurd h
+stops_by c me start TooLarge h script records old new writes = writes
+stops_by c me start (Read error) h script records old new writes = writes
+stops_by c me start (Write error) h script records old new writes = absurd h
 
 -- It stopped before anything was read.
-pub not_begun : {C : Type 0} (me : C → ℕ) (fits : C → Configuration → List Entry → Type 0)
-    (is_right : (client : C) (c : Configuration) (history : List Entry) → fits client c history → IsPromptClient c (me client) history)
-    (c : Configuration) (fault : ConverseFault) → StopsBetween fault → (client : C) → fits client c [] → (script records : Option (List ℕ)) (at : Scene)
-    → IfSome script (λ text. IfSome records (λ bytes. StopsBy c (me client) fault text bytes at at))
-not_begun me fits is_right c fault h client held script records at =
-    if_known (λ text. IfSome records (λ bytes. StopsBy c (me client) fault text bytes at at)) script
-    (λ text is. if_known (λ bytes. StopsBy c (me client) fault text bytes at at) records
-    (λ bytes is_too. stops_by c (me client) fault h text bytes at at (none_read text bytes)))
+pub not_begun : {C : Type 0} (me : C → ℕ) (fits : C → Configuration → ℕ → List Entry → Type 0)
+    (is_right : (client : C) (c : Configuration) (start : ℕ) (history : List Entry) → fits client c start history → IsPromptLife c (me client) start history)
+    (c : Configuration) (start : ℕ) (fault : ConverseFault) → StopsBetween fault → (client : C) → fits client c start [] → (script records : Option (List ℕ)) (at : Scene)
+    → IfSome script (λ text. IfSome records (λ bytes. StopsBy c (me client) start fault text bytes at at))
+not_begun me fits is_right c start fault h client held script records at =
+    if_known (λ text. IfSome records (λ bytes. StopsBy c (me client) start fault text bytes at at)) script
+    (λ text is. if_known (λ bytes. StopsBy c (me client) start fault text bytes at at) records
+    (λ bytes is_too. stops_by c (me client) start fault h text bytes at at (none_read text bytes)))
   where
-    none_read : (text bytes : List ℕ) → Writes c (me client) text bytes cut_short at at
+    none_read : (text bytes : List ℕ) → Writes c (me client) start text bytes cut_short at at
     none_read text bytes =
-        let o : Opening = record { c = c; me = me client; script = text; records = bytes; start = at } in
+        let o : Opening = record { c = c; me = me client; above = start; script = text; records = bytes; start = at } in
         stops_here o [] (idle 0) 1 (Some text) (Some bytes) at [] [] (begins o (Some text) (Some bytes) [] [] refl refl refl refl) refl refl
-        (is_right client c [] held)
+        (is_right client c start [] held)

@@ -7,12 +7,12 @@ use Rattle.tuple_text.specs.declared.faults.LineFault.{LineFault}
 use Rattle.protocol.specs.System.Configuration.{Configuration}
 use Rattle.protocol.specs.System.Trace.{Entry, is_output}
 use Rattle.protocol.specs.System.Trace.Entry.{Invoke, Got, Tick}
-use Rattle.protocol.specs.Client.RightClient.{IsPromptClient}
 use Rattle.events.specs.declared.output.Output.{Output}
 use Rattle.events.specs.Outputs.{entry_of, after_event, AreSentAsMeant}
 use Rattle.party_runs.specs.Interleavings.{IsEventOf}
 use Rattle.records.specs.Records.{NoticeData, came, timer_over, linked}
 use Rattle.one_space.specs.Run.{result_line}
+use Rattle.client_process.specs.Clients.{IsPromptLife}
 use Rattle.client_process.specs.Timers.{first_timer, next_timer}
 use Rattle.client_process.specs.Serving.{idle, waits, Ending, Serves, skips, refuses, calls, takes, accepts, retries, is_late, notes, frames_text, timer_text, refused_line}
 use Rattle.client_process.specs.Texts.{outputs_text, accepted_of, Holds, Advances, TakesNotice, BeginsCall, BeginsTimer, Refuses}
@@ -26,23 +26,23 @@ pub told_kept : {C E : Type 0} (result : Result (Unit {0}) E) (timer : Timer) (o
 told_kept (Ok done) timer old new begins = begins.told_is
 told_kept (Err fault) timer old new begins = tt
 
-module _ {C : Type 0} (me : C → ℕ) (fits : C → Configuration → List Entry → Type 0) (is_right : (client : C) (c : Configuration) (history : List Entry) → fits client c history → IsPromptClient c (me client) history) where
+module _ {C : Type 0} (me : C → ℕ) (fits : C → Configuration → ℕ → List Entry → Type 0) (is_right : (client : C) (c : Configuration) (start : ℕ) (history : List Entry) → fits client c start history → IsPromptLife c (me client) start history) where
   -- what a step of the client says of the histories that fit
   abbrev pub LeadsBy : C → Entry → List Output → C → Type 0
   LeadsBy old input outs new =
-      (c : Configuration) (history : List Entry) → fits old c history
-      → fits new c (after_event (me old) input outs history) × AreSentAsMeant c (me old) outs
+      (c : Configuration) (start : ℕ) (history : List Entry) → fits old c start history
+      → fits new c start (after_event (me old) input outs history) × AreSentAsMeant c (me old) outs
 
   -- The step is an event of the client, which holds the longer history.
-  module _ (c : Configuration) (history : List Entry) (old new : C) (input : Entry) (outs : List Output) (same : me new ≡ me old) (kind : is_output input ≡ false)
-      (after : fits new c (after_event (me old) input outs history)) (meant : AreSentAsMeant c (me old) outs) where
-    pub step_holds : Holds me fits c (me old) (after_event (me old) input outs history) new
+  module _ (c : Configuration) (start : ℕ) (history : List Entry) (old new : C) (input : Entry) (outs : List Output) (same : me new ≡ me old) (kind : is_output input ≡ false)
+      (after : fits new c start (after_event (me old) input outs history)) (meant : AreSentAsMeant c (me old) outs) where
+    pub step_holds : Holds me fits c start (me old) (after_event (me old) input outs history) new
     step_holds = record { me_is = same; held = after }
 
     pub step_is_event : IsEventOf (me old) (input ∷ map (entry_of (me old)) outs)
     step_is_event =
-        is_event c (me old) input outs history kind
-        (subst (λ p. IsPromptClient c p (after_event (me old) input outs history)) same (is_right new c (after_event (me old) input outs history) after))
+        is_event c (me old) start input outs history kind
+        (subst (λ p. IsPromptLife c p start (after_event (me old) input outs history)) same (is_right new c start (after_event (me old) input outs history) after))
 
     pub step_text : (before text : List ℕ) → text ≡ before ++ outputs_text outs → text ≡ before ++ frames_text c (me old) (map (entry_of (me old)) outs)
     step_text before text e = e ∙ ap (λ l. before ++ l) (texts_are_one c (me old) outs meant)
@@ -54,44 +54,44 @@ module _ {C : Type 0} (me : C → ℕ) (fits : C → Configuration → List Entr
       → LeadsBy old.client (Got (me old.client) frame) outs new.client
       → new.text.items ≡ old.text.items ++ outputs_text outs → new.told.items ≡ old.told.items → new.timer ≡ old.timer → None ≡ accepted_of outs
       → TakesNotice me fits (came frame) false old new
-  frame_taken old new frame outs same leads text told timer none c p n history holds =
-      let go : Advances me fits c (me old.client) history (waits old.timer) (waits new.timer) n n [] (came frame ∷ []) old new =
-      let by = leads c history holds.held in
+  frame_taken old new frame outs same leads text told timer none c start p n history holds =
+      let go : Advances me fits c start (me old.client) history (waits old.timer) (waits new.timer) n n [] (came frame ∷ []) old new =
+      let by = leads c start history holds.held in
       record {
         events = (Got (me old.client) frame ∷ map (entry_of (me old.client)) outs) ∷ [];
         sent = frames_text c (me old.client) (map (entry_of (me old.client)) outs);
         told = [];
-        each = (step_is_event c history old.client new.client (Got (me old.client) frame) outs same refl by.0 by.1, tt);
-        holds = step_holds c history old.client new.client (Got (me old.client) frame) outs same refl by.0 by.1;
-        sends = step_text c history old.client new.client (Got (me old.client) frame) outs same refl by.0 by.1 old.text.items new.text.items text;
+        each = (step_is_event c start history old.client new.client (Got (me old.client) frame) outs same refl by.0 by.1, tt);
+        holds = step_holds c start history old.client new.client (Got (me old.client) frame) outs same refl by.0 by.1;
+        sends = step_text c start history old.client new.client (Got (me old.client) frame) outs same refl by.0 by.1 old.text.items new.text.items text;
         tells = told ∙ sym (append-nil old.told.items);
         leads = λ lines notices later sent_later told_later ending serves.
             takes (answers_are_one (me old.client) outs ∙ sym none)
             (subst (λ t. Serves c (me old.client) (waits t) n lines notices later sent_later told_later ending) timer serves);
       } in
-      subst (λ q. Advances me fits c q history (waits old.timer) (waits new.timer) n n [] (came frame ∷ []) old new) holds.me_is go
+      subst (λ q. Advances me fits c start q history (waits old.timer) (waits new.timer) n n [] (came frame ∷ []) old new) holds.me_is go
 
   -- A frame came, and this answer was accepted.
   pub frame_accepted : (old new : Process C) (frame : List ℕ) (outs : List Output) (answer : Outcome) → me new.client ≡ me old.client
       → LeadsBy old.client (Got (me old.client) frame) outs new.client
       → new.text.items ≡ old.text.items ++ outputs_text outs → new.told.items ≡ old.told.items ++ result_line answer → new.timer ≡ old.timer
       → Some answer ≡ accepted_of outs → TakesNotice me fits (came frame) true old new
-  frame_accepted old new frame outs answer same leads text told timer some c p n history holds =
-      let go : Advances me fits c (me old.client) history (waits old.timer) (idle new.timer.number) n n [] (came frame ∷ []) old new =
-      let by = leads c history holds.held in
+  frame_accepted old new frame outs answer same leads text told timer some c start p n history holds =
+      let go : Advances me fits c start (me old.client) history (waits old.timer) (idle new.timer.number) n n [] (came frame ∷ []) old new =
+      let by = leads c start history holds.held in
       record {
         events = (Got (me old.client) frame ∷ map (entry_of (me old.client)) outs) ∷ [];
         sent = frames_text c (me old.client) (map (entry_of (me old.client)) outs);
         told = result_line answer;
-        each = (step_is_event c history old.client new.client (Got (me old.client) frame) outs same refl by.0 by.1, tt);
-        holds = step_holds c history old.client new.client (Got (me old.client) frame) outs same refl by.0 by.1;
-        sends = step_text c history old.client new.client (Got (me old.client) frame) outs same refl by.0 by.1 old.text.items new.text.items text;
+        each = (step_is_event c start history old.client new.client (Got (me old.client) frame) outs same refl by.0 by.1, tt);
+        holds = step_holds c start history old.client new.client (Got (me old.client) frame) outs same refl by.0 by.1;
+        sends = step_text c start history old.client new.client (Got (me old.client) frame) outs same refl by.0 by.1 old.text.items new.text.items text;
         tells = told;
         leads = λ lines notices later sent_later told_later ending serves.
             accepts (answers_are_one (me old.client) outs ∙ sym some)
             (subst (λ t. Serves c (me old.client) (idle t) n lines notices later sent_later told_later ending) (ap (λ t. t.number) timer) serves);
       } in
-      subst (λ q. Advances me fits c q history (waits old.timer) (idle new.timer.number) n n [] (came frame ∷ []) old new) holds.me_is go
+      subst (λ q. Advances me fits c start q history (waits old.timer) (idle new.timer.number) n n [] (came frame ∷ []) old new) holds.me_is go
 
   -- ---- timers
 
@@ -104,28 +104,28 @@ module _ {C : Type 0} (me : C → ℕ) (fits : C → Configuration → List Entr
       → LeadsBy old.client (Tick (me old.client)) outs middle.client
       → middle.text.items ≡ old.text.items ++ outputs_text outs → middle.told.items ≡ old.told.items → BeginsTimer (next_timer old.timer) middle new
       → TakesNotice me fits (timer_over old.timer.number) false old new
-  timer_taken old middle new outs same leads text told begins c p n history holds =
+  timer_taken old middle new outs same leads text told begins c start p n history holds =
       let client : new.client ≡ middle.client = begins.client_is in
       let same_new : me new.client ≡ me old.client = ap me client ∙ same in
-      let go : Advances me fits c (me old.client) history (waits old.timer) (waits new.timer) n n [] (timer_over old.timer.number ∷ []) old new =
-      let by = leads c history holds.held in
-      let fit : fits new.client c (after_event (me old.client) (Tick (me old.client)) outs history) =
-      subst (λ x. fits x c (after_event (me old.client) (Tick (me old.client)) outs history)) (sym client) by.0 in
+      let go : Advances me fits c start (me old.client) history (waits old.timer) (waits new.timer) n n [] (timer_over old.timer.number ∷ []) old new =
+      let by = leads c start history holds.held in
+      let fit : fits new.client c start (after_event (me old.client) (Tick (me old.client)) outs history) =
+      subst (λ x. fits x c start (after_event (me old.client) (Tick (me old.client)) outs history)) (sym client) by.0 in
       record {
         events = (Tick (me old.client) ∷ map (entry_of (me old.client)) outs) ∷ [];
         sent = frames_text c (me old.client) (map (entry_of (me old.client)) outs) ++ timer_text (next_timer old.timer);
         told = [];
-        each = (step_is_event c history old.client new.client (Tick (me old.client)) outs same_new refl fit by.1, tt);
-        holds = step_holds c history old.client new.client (Tick (me old.client)) outs same_new refl fit by.1;
+        each = (step_is_event c start history old.client new.client (Tick (me old.client)) outs same_new refl fit by.1, tt);
+        holds = step_holds c start history old.client new.client (Tick (me old.client)) outs same_new refl fit by.1;
         sends =
             two_texts old.text.items middle.text.items new.text.items (frames_text c (me old.client) (map (entry_of (me old.client)) outs)) (timer_text (next_timer old.timer))
-            (step_text c history old.client new.client (Tick (me old.client)) outs same_new refl fit by.1 old.text.items middle.text.items text) begins.text_is;
+            (step_text c start history old.client new.client (Tick (me old.client)) outs same_new refl fit by.1 old.text.items middle.text.items text) begins.text_is;
         tells = begins.told_is ∙ told ∙ sym (append-nil old.told.items);
         leads = λ lines notices later sent_later told_later ending serves.
             retries
             (subst (λ t. Serves c (me old.client) (waits t) n lines notices later sent_later told_later ending) begins.timer_is serves);
       } in
-      subst (λ q. Advances me fits c q history (waits old.timer) (waits new.timer) n n [] (timer_over old.timer.number ∷ []) old new) holds.me_is go
+      subst (λ q. Advances me fits c start q history (waits old.timer) (waits new.timer) n n [] (timer_over old.timer.number ∷ []) old new) holds.me_is go
 
   -- It begins, unless memory ran out. timer: the one that begins.
   pub timer_taken_on : {E : Type 0} (result : Result (Unit {0}) E) (timer : Timer) (number : ℕ) (old middle new : Process C) (outs : List Output) → timer ≡ next_timer old.timer → number ≡ old.timer.number
@@ -143,7 +143,7 @@ module _ {C : Type 0} (me : C → ℕ) (fits : C → Configuration → List Entr
       → Serves c p (waits old.timer) n lines notices later sent_later told_later ending
       → Serves c p (waits old.timer) n lines (notice ∷ notices) later sent_later told_later ending)
       → TakesNotice me fits notice false old old
-  unmoved old notice step c p n history holds = record {
+  unmoved old notice step c start p n history holds = record {
     events = [];
     sent = [];
     told = [];
@@ -166,40 +166,40 @@ module _ {C : Type 0} (me : C → ℕ) (fits : C → Configuration → List Entr
 
   -- The call of a line's operation began.
   pub call_begun : (old middle new : Process C) (op : Operation) (outs : List Output) → me middle.client ≡ me old.client
-      → ((c : Configuration) (history : List Entry) → fits old.client c history
-      → (timestamp : ℕ) × fits middle.client c (after_event (me old.client) (Invoke (client_number (me old.client)) timestamp op) outs history)
+      → ((c : Configuration) (start : ℕ) (history : List Entry) → fits old.client c start history
+      → (timestamp : ℕ) × fits middle.client c start (after_event (me old.client) (Invoke (client_number (me old.client)) timestamp op) outs history)
       × AreSentAsMeant c (me old.client) outs)
       → middle.text.items ≡ old.text.items ++ outputs_text outs → middle.told.items ≡ old.told.items → BeginsTimer (first_timer old.timer.number) middle new
       → BeginsCall me fits op old new
-  call_begun old middle new op outs same leads text told begins c p n history l is_line holds =
+  call_begun old middle new op outs same leads text told begins c start p n history l is_line holds =
       let client : new.client ≡ middle.client = begins.client_is in
       let same_new : me new.client ≡ me old.client = ap me client ∙ same in
-      let go : Advances me fits c (me old.client) history (idle old.timer.number) (waits new.timer) n (n + 1) (l ∷ []) [] old new =
-      let by = leads c history holds.held in
+      let go : Advances me fits c start (me old.client) history (idle old.timer.number) (waits new.timer) n (n + 1) (l ∷ []) [] old new =
+      let by = leads c start history holds.held in
       let input : Entry = Invoke (client_number (me old.client)) by.0 op in
-      let fit : fits new.client c (after_event (me old.client) input outs history) =
-      subst (λ x. fits x c (after_event (me old.client) input outs history)) (sym client) by.1 in
+      let fit : fits new.client c start (after_event (me old.client) input outs history) =
+      subst (λ x. fits x c start (after_event (me old.client) input outs history)) (sym client) by.1 in
       record {
         events = (input ∷ map (entry_of (me old.client)) outs) ∷ [];
         sent = frames_text c (me old.client) (map (entry_of (me old.client)) outs) ++ timer_text (first_timer old.timer.number);
         told = [];
-        each = (step_is_event c history old.client new.client input outs same_new refl fit by.2, tt);
-        holds = step_holds c history old.client new.client input outs same_new refl fit by.2;
+        each = (step_is_event c start history old.client new.client input outs same_new refl fit by.2, tt);
+        holds = step_holds c start history old.client new.client input outs same_new refl fit by.2;
         sends =
             two_texts old.text.items middle.text.items new.text.items (frames_text c (me old.client) (map (entry_of (me old.client)) outs)) (timer_text (first_timer old.timer.number))
-            (step_text c history old.client new.client input outs same_new refl fit by.2 old.text.items middle.text.items text) begins.text_is;
+            (step_text c start history old.client new.client input outs same_new refl fit by.2 old.text.items middle.text.items text) begins.text_is;
         tells = begins.told_is ∙ told ∙ sym (append-nil old.told.items);
         leads = λ lines notices later sent_later told_later ending serves.
             calls is_line
             (subst (λ t. Serves c (me old.client) (waits t) (n + 1) lines notices later sent_later told_later ending) begins.timer_is serves);
       } in
-      subst (λ q. Advances me fits c q history (idle old.timer.number) (waits new.timer) n (n + 1) (l ∷ []) [] old new) holds.me_is go
+      subst (λ q. Advances me fits c start q history (idle old.timer.number) (waits new.timer) n (n + 1) (l ∷ []) [] old new) holds.me_is go
 
   -- It began, unless memory ran out. timer: the one that begins.
   pub call_begun_on : {E : Type 0} (result : Result (Unit {0}) E) (timer : Timer) (old middle new : Process C) (op : Operation) (outs : List Output) → timer ≡ first_timer old.timer.number
       → me middle.client ≡ me old.client
-      → ((c : Configuration) (history : List Entry) → fits old.client c history
-      → (timestamp : ℕ) × fits middle.client c (after_event (me old.client) (Invoke (client_number (me old.client)) timestamp op) outs history)
+      → ((c : Configuration) (start : ℕ) (history : List Entry) → fits old.client c start history
+      → (timestamp : ℕ) × fits middle.client c start (after_event (me old.client) (Invoke (client_number (me old.client)) timestamp op) outs history)
       × AreSentAsMeant c (me old.client) outs)
       → middle.text.items ≡ old.text.items ++ outputs_text outs → middle.told.items ≡ old.told.items → OnOk result (BeginsTimer timer middle new)
       → OnOk result (BeginsCall me fits op old new)
@@ -210,14 +210,14 @@ module _ {C : Type 0} (me : C → ℕ) (fits : C → Configuration → List Entr
   -- A line was refused, and told as such.
   pub line_refused : (old new : Process C) (fault : LineFault) (l : List ℕ) → Refuses fault l → new.client ≡ old.client → new.timer ≡ old.timer → new.text.items ≡ old.text.items
       → (n : ℕ) → new.told.items ≡ old.told.items ++ refused_line n fault
-      → (c : Configuration) (p : ℕ) (history : List Entry) → Holds me fits c p history old.client
-      → Advances me fits c p history (idle old.timer.number) (idle new.timer.number) n (n + 1) (l ∷ []) [] old new
-  line_refused old new fault l refused client timer text n told c p history holds = record {
+      → (c : Configuration) (start p : ℕ) (history : List Entry) → Holds me fits c start p history old.client
+      → Advances me fits c start p history (idle old.timer.number) (idle new.timer.number) n (n + 1) (l ∷ []) [] old new
+  line_refused old new fault l refused client timer text n told c start p history holds = record {
     events = [];
     sent = [];
     told = refused_line n fault;
     each = tt;
-    holds = subst (λ x. Holds me fits c p history x) (sym client) holds;
+    holds = subst (λ x. Holds me fits c start p history x) (sym client) holds;
     sends = text ∙ sym (append-nil old.text.items);
     tells = told;
     leads = λ lines notices later sent_later told_later ending serves.
@@ -227,14 +227,14 @@ module _ {C : Type 0} (me : C → ℕ) (fits : C → Configuration → List Entr
 
   -- A line was skipped.
   pub line_skipped : (old new : Process C) (l : List ℕ) → IsSkipped l → new.client ≡ old.client → new.timer ≡ old.timer → new.text.items ≡ old.text.items
-      → new.told.items ≡ old.told.items → (c : Configuration) (p n : ℕ) (history : List Entry) → Holds me fits c p history old.client
-      → Advances me fits c p history (idle old.timer.number) (idle new.timer.number) n (n + 1) (l ∷ []) [] old new
-  line_skipped old new l skipped client timer text told c p n history holds = record {
+      → new.told.items ≡ old.told.items → (c : Configuration) (start p n : ℕ) (history : List Entry) → Holds me fits c start p history old.client
+      → Advances me fits c start p history (idle old.timer.number) (idle new.timer.number) n (n + 1) (l ∷ []) [] old new
+  line_skipped old new l skipped client timer text told c start p n history holds = record {
     events = [];
     sent = [];
     told = [];
     each = tt;
-    holds = subst (λ x. Holds me fits c p history x) (sym client) holds;
+    holds = subst (λ x. Holds me fits c start p history x) (sym client) holds;
     sends = text ∙ sym (append-nil old.text.items);
     tells = told ∙ sym (append-nil old.told.items);
     leads = λ lines notices later sent_later told_later ending serves.

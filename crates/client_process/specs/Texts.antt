@@ -70,22 +70,22 @@ abbrev pub turn_after : Bool → Timer → Turn
 turn_after true timer = idle timer.number
 turn_after false timer = waits timer
 
--- the client of this party has this history
-pub record Holds {C : Type 0} (me : C → ℕ) (fits : C → Configuration → List Entry → Type 0) (c : Configuration) (p : ℕ)
-    (history : List Entry) (client : C) : Type 0 where
+-- the client of this party has this history, of a life that begins above the timestamp start
+pub record Holds {C : Type 0} (me : C → ℕ) (fits : C → Configuration → ℕ → List Entry → Type 0) (c : Configuration)
+    (start p : ℕ) (history : List Entry) (client : C) : Type 0 where
   pub me_is : me client ≡ p
-  pub held : fits client c history
+  pub held : fits client c start history
 
 -- These lines were taken, of which the first has number n, and these notices: the client has these events more, and
 -- these texts are appended to those that are due. Any course over what follows makes a course with them.
-pub record Advances {C : Type 0} (me : C → ℕ) (fits : C → Configuration → List Entry → Type 0) (c : Configuration)
-    (p : ℕ) (history : List Entry) (before after : Turn) (n m : ℕ) (taken : List (List ℕ)) (heard : List NoticeData)
-    (old new : Process C) : Type 0 where
+pub record Advances {C : Type 0} (me : C → ℕ) (fits : C → Configuration → ℕ → List Entry → Type 0) (c : Configuration)
+    (start p : ℕ) (history : List Entry) (before after : Turn) (n m : ℕ) (taken : List (List ℕ))
+    (heard : List NoticeData) (old new : Process C) : Type 0 where
   pub events : List (List Entry)
   pub sent : List ℕ
   pub told : List ℕ
   pub each : Each (IsEventOf p) events
-  pub holds : Holds me fits c p (trace_after history events) new.client
+  pub holds : Holds me fits c start p (trace_after history events) new.client
   pub sends : new.text.items ≡ old.text.items ++ sent
   pub tells : new.told.items ≡ old.told.items ++ told
   pub leads : (lines : List (List ℕ)) (notices : List NoticeData) (later : List (List Entry)) (sent_later told_later : List ℕ)
@@ -94,18 +94,19 @@ pub record Advances {C : Type 0} (me : C → ℕ) (fits : C → Configuration �
       (told ++ told_later) ending
 
 -- the notice was taken, and answered says whether it answered the open call
-abbrev pub TakesNotice : {C : Type 0} → (C → ℕ) → (C → Configuration → List Entry → Type 0) → NoticeData → Bool
+abbrev pub TakesNotice : {C : Type 0} → (C → ℕ) → (C → Configuration → ℕ → List Entry → Type 0) → NoticeData → Bool
     → Process C → Process C → Type 0
 TakesNotice me fits notice answered old new =
-    (c : Configuration) (p n : ℕ) (history : List Entry) → Holds me fits c p history old.client
-    → Advances me fits c p history (waits old.timer) (turn_after answered new.timer) n n [] (notice ∷ []) old new
+    (c : Configuration) (start p n : ℕ) (history : List Entry) → Holds me fits c start p history old.client
+    → Advances me fits c start p history (waits old.timer) (turn_after answered new.timer) n n [] (notice ∷ []) old new
 
 -- the call of a line with this operation began
-abbrev pub BeginsCall : {C : Type 0} → (C → ℕ) → (C → Configuration → List Entry → Type 0) → Operation
+abbrev pub BeginsCall : {C : Type 0} → (C → ℕ) → (C → Configuration → ℕ → List Entry → Type 0) → Operation
     → Process C → Process C → Type 0
 BeginsCall me fits op old new =
-    (c : Configuration) (p n : ℕ) (history : List Entry) (l : List ℕ) → IsLine op l → Holds me fits c p history old.client
-    → Advances me fits c p history (idle old.timer.number) (waits new.timer) n (n + 1) (l ∷ []) [] old new
+    (c : Configuration) (start p n : ℕ) (history : List Entry) (l : List ℕ) → IsLine op l
+    → Holds me fits c start p history old.client
+    → Advances me fits c start p history (idle old.timer.number) (waits new.timer) n (n + 1) (l ∷ []) [] old new
 
 -- The timer begins, and its record is due. Nothing else changes.
 pub record BeginsTimer {C : Type 0} (timer : Timer) (old new : Process C) : Type 0 where
@@ -120,10 +121,12 @@ Refuses fault l = (fault ≢ NoMemory) × RefusesLine fault l
 
 -- ---- a course so far
 
--- what a session began with: the configuration, the client's party, both inputs, and the bytes that the writers had
+-- what a session began with: the configuration, the client's party, the timestamp above which its life begins, both
+-- inputs, and the bytes that the writers had
 pub record Opening : Type 0 where
   pub c : Configuration
   pub me : ℕ
+  pub above : ℕ
   pub script : List ℕ
   pub records : List ℕ
   pub start : Scene
@@ -153,14 +156,14 @@ pub record Along (o : Opening) (history : List Entry) (turn : Turn) (n : ℕ) (u
       ((told ++ untold) ++ told_later) ending
 
 -- The process is between two inputs.
-pub record Stands {C : Type 0} (me : C → ℕ) (fits : C → Configuration → List Entry → Type 0) (o : Opening)
+pub record Stands {C : Type 0} (me : C → ℕ) (fits : C → Configuration → ℕ → List Entry → Type 0) (o : Opening)
     (turn : Turn) (n : ℕ) (unread known : Option (List ℕ)) (now : Scene) (client : C) (unsent untold : List ℕ) : Type 0
   where
     pub history : List Entry
-    pub holds : Holds me fits o.c o.me history client
+    pub holds : Holds me fits o.c o.above o.me history client
     pub along : Along o history turn n unread known now unsent untold
 
-abbrev pub IsAt : {C : Type 0} → (C → ℕ) → (C → Configuration → List Entry → Type 0) → Opening → Turn → ℕ
+abbrev pub IsAt : {C : Type 0} → (C → ℕ) → (C → Configuration → ℕ → List Entry → Type 0) → Opening → Turn → ℕ
     → Option (List ℕ) → Option (List ℕ) → Scene → Process C → Type 0
 IsAt me fits o turn n unread known now process =
     Stands me fits o turn n unread known now process.client process.text.items process.told.items
@@ -173,21 +176,21 @@ BringsLine l unread rest = (xs : List ℕ) × (unread ≡ Some xs) × IsNextLine
 
 -- It stopped by the fault.
 abbrev pub HasStopped : Opening → ConverseFault → Scene → Type 0
-HasStopped o fault now = StopsBy o.c o.me fault o.script o.records o.start now
+HasStopped o fault now = StopsBy o.c o.me o.above fault o.script o.records o.start now
 
 -- It served the whole script.
 abbrev pub HasEnded : Opening → Scene → Type 0
-HasEnded o now = Writes o.c o.me o.script o.records complete o.start now
+HasEnded o now = Writes o.c o.me o.above o.script o.records complete o.start now
 
 -- The process is at the next input, or it stopped by the fault.
-abbrev pub GoesOn : {C : Type 0} → (C → ℕ) → (C → Configuration → List Entry → Type 0)
+abbrev pub GoesOn : {C : Type 0} → (C → ℕ) → (C → Configuration → ℕ → List Entry → Type 0)
     → Result (Unit {0}) ConverseFault → Opening → Turn → ℕ → Option (List ℕ) → Option (List ℕ) → Scene → Process C
     → Type 0
 GoesOn me fits result o turn n unread known now process =
     MatchResult result (λ _. IsAt me fits o turn n unread known now process) (λ fault. HasStopped o fault now)
 
 -- The same, or no line was left.
-abbrev pub ServesLine : {C : Type 0} → (C → ℕ) → (C → Configuration → List Entry → Type 0)
+abbrev pub ServesLine : {C : Type 0} → (C → ℕ) → (C → Configuration → ℕ → List Entry → Type 0)
     → Result Bool ConverseFault → Opening → Turn → ℕ → Option (List ℕ) → Option (List ℕ) → Scene → Process C → Type 0
 ServesLine me fits result o turn n unread known now process =
     MatchResult result
@@ -195,7 +198,7 @@ ServesLine me fits result o turn n unread known now process =
     (λ fault. HasStopped o fault now)
 
 -- The next record was served, and answered says whether it answered the open call. Or the process stopped.
-abbrev pub ServesRecord : {C : Type 0} → (C → ℕ) → (C → Configuration → List Entry → Type 0)
+abbrev pub ServesRecord : {C : Type 0} → (C → ℕ) → (C → Configuration → ℕ → List Entry → Type 0)
     → Result Bool ConverseFault → Opening → ℕ → Option (List ℕ) → Option (List ℕ) → Scene → Process C → Type 0
 ServesRecord me fits result o n unread known now process =
     MatchResult result
@@ -203,4 +206,4 @@ ServesRecord me fits result o n unread known now process =
     (λ fault. HasStopped o fault now)
 
 abbrev pub EndsSession : Result (Unit {0}) ConverseFault → Opening → Scene → Type 0
-EndsSession result o now = EndsConversing o.c o.me result o.script o.records o.start now
+EndsSession result o now = EndsConversing o.c o.me o.above result o.script o.records o.start now

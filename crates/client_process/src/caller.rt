@@ -12,38 +12,41 @@ pub trait Caller {
     ghost use Rattle.protocol.specs.System.Configuration.{Configuration};
     ghost use Rattle.protocol.specs.System.Trace.{Entry};
     ghost use Rattle.protocol.specs.System.Trace.Entry.{Invoke, Got, Tick};
-    ghost use Rattle.protocol.specs.Client.RightClient.{IsPromptClient};
     ghost use Rattle.events.specs.Outputs.{after_event, AreSentAsMeant};
+    ghost use Rattle.client_process.specs.Clients.{IsPromptLife};
 
     /// Its number among the parties.
     ghost me: { Self → ℕ };
 
-    /// It runs, and holds what this history says.
-    ghost fits: { Self → Configuration → List Entry → Type 0 };
+    /// It runs, and holds what this history of its life says, which began above the timestamp.
+    ghost fits: { Self → Configuration → ℕ → List Entry → Type 0 };
 
     /// What it gives for the call of an operation, which gets a timestamp of its own. At an error it is no more.
     fn call(&mut self, alloc: Global, op: Op<Global>) -> Result<Outputs, Stop>
         ensures me { me self.new ≡ me self.old }
-        ensures leads { IfOk result (λ outs. (c : Configuration) (history : List Entry) → fits self.old c history
-            → (timestamp : ℕ) × fits self.new c (after_event (me self.old)
+        ensures leads { IfOk result (λ outs. (c : Configuration) (start : ℕ) (history : List Entry)
+            → fits self.old c start history
+            → (timestamp : ℕ) × fits self.new c start (after_event (me self.old)
             (Invoke (client_number (me self.old)) timestamp (operation_of op)) outs.items history)
             × AreSentAsMeant c (me self.old) outs.items) };
 
     /// What it gives for a frame that came. At an error it is no more.
     fn got(&mut self, alloc: Global, frame: &[u8]) -> Result<Outputs, Stop>
         ensures me { me self.new ≡ me self.old }
-        ensures leads { IfOk result (λ outs. (c : Configuration) (history : List Entry) → fits self.old c history
-            → fits self.new c (after_event (me self.old) (Got (me self.old) frame.now) outs.items history)
+        ensures leads { IfOk result (λ outs. (c : Configuration) (start : ℕ) (history : List Entry)
+            → fits self.old c start history
+            → fits self.new c start (after_event (me self.old) (Got (me self.old) frame.now) outs.items history)
             × AreSentAsMeant c (me self.old) outs.items) };
 
     /// What it gives when time went by. At an error it is no more.
     fn retry(&mut self, alloc: Global) -> Result<Outputs, Stop>
         ensures me { me self.new ≡ me self.old }
-        ensures leads { IfOk result (λ outs. (c : Configuration) (history : List Entry) → fits self.old c history
-            → fits self.new c (after_event (me self.old) (Tick (me self.old)) outs.items history)
+        ensures leads { IfOk result (λ outs. (c : Configuration) (start : ℕ) (history : List Entry)
+            → fits self.old c start history
+            → fits self.new c start (after_event (me self.old) (Tick (me self.old)) outs.items history)
             × AreSentAsMeant c (me self.old) outs.items) };
 
-    /// A history that fits is a correct client's.
-    ghost is_right: { (caller : Self) (c : Configuration) (history : List Entry) → fits caller c history
-        → IsPromptClient c (me caller) history };
+    /// A history that fits is one life of a correct client.
+    ghost is_right: { (caller : Self) (c : Configuration) (start : ℕ) (history : List Entry)
+        → fits caller c start history → IsPromptLife c (me caller) start history };
 }

@@ -12,7 +12,7 @@ impl Caller for Client {
 
     ghost me = { me_of };
 
-    ghost fits = { λ client c history. FitsRunning c client history };
+    ghost fits = { λ client c start history. FitsRunning c start client history };
 
     fn call(&mut self, alloc: Global, op: Op<Global>) -> Result<Outputs, Stop> {
         match self.invoke(alloc, op) {
@@ -30,5 +30,5 @@ impl Caller for Client {
         self.step(alloc, Event::Retry)
     }
 
-    ghost is_right = { λ client c history h. (h.fits.running h.runs).gave };
+    ghost is_right = { λ client c start history h. (h.fits.running h.runs).gave };
 }

@@ -16,12 +16,13 @@
 //!
 //! # What is proved
 //!
-//! [`converse`] holds over all readers and writers whose bytes are known, and each configuration that gives the client its
-//! keys. For the lines and a front of the records the client has a history that is a correct client's, which has not
-//! stopped (`IsPromptClient`): each call is the operation of the next line, each frame that came is an event, and so is the
-//! end of the running timer (`Serves`). The records written are those of its frames, for exactly the parties for whom they
-//! are, and of its timers. The result lines are the answers that were accepted to these calls, in order, and the
-//! complaints about refused lines. At a fault this holds up to some input; if writing failed, of fronts of the texts.
+//! [`converse`] holds over all readers and writers whose bytes are known, and each configuration that gives the client
+//! its keys. For the lines and a front of the records the client has a history that is one life of a correct client,
+//! which has not stopped (`IsPromptLife`). A life has the timestamps above a number, which the client knows. Each call is
+//! the operation of the next line, each frame that came is an event, and so is the end of the running timer (`Serves`).
+//! The records written are those of its frames, for exactly the parties for whom they are, and of its timers. The result
+//! lines are the answers that were accepted to these calls, in order, and the complaints about refused lines. At a fault
+//! this holds up to some input; if writing failed, of fronts of the texts.
 //!
 //! The loop is generic over the client ([`Caller`]), and `client_cert`'s is one.
 //!

@@ -42,9 +42,9 @@ pub fn converse<C: Caller + Drop, L: Read + Drop, R: Read + Drop, F: Write, W: W
     frames: &mut F,
     results: &mut W,
 ) -> Result<(), ConverseFault>
-    ensures { (c : Configuration) → C.fits client c []
+    ensures { (c : Configuration) (start : ℕ) → C.fits client c start []
         → IfSome (L.remaining script) (λ text. IfSome (R.remaining records) (λ bytes.
-        EndsConversing c (C.me client) result text bytes
+        EndsConversing c (C.me client) start result text bytes
         (scene_of F.contents W.contents frames.old results.old)
         (scene_of F.contents W.contents frames.new results.new))) }
 {

@@ -1,5 +1,5 @@
 -- The request of a subcommand, by the arguments and options that were found.
-use Rattle.std.specs.Prelude.{◌≡◌, ◌↔◌, ◌⊎◌, ◌^◌, ◌-◌, ℕ, Bool, true, false, List, [], Option, Some, MatchOption, codes, option_map, unwrap_or, ⊤}
+use Rattle.std.specs.Prelude.{◌≡◌, ◌↔◌, ◌⊎◌, ◌^◌, ◌-◌, ℕ, Bool, true, false, List, [], Option, Some, None, MatchOption, codes, option_map, unwrap_or, ⊤}
 use Rattle.clap.specs.Matches.{found_of, first_value, matched_of, one_text, raw_values}
 use Rattle.clap.specs.declared.parser.matches.ArgMatches.{ArgMatches}
 use Rattle.command_line.specs.Drills.{AreDrills}
@@ -9,7 +9,7 @@ use Rattle.command_line.specs.declared.Positions.{Positions}
 use Rattle.command_line.specs.declared.Printed.{Printed}
 use Rattle.command_line.specs.declared.Printed.TheVariants.{Report, Trace, Picture}
 use Rattle.command_line.specs.declared.Request.{Request}
-use Rattle.command_line.specs.declared.Request.TheVariants.{Local, Show, Run, Schedule, Keys, Replica}
+use Rattle.command_line.specs.declared.Request.TheVariants.{Local, Show, Run, Schedule, Keys, Replica, Client}
 use Rattle.command_line.specs.declared.SpaceVersion.{SpaceVersion}
 use Rattle.command_line.specs.declared.SpaceVersion.TheVariants.{Two}
 use Rattle.std.specs.Str.Parse.{digits_value, without_leading_plus}
@@ -53,6 +53,14 @@ IsPrinted given (Picture positions) = (IsUnset given (codes "picture") → ⊥) 
 IsPrinted given Trace = (IsSet given (codes "picture") → ⊥) × (IsUnset given (codes "trace") → ⊥)
 IsPrinted given Report = (IsSet given (codes "picture") → ⊥) × (IsSet given (codes "trace") → ⊥)
 
+-- ---- where a client's life begins
+
+-- The number has the value of the option `--above`, or there is none. `clap` lets only numbers through.
+abbrev pub IsAbove : ArgMatches → Option ℕ → Type 0
+IsAbove given above =
+    MatchOption (one_text (found_of given) (codes "above")) (above ≡ None)
+    (λ text. (above ≡ Some (digits_value 10 (without_leading_plus text))) ⊎ (above ≡ None))
+
 -- ---- requests
 
 -- the values of the option `--drill`
@@ -73,6 +81,9 @@ IsRequest name given (Schedule config file printed) = (name ≡ codes "schedule"
 IsRequest name given (Keys config folder) = (name ≡ codes "keys")
     × HasValue given (codes "CONFIG") config.now × HasValue given (codes "FOLDER") folder.now
 IsRequest name given (Replica keys) = (name ≡ codes "replica") × HasValue given (codes "KEYS") keys.now
+IsRequest name given (Client keys records_in records_out above) = (name ≡ codes "client")
+    × HasValue given (codes "KEYS") keys.now × HasValue given (codes "IN") records_in.now
+    × HasValue given (codes "OUT") records_out.now × IsAbove given above
 
 -- ---- no request
 

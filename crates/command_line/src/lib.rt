@@ -15,7 +15,7 @@ mod drills;
 
 ghost use Rattle.std.specs.Prelude.{◌≡◌, ◌≢◌, ◌⊎◌, ◌^◌, ◌-◌, IfSome, codes};
 ghost use Rattle.clap.specs.Values.{kind_of};
-ghost use Rattle.command_line.specs.Requests.{ArePositions, AsksFor, IsFlag, IsPrinted, IsRequest, IsShown};
+ghost use Rattle.command_line.specs.Requests.{ArePositions, AsksFor, IsAbove, IsFlag, IsPrinted, IsRequest, IsShown};
 
 pub use crate::drills::{DrillKind, Drilled, Drills, MOST_DRILLS};
 use crate::drills::{DRILLS, drills_among};
@@ -60,6 +60,14 @@ pub enum Request<'a> {
     /// Serve the replica whose file of keys stands at this path.
     Replica {
         keys: &'a str,
+    },
+    /// Serve the client whose file of keys stands at this path, over the records that the second path has and that the
+    /// third one takes. Its life begins above this timestamp, or above that of the clock.
+    Client {
+        keys: &'a str,
+        records_in: &'a str,
+        records_out: &'a str,
+        above: Option<u64>,
     },
 }
 
@@ -177,6 +185,13 @@ fn request_in<'a>(name: &str, given: &ArgMatches<'a>) -> Option<Request<'a>>
         Some(Request::Replica {
             keys: given.get_str("KEYS")?,
         })
+    } else if name == "client" {
+        Some(Request::Client {
+            keys: given.get_str("KEYS")?,
+            records_in: given.get_str("IN")?,
+            records_out: given.get_str("OUT")?,
+            above: above_of(given),
+        })
     } else {
         None
     }
@@ -222,6 +237,12 @@ fn positions_of(given: &ArgMatches<'_>) -> Positions
     }
 }
 
+fn above_of(given: &ArgMatches<'_>) -> Option<u64>
+    ensures { IsAbove given.now result }
+{
+    given.get_one::<u64>("above")
+}
+
 fn program<'a>(alloc: Global) -> Result<Command<'a>, AllocError> {
     let program = Command::new(alloc, "btspace")
         .version("0.1.0")
@@ -232,6 +253,7 @@ fn program<'a>(alloc: Global) -> Result<Command<'a>, AllocError> {
     let program = with_subcommand(program, schedule(alloc))?;
     let program = with_subcommand(program, keys(alloc))?;
     let program = with_subcommand(program, replica(alloc))?;
+    let program = with_subcommand(program, client(alloc))?;
     with_subcommand(program, show(alloc))
 }
 
@@ -382,6 +404,36 @@ fn replica<'a>(alloc: Global) -> Result<Command<'a>, AllocError> {
             "KEYS",
             "The file of the replica's keys, as keys writes it",
         ))
+}
+
+const LIVES: &str =
+    "It calls the operations of the lines on standard input, and prints a line for each: the result, or ! and why the line
+is refused. Something else has to carry records between the parties: they are read at IN and written to OUT, which are
+named pipes or /dev/fd/N. A client that is started again has to begin above all its earlier timestamps. By the clock it
+does, unless that is set back.";
+
+fn client<'a>(alloc: Global) -> Result<Command<'a>, AllocError> {
+    Command::new(alloc, "client")
+        .about("Serves a client by the file of its keys, over a script and records")
+        .after_help(LIVES)
+        .arg(above_option(alloc))?
+        .arg(required(
+            alloc,
+            "KEYS",
+            "The file of the client's keys, as keys writes it",
+        ))?
+        .arg(required(alloc, "IN", "The file from which it reads records"))?
+        .arg(required(alloc, "OUT", "The file to which it writes records"))
+}
+
+fn above_option<'a>(alloc: Global) -> Arg<'a> {
+    Arg::new(alloc, "above")
+        .long("above")
+        .value_name("TIMESTAMP")
+        .value_parser(value_parser!(u64))
+        .help(
+            "Begin above this timestamp, below 2^62 [default: the milliseconds since 1970, times 2^20]",
+        )
 }
 
 fn show<'a>(alloc: Global) -> Result<Command<'a>, AllocError> {

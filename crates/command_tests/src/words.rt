@@ -102,7 +102,7 @@ struct Row {
     errors: &'static str,
 }
 
-static ROWS: [Row; 22] = [
+static ROWS: [Row; 24] = [
     Row {
         words: &["btspace", "--help"],
         why: NoWords::Shown,
@@ -116,6 +116,7 @@ Commands:
   schedule  Runs a schedule in a world of replicas and clients and prints what was accepted
   keys      Writes a file for each party, with the keys that it may have
   replica   Serves a replica by the file of its keys, over records
+  client    Serves a client by the file of its keys, over a script and records
   show      Prints the tuple that is encoded by these bytes
   help      Print this message or the help of the given subcommand(s)
 
@@ -138,6 +139,7 @@ Commands:
   schedule  Runs a schedule in a world of replicas and clients and prints what was accepted
   keys      Writes a file for each party, with the keys that it may have
   replica   Serves a replica by the file of its keys, over records
+  client    Serves a client by the file of its keys, over a script and records
   show      Prints the tuple that is encoded by these bytes
   help      Print this message or the help of the given subcommand(s)
 
@@ -188,7 +190,7 @@ Options:
         why: NoWords::Wrong,
         output: "",
         errors: "error: 'btspace' requires a subcommand but one was not provided
-  [subcommands: local, run, schedule, keys, replica, show, help]
+  [subcommands: local, run, schedule, keys, replica, client, show, help]
 
 Usage: btspace <COMMAND>
 
@@ -331,6 +333,27 @@ For more information, try '--help'.
         why: NoWords::Wrong,
         output: "",
         errors: "error: invalid value 'last' for '--to <POSITION>': invalid digit found in string
+
+For more information, try '--help'.
+",
+    },
+    Row {
+        words: &["btspace", "client", "c0.toml", "in"],
+        why: NoWords::Wrong,
+        output: "",
+        errors: "error: the following required arguments were not provided:
+  <OUT>
+
+Usage: btspace client <KEYS> <IN> <OUT>
+
+For more information, try '--help'.
+",
+    },
+    Row {
+        words: &["btspace", "client", "--above", "now", "a", "b", "c"],
+        why: NoWords::Wrong,
+        output: "",
+        errors: "error: invalid value 'now' for '--above <TIMESTAMP>': invalid digit found in string
 
 For more information, try '--help'.
 ",
@@ -561,6 +584,34 @@ fn reads_the_words_of_schedule(rt: HostRuntime) {
     ];
     let some = Positions { from: 7, to: 19 };
     assert!(rt; asks_for_schedule(alloc, &words, Printed::Picture(some)));
+}
+
+fn asks_for_client(alloc: Global, words: &[&str], above: Option<u64>) -> bool {
+    let request = Request::Client {
+        keys: "c0.toml",
+        records_in: "in",
+        records_out: "out",
+        above,
+    };
+    asks_for(alloc, words, request)
+}
+
+#[test]
+fn reads_the_words_of_client(rt: HostRuntime) {
+    let alloc = rt.alloc();
+    let words = ["btspace", "client", "c0.toml", "in", "out"];
+    assert!(rt; asks_for_client(alloc, &words, None));
+    let words = ["btspace", "client", "c0.toml", "in", "--above", "0", "out"];
+    assert!(rt; asks_for_client(alloc, &words, Some(0)));
+    let words = [
+        "btspace",
+        "client",
+        "--above=18446744073709551615",
+        "c0.toml",
+        "in",
+        "out",
+    ];
+    assert!(rt; asks_for_client(alloc, &words, Some(u64::MAX)));
 }
 
 #[test]

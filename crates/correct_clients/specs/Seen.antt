@@ -4,7 +4,7 @@ use Rattle.tuple_codec.specs.Operations.{Outcome}
 use Rattle.protocol.specs.System.Configuration.{Configuration, IsConfiguration, is_correct_client}
 use Rattle.protocol.specs.System.Trace.{Entry, Once, Has, Unforged}
 use Rattle.protocol.specs.System.Texts.{NoCollision}
-use Rattle.protocol.specs.System.Run.{IsRun}
+use Rattle.protocol.specs.System.Run.{IsRunOfLives}
 use Rattle.protocol.specs.Space.Linear.{Item, Legal, Invokes, Accepts, NoneTwice, Placed, points}
 
 -- The items cover what correct clients did. Each answer that a correct client accepted has an item, with the operation
@@ -24,14 +24,15 @@ pub record IsLinearToClients (c : Configuration) (items : List Item) (trace : Li
   pub covers : CoversClients c items trace
   pub placed : Placed c items trace
 
--- So are the points of each run of a valid configuration, under the premises of the headline.
+-- So are the points of each run of a valid configuration, also if clients are started again, under the premises of the
+-- headline.
 abbrev pub PointsAreLinearToClients : Type 0
 PointsAreLinearToClients =
-    (c : Configuration) → IsConfiguration c → (trace : List Entry) → IsRun c trace → Unforged c trace
+    (c : Configuration) → IsConfiguration c → (trace : List Entry) → IsRunOfLives c trace → Unforged c trace
     → NoCollision c trace → IsLinearToClients c (points c trace) trace
 
 -- So each such run has items like these.
 abbrev pub RunsAreLinearToClients : Type 0
 RunsAreLinearToClients =
-    (c : Configuration) → IsConfiguration c → (trace : List Entry) → IsRun c trace → Unforged c trace
+    (c : Configuration) → IsConfiguration c → (trace : List Entry) → IsRunOfLives c trace → Unforged c trace
     → NoCollision c trace → (items : List Item) × IsLinearToClients c items trace

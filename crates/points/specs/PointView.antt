@@ -17,6 +17,7 @@ item_of p =
       position = p.position;
     }
 
+-- the items of these points, in their order
 abbrev pub items_of : List Point → List Item
 items_of points = map item_of points
 

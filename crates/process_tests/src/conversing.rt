@@ -23,7 +23,7 @@ impl Caller for Made {
     ghost me = { λ _. 0 };
 
     // Nothing is claimed of it.
-    ghost fits = { λ _ _ _. ⊥ };
+    ghost fits = { λ _ _ _ _. ⊥ };
 
     fn call(&mut self, alloc: Global, op: Op<Global>) -> Result<Outputs, Stop> {
         drop(op);
@@ -47,7 +47,7 @@ impl Caller for Made {
         sent(alloc, &all()[1..2], b"t")
     }
 
-    ghost is_right = { λ caller c history h. absurd h };
+    ghost is_right = { λ caller c start history h. absurd h };
 }
 
 impl Made {

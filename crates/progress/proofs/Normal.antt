@@ -139,7 +139,7 @@ pub in_either : (c : Configuration) (k : ℕ) (call : OpenCall) (again later sta
     → (open_call (history_of (256 + k) (later ++ start)) ≡ Some call → (answer : Outcome) × HasEntry (Accepted k call.timestamp answer) again)
     → (answer : Outcome) × HasEntry (Accepted k call.timestamp answer) (again ++ later)
 in_either c k call again later start right opened next =
-    go (open_or_accepted c k call (history_of (256 + k) start) opened (history_of (256 + k) later) 
+    go (open_or_accepted c k call (history_of (256 + k) start) opened (history_of (256 + k) later)
     (subst (LivesOnce c (256 + k)) (history_append (256 + k) later start) (lives_once c (256 + k) (history_of (256 + k) (later ++ start)) right)))
   where
     go : Accepting k call.timestamp (history_of (256 + k) later) ⊎ (open_call (history_of (256 + k) later ++ history_of (256 + k) start) ≡ Some call)

@@ -5,13 +5,13 @@ use Rattle.protocol.specs.System.Configuration.{Configuration}
 use Rattle.party_keys.specs.Dealing.{keys_of}
 use Rattle.party_keys.specs.PartyData.{PartyData}
 use Rattle.party_keys.specs.Reading.{SaysFile}
+use Rattle.keys_file.specs.Reading.{RefusesText}
 use Rattle.replica.specs.Fits.{Fits, me_of}
 use Rattle.replica.specs.State.{ReplicaData, has_stopped}
 use Rattle.replica_process.specs.Endings.{EndsServing}
 use Rattle.replica_process.specs.declared.fault.ServeFault.{ServeFault}
-use Rattle.replica_command.specs.Reading.{IsNoFile}
 use Rattle.replica_command.specs.declared.fault.ReplicaFault.{ReplicaFault}
-use Rattle.replica_command.specs.declared.fault.ReplicaFault.TheVariants.{File, Client, NoMemory, Read, Serve}
+use Rattle.replica_command.specs.declared.fault.ReplicaFault.TheVariants.{Keys, Client, NoMemory, Serve}
 
 -- The configuration gives its party these keys. They don't tell who is faulty there.
 abbrev pub Gives : Configuration → PartyData → Type 0
@@ -41,9 +41,8 @@ abbrev pub EndsByFile : List ℕ → Result (Unit {0}) ReplicaFault → Option (
 EndsByFile text (Ok done) known old new = (k : PartyData) × SaysFile text k × ServesAs k (Ok done) known old new
 EndsByFile text (Err (Serve fault)) known old new = (k : PartyData) × SaysFile text k × ServesAs k (Err fault) known old new
 EndsByFile text (Err (Client number last)) known old new = (k : PartyData) × SaysFile text k × RefusesClient k number old new
-EndsByFile text (Err (File fault)) known old new = IsNoFile text × (new ≡ old)
+EndsByFile text (Err (Keys fault)) known old new = RefusesText text fault × (new ≡ old)
 EndsByFile text (Err NoMemory) known old new = new ≡ old
-EndsByFile text (Err (Read error)) known old new = new ≡ old
 EndsByFile text (Err _) known old new = ⊥
 
 -- ---- for the private functions

@@ -2,6 +2,7 @@
 
 use crate::fault::{ReplicaFault, end_replica};
 use crate::serving::serve_file;
+use keys_file::KeysFault;
 use one_space::is_standard_input;
 use std::rt::Files;
 use std::{fs, io};
@@ -24,6 +25,6 @@ fn serve_at<R: Files + Input + Print + AllocGlobal>(
     }
     match fs::open(rt, keys) {
         Ok(file) => serve_file(rt.alloc(), file, rt.reader(), &mut io::writer(rt)),
-        Err(error) => Err(ReplicaFault::of_read(error)),
+        Err(error) => Err(ReplicaFault::Keys(KeysFault::of_read(error))),
     }
 }

@@ -1,21 +1,20 @@
 //! Why a replica's process doesn't begin, or ends before its input does.
 
 ghost use Rattle.std.specs.Prelude.{◌≡◌};
-ghost use Rattle.replica_command.specs.Faults.{IsComplaint, IsReadFault, IsServeComplaint, status_of};
+ghost use Rattle.replica_command.specs.Faults.{IsComplaint, IsServeComplaint, status_of};
 
+use keys_file::KeysFault;
 use one_space::{Complaint, StandardError, complain};
-use party_keys::FileFault;
 use replica_process::ServeFault;
-use std::io;
 use terms::NoMemory;
 use thiserror::Error;
 
 /// Why a replica's process doesn't begin, or ends before its input does. What is shown of it stands on one line.
 #[derive(Debug, Drop, Error)]
 pub enum ReplicaFault {
-    /// The text is the file of no party.
+    /// No party's keys were read.
     #[error("{0}")]
-    File(FileFault),
+    Keys(KeysFault),
     /// The file is a client's.
     #[error("`party` is {number}, and has to be from 0 to {last_replica}")]
     Client { number: u16, last_replica: u8 },
@@ -24,36 +23,21 @@ pub enum ReplicaFault {
     StandardInput,
     #[error("out of memory")]
     NoMemory,
-    /// The file was not read.
-    #[error("{0}")]
-    Read(io::Error),
     /// The replica began, and its process ended before the input did.
     #[error("{0}")]
     Serve(ServeFault),
 }
 
 impl ReplicaFault {
-    /// The fault of a file that can't be opened or read.
-    pub fn of_read(error: io::Error) -> ReplicaFault
-        ensures { IsReadFault result }
-    {
-        if error.kind() == io::ErrorKind::OutOfMemory {
-            ReplicaFault::NoMemory
-        } else {
-            ReplicaFault::Read(error)
-        }
-    }
-
     /// The complaint about this fault, where the party's file stands at this path.
     pub fn complaint<'a>(&self, keys: &'a str) -> Complaint<'a>
         ensures { IsComplaint self.now keys.now result }
     {
         match self {
-            ReplicaFault::File(_) => Complaint::Configuration,
+            ReplicaFault::Keys(fault) => fault.complaint(keys),
             ReplicaFault::Client { .. } => Complaint::Configuration,
             ReplicaFault::StandardInput => Complaint::Unreadable { path: keys },
             ReplicaFault::NoMemory => Complaint::Stopped,
-            ReplicaFault::Read(_) => Complaint::Unreadable { path: keys },
             ReplicaFault::Serve(fault) => serve_complaint(fault),
         }
     }

@@ -6,7 +6,7 @@ ghost use Rattle.replica_command.specs.declared.fault.ReplicaFault.TheVariants a
 ghost use Rattle.replica_command.specs.Serving.{BeginsAs, EndsByFile, EndsByKeys};
 
 use crate::fault::ReplicaFault;
-use crate::reading::read_keys;
+use keys_file::read_keys;
 use party_keys::PartyKeys;
 use replica::{Numbers, Replica};
 use replica_process::serve;
@@ -28,8 +28,10 @@ pub fn serve_file<F: Read + Drop, R: Read + Drop, W: Write>(
     ensures { IfSome (F.remaining file) (λ text.
         EndsByFile text result (R.remaining reader) (W.contents writer.old) (W.contents writer.new)) }
 {
-    let keys = read_keys(alloc, file)?;
-    serve_replica(alloc, keys, reader, writer)
+    match read_keys(alloc, file) {
+        Ok(keys) => serve_replica(alloc, keys, reader, writer),
+        Err(fault) => Err(ReplicaFault::Keys(fault)),
+    }
 }
 
 /// Serves the replica that has these keys over the records of a reader, and writes records. It gets timeouts only while it

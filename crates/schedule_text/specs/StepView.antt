@@ -7,6 +7,7 @@ use Rattle.protocol.specs.System.Schedule.Step.{calls, deliver, feed, seal, sign
 use Rattle.schedule_text.specs.declared.step.Step.{Step}
 use Rattle.schedule_text.specs.declared.step.Step.TheVariants as steps
 
+-- the step of the model that a step of the program stands for
 abbrev pub step_of : Step → schedules.Step
 step_of (steps.Invoke client op) = calls client.number (operation_of op)
 step_of (steps.Deliver frame party) = deliver frame (party_number party)

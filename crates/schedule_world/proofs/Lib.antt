@@ -14,3 +14,4 @@ pub mod Stopping
 pub mod FirstFrame
 pub mod Concluding
 pub mod Entries
+pub mod Rows

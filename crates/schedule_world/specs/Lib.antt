@@ -1,3 +1,4 @@
+pub mod Faulty
 pub mod Laws
 pub mod Making
 pub mod Moving

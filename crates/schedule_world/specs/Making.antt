@@ -1,10 +1,14 @@
 -- The bytes of frames that faulty parties make.
-use Rattle.std.specs.Prelude.{ℕ, List, map, ◌++◌}
+use Rattle.std.specs.Prelude.{◌≡◌, ℕ, List, map, ◌++◌, box_value, Option}
+use Rattle.std.specs.Global.{Box}
+use Rattle.std.specs.Option.{ForSome}
 use Rattle.terms.specs.Parties.{party_number}
 use Rattle.terms.specs.declared.parties.Party.{Party}
 use Rattle.wire_format.specs.Messages.{macs, signature}
 use Rattle.wire_format.specs.Spelling.{piece, authenticator_spelling}
-use Rattle.authenticator.specs.Keys.{dealt, signing_seed}
+use Rattle.authenticator.specs.Dealing.{dealt_keys}
+use Rattle.authenticator.specs.Keys.{dealt, row, signing_seed}
+use Rattle.authenticator.specs.Membership.{Membership}
 use Rattle.authenticator.specs.Sealing.{entry_for}
 use Rattle.signing.specs.Signatures.{signature_of}
 
@@ -22,3 +26,11 @@ seed_of seed signer = signing_seed seed (party_number signer)
 abbrev pub signed_text : List ℕ → Party → ℕ → List ℕ → List ℕ
 signed_text seed signer leaf body =
     piece body ++ authenticator_spelling (signature (signature_of (seed_of seed signer) leaf body))
+
+-- The ring has the row that the seed gives the party.
+abbrev pub IsRowOf : List ℕ → Party → Membership → Type 0
+IsRowOf seed party ring = ring.keys ≡ row (dealt_keys seed ring.faults ring.clients (party_number party))
+
+-- A party has its row, and no key tree but its own.
+abbrev pub KeysAreOf : List ℕ → Party → Membership → Option (Box (List ℕ)) → Type 0
+KeysAreOf seed party ring tree = IsRowOf seed party ring × ForSome tree (λ t. box_value t ≡ seed_of seed party)

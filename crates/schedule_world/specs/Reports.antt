@@ -48,6 +48,7 @@ pub record StopsHere (c : Configuration) (steps : List Step) (n : ℕ) (before :
   pub is_step : slice_get steps n ≡ Some step
   pub refused : IsAllowed c world (step_of step) → ⊥
 
+-- The fault is right: a bad schedule stops at a step that is not allowed. A lack of memory promises nothing.
 abbrev pub FaultIsRight : Configuration → List Step → RunFault → Type 0
 FaultIsRight c steps (faults.BadSchedule n before) = StopsHere c steps n before
 FaultIsRight c steps faults.NoMemory = ⊤

@@ -17,11 +17,11 @@
 //!
 //! - `run` plays steps on a `Stage` (`src/stage.rt`): the correct replicas and clients, the trace, and a `Pool` of
 //!   frames. Each frame has the correct receivers that didn't get it yet, and shares its bytes with the trace.
-//! - Each party has a ring of its own keys, and the public keys; a replica has its own signer. Frames of faulty parties
-//!   are made under the keys that the seed gives their senders (`src/making.rt`).
+//! - Each party has a ring of its own keys, and the public keys; a replica has its own signer. Faulty parties seal and
+//!   sign by their own keys too (`src/faulty.rt`).
 //! - A step either moves the stage as the definitions' `World` moves (`Takes` in `specs/Moving.antt`, over `StepsLead`
 //!   of the protocol's `Schedule.antt`), or may not come (`IsAllowed`).
-//! - Beside the stage lies a tree of keys for each faulty replica that has signed (`ReplicaKeys` in `src/making.rt`).
+//! - Beside the stage lie the keys of each faulty party that has made a frame (`FaultyParty`).
 //! - `IsStanding` ties the stage to its trace: each correct replica and each correct client fits its part of the trace.
 //!   A party that gives outputs hands that on by its own contract (`HistoryStaysRight`). So nothing here looks into a
 //!   replica or a client.
@@ -29,6 +29,7 @@
 //!   linear in its deliveries.
 #![tactic(auto)]
 
+mod faulty;
 mod laws;
 mod making;
 mod pool;

@@ -11,7 +11,8 @@ ghost use Rattle.schedule_world.specs.Reporting.{IsReportOf};
 ghost use Rattle.schedule_world.specs.Reports.{ReportIsRight, FaultIsRight};
 ghost use Rattle.schedule_world.specs.Stages.{PartiesArePlaced, IsStanding};
 
-use crate::making::{ReplicaKeys, seal_bytes, sign_bytes};
+use crate::faulty::FaultyParty;
+use crate::making::{seal_bytes, sign_bytes};
 use crate::receivers::{is_correct, is_party, is_replica, may_receive};
 use crate::report::Report;
 use crate::stage::{Parties, Stage};
@@ -72,9 +73,9 @@ pub fn run(alloc: Global, config: &Config, steps: &[Step]) -> Result<Report, Run
     ensures stops { IfErr result (FaultIsRight config.now steps.now) }
 {
     let mut stage = Stage::new(alloc, config)?;
-    let mut keys = Vec::new(alloc);
+    let mut faulty = Vec::new(alloc);
     for (i, step) in steps.iter().enumerate() {
-        if !take_step(&mut stage, alloc, config, &mut keys, step)? {
+        if !take_step(&mut stage, alloc, config, &mut faulty, step)? {
             let before = report_of(stage, alloc, config)?;
             return Err(RunFault::BadSchedule { step: i, before });
         }
@@ -110,12 +111,13 @@ fn report_of(stage: Stage, alloc: Global, config: &Config) -> Result<Report, NoM
     })
 }
 
-// Plays a step, and returns whether it is allowed; one that is not changes nothing. Faulty replicas sign by the keys.
+// Plays a step, and returns whether it is allowed; one that is not changes nothing. Faulty parties seal and sign by their
+// own keys.
 fn take_step(
     stage: &mut Stage,
     alloc: Global,
     config: &Config,
-    keys: &mut Vec<ReplicaKeys>,
+    faulty: &mut Vec<FaultyParty>,
     step: &Step,
 ) -> Result<bool, NoMemory>
     requires placed { PartiesArePlaced config.now stage.old }
@@ -135,6 +137,7 @@ fn take_step(
             stage,
             alloc,
             config,
+            faulty,
             *sender,
             receivers.as_slice(),
             body.as_slice(),
@@ -148,7 +151,7 @@ fn take_step(
             stage,
             alloc,
             config,
-            keys,
+            faulty,
             *signer,
             *leaf,
             receivers.as_slice(),
@@ -227,6 +230,7 @@ fn seal(
     stage: &mut Stage,
     alloc: Global,
     config: &Config,
+    faulty: &mut Vec<FaultyParty>,
     sender: Party,
     receivers: &[Party],
     body: &[u8],
@@ -238,7 +242,7 @@ fn seal(
     if !is_party(config, sender) || is_correct(config, sender) || !may_receive(config, receivers) {
         return Ok(false);
     }
-    let bytes = seal_bytes(alloc, config.seed(), sender, receivers, body)?;
+    let bytes = seal_bytes(alloc, config, faulty, sender, receivers, body)?;
     stage.add_made(alloc, config, bytes, receivers)?;
     Ok(true)
 }
@@ -247,7 +251,7 @@ fn sign(
     stage: &mut Stage,
     alloc: Global,
     config: &Config,
-    keys: &mut Vec<ReplicaKeys>,
+    faulty: &mut Vec<FaultyParty>,
     signer: Party,
     leaf: u64,
     receivers: &[Party],
@@ -264,7 +268,7 @@ fn sign(
     if leaf >= u64::from(LEAVES) || !may_receive(config, receivers) {
         return Ok(false);
     }
-    let bytes = sign_bytes(alloc, keys, config.seed(), signer, leaf as u8, body)?;
+    let bytes = sign_bytes(alloc, config, faulty, signer, leaf as u8, body)?;
     stage.add_made(alloc, config, bytes, receivers)?;
     Ok(true)
 }

@@ -4,7 +4,7 @@ use crate::codes::is_code;
 use crate::frames::{
     CLIENT, SECOND_CLIENT, is_opened, is_worked, refusal, replica, sealed_for_all,
 };
-use authenticator::{OpenFault, Ring, SharedKey, deal};
+use authenticator::{OpenFault, Ring, SharedKey, deal, hmac};
 use sha2::{Digest, Sha256};
 use std::alloc::Global;
 use std::test::Fail;
@@ -187,6 +187,13 @@ fn opens_own(alloc: Global, bytes: &[u8], me: u8) -> Result<bool, Fail> {
     Ok(opens_alone(&mut ring, alloc, bytes, me)? && opens_alone(&mut shared, alloc, bytes, me)?)
 }
 
+// Whether a ring of what the seed gives the replica does so too. Its row is dealt at its first code.
+fn opens_dealt(alloc: Global, bytes: &[u8], me: u8) -> Result<bool, Fail> {
+    let mut ring = Ring::dealt(alloc, &seed(), 1, 2, replica(me));
+    let mut shared = ring.share()?;
+    Ok(opens_alone(&mut ring, alloc, bytes, me)? && opens_alone(&mut shared, alloc, bytes, me)?)
+}
+
 fn opens_alone(ring: &mut Ring, alloc: Global, bytes: &[u8], me: u8) -> Result<bool, Fail> {
     Ok(is_opened(ring, alloc, bytes, replica(me))? && refuses_others(ring, alloc, bytes, me)?)
 }
@@ -215,7 +222,39 @@ fn each_party_has_its_own_keys(rt: HostRuntime) -> Result<(), Fail> {
     assert!(rt; is_worked(&frame));
     for me in 0..4 {
         assert!(rt; opens_own(rt.alloc(), &frame, me)?);
+        assert!(rt; opens_dealt(rt.alloc(), &frame, me)?);
     }
+    Ok(())
+}
+
+// Whether the ring gives the code under this key.
+fn codes_by(ring: &mut Ring, shared: &SharedKey) -> bool {
+    match ring.shared_mac(shared.from, shared.to, b"text") {
+        Some(code) => code == hmac(&shared.key, b"text"),
+        None => false,
+    }
+}
+
+fn codes_by_all(ring: &mut Ring, keys: &[SharedKey]) -> bool {
+    for shared in keys {
+        if !codes_by(ring, shared) {
+            return false;
+        }
+    }
+    true
+}
+
+// Whether a ring of what the seed gives replica 2 has the keys of its row, and none between two others.
+fn has_own_codes(alloc: Global) -> Result<bool, NoMemory> {
+    let keys = deal(alloc, &seed(), 1, 2, replica(2))?;
+    let mut ring = Ring::dealt(alloc, &seed(), 1, 2, replica(2));
+    let is_apart = ring.shared_mac(0, 1, b"text").is_none();
+    Ok(is_apart && codes_by_all(&mut ring, &keys) && ring.shared_mac(257, 256, b"text").is_none())
+}
+
+#[test]
+fn codes_are_shared_by_two(rt: HostRuntime) -> Result<(), Fail> {
+    assert!(rt; has_own_codes(rt.alloc())?);
     Ok(())
 }
 

@@ -12,6 +12,7 @@ unfoldable pub secret : List ℕ → ℕ → ℕ → ℕ → List ℕ
 secret seed leaf bit value =
     hmac_of seed (to_be_bytes w16 leaf ++ to_be_bytes w16 bit ++ value ∷ [])
 
+-- the public hash of a bit's value under a leaf, by which verifiers recognize its secret
 unfoldable pub public_hash : List ℕ → ℕ → ℕ → ℕ → List ℕ
 public_hash seed leaf bit value = sha256 (secret seed leaf bit value)
 

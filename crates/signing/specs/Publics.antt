@@ -1,8 +1,6 @@
 -- The public keys of replicas, and their derivation from the seed of a configuration, which is this project's own.
 use Rattle.std.specs.Prelude.{ℕ, ◌+◌, ◌*◌, List, [], map, slice_index_or}
 use Rattle.std.specs.List.{range_with_len}
-use Rattle.terms.specs.Parties.{party_number}
-use Rattle.terms.specs.declared.parties.Party.{Party}
 use Rattle.authenticator.specs.Keys.{signing_seed}
 use Rattle.authenticator.specs.Membership.{Membership}
 use Rattle.signing.specs.Signatures.{public_key}

@@ -38,15 +38,19 @@ pub record IsSignature (signature : List ℕ) : Type 0 where
   pub whole : length signature ≡ 16577
   pub leaf : slice_index signature 0 < 64
 
+-- a secret or a hash in a signature, at this offset
 abbrev pub part : List ℕ → ℕ → List ℕ
 part signature at = take 32 (drop at signature)
 
+-- the secret that a signature shows for a bit
 abbrev pub shown_secret : List ℕ → ℕ → List ℕ
 shown_secret signature bit = part signature (1 + 64 * bit)
 
+-- the public hash that a signature shows for the other value of a bit
 abbrev pub shown_hash : List ℕ → ℕ → List ℕ
 shown_hash signature bit = part signature (33 + 64 * bit)
 
+-- the digest that a signature shows beside the leaf's path at a level
 abbrev pub shown_sibling : List ℕ → ℕ → List ℕ
 shown_sibling signature level = part signature (16385 + 32 * level)
 

@@ -1,6 +1,6 @@
 //! The public keys that a seed gives.
 
-ghost use Rattle.std.specs.Prelude.{◌≡◌, ◌≤◌, IfOk, IfSome, slice_get};
+ghost use Rattle.std.specs.Prelude.{◌≡◌, ◌≤◌, IfSome, slice_get};
 ghost use Rattle.authenticator.specs.Keys.{signing_seed};
 ghost use Rattle.signing.specs.Publics.{derived_publics};
 ghost use Rattle.signing.specs.Signatures.{public_key};
@@ -8,10 +8,9 @@ ghost use Rattle.terms.specs.Parties.{party_number};
 
 use crate::tree::KeyTree;
 use authenticator::signing_seed;
-use std::alloc::Global;
 use std::array;
-use std::sync::{Arc, OnceLock};
-use terms::{NoMemory, Party, ReplicaId};
+use std::sync::OnceLock;
+use terms::{Party, ReplicaId};
 
 /// The most replicas of a configuration.
 const MAX_REPLICAS: usize = 10;
@@ -43,32 +42,20 @@ impl Derived {
 pub(crate) struct Dealt {
     seed: [u8; 32],
     faults: u8,
-    kept: Arc<[OnceLock<Derived>; MAX_REPLICAS]>,
+    kept: [OnceLock<Derived>; MAX_REPLICAS],
     ghost few: { faults ≤ 3 },
 }
 
 impl Dealt {
-    pub(crate) fn new(alloc: Global, seed: &[u8; 32], faults: u8) -> Result<Dealt, NoMemory>
+    pub(crate) fn new(seed: &[u8; 32], faults: u8) -> Dealt
         requires { faults ≤ 3 }
-        ensures { IfOk result (λ d. derived_publics d.seed d.faults ≡ derived_publics seed.now faults) }
+        ensures { derived_publics result.seed result.faults ≡ derived_publics seed.now faults }
     {
-        let kept = Arc::new(alloc, array::from_fn(|_| OnceLock::new()))?;
-        Ok(Dealt {
+        Dealt {
             seed: *seed,
             faults,
-            kept,
-        })
-    }
-
-    /// The same keys for one more owner.
-    pub(crate) fn share(&self) -> Result<Dealt, NoMemory>
-        ensures { IfOk result (λ d. derived_publics d.seed d.faults ≡ derived_publics self.now.seed self.now.faults) }
-    {
-        Ok(Dealt {
-            seed: self.seed,
-            faults: self.faults,
-            kept: Arc::try_clone(&self.kept)?,
-        })
+            kept: array::from_fn(|_| OnceLock::new()),
+        }
     }
 
     /// The public key of a replica. Nobody else has one.

@@ -19,7 +19,7 @@ use wire::{Authenticator, Frame, body_bytes};
 // Where public keys come from.
 #[derive(Drop)]
 enum Origin {
-    Dealt(Dealt),
+    Dealt(Arc<Dealt>),
     Known(Arc<Vec<[u8; 32]>>),
 }
 
@@ -41,14 +41,14 @@ impl Model for PublicKeys {
 }
 
 impl PublicKeys {
-    /// The public keys that a seed gives the `3 * faults + 1` replicas, of which `faults`, at most 3, may be faulty. It derives nothing yet, and later calls take no
-    /// memory.
+    /// The public keys that a seed gives the `3 * faults + 1` replicas, of which `faults`, at most 3, may be faulty. It
+    /// derives nothing yet, and later calls take no memory. The seed lies in one place, whoever shares the keys.
     pub fn new(alloc: Global, seed: &[u8; 32], faults: u8) -> Result<PublicKeys, NoMemory>
         requires { faults ≤ 3 }
         ensures { IfOk result (λ keys. keys ≡ derived_publics seed.now faults) }
     {
         Ok(PublicKeys {
-            origin: Origin::Dealt(Dealt::new(alloc, seed, faults)?),
+            origin: Origin::Dealt(Arc::new(alloc, Dealt::new(seed, faults))?),
         })
     }
 
@@ -66,7 +66,7 @@ impl PublicKeys {
         ensures { IfOk result (λ keys. keys ≡ self.now) }
     {
         let origin = match &self.origin {
-            Origin::Dealt(dealt) => Origin::Dealt(dealt.share()?),
+            Origin::Dealt(dealt) => Origin::Dealt(Arc::try_clone(dealt)?),
             Origin::Known(keys) => Origin::Known(Arc::try_clone(keys)?),
         };
         Ok(PublicKeys { origin })

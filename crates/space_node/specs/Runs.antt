@@ -85,6 +85,7 @@ pub record TellsOther (trace : List Entry) (shares : List PartyState) (stopped :
   pub lacks : LacksHistory trace shares p ⊎ LacksHistory trace clients p
   pub named : AreNamed stopped shares clients
 
+-- The fault is right: the trace has another history of the named party. A lack of memory promises nothing.
 abbrev pub TellsFault : {N : Type 0} → FinishFault N → List PartyState → Type 0
 TellsFault (faults.NotInJournal run party) clients =
     TellsOther (reverse run.trace.items) run.shares.items (map party_number run.stopped.items) clients

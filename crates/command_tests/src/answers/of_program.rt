@@ -2,7 +2,7 @@
 
 pub const ANSWERS: &str = r#"$ btspace
 error: 'btspace' requires a subcommand but one was not provided
-  [subcommands: local, run, schedule, keys, replica, show, help]
+  [subcommands: local, run, schedule, keys, replica, client, show, help]
 
 Usage: btspace <COMMAND>
 
@@ -20,6 +20,7 @@ Commands:
   schedule  Runs a schedule in a world of replicas and clients and prints what was accepted
   keys      Writes a file for each party, with the keys that it may have
   replica   Serves a replica by the file of its keys, over records
+  client    Serves a client by the file of its keys, over a script and records
   show      Prints the tuple that is encoded by these bytes
   help      Print this message or the help of the given subcommand(s)
 
@@ -104,6 +105,14 @@ error: unrecognized subcommand 'relpica'
 Usage: btspace <COMMAND>
 
 For more information, try '--help'.
+$ btspace [clientt]
+error: unrecognized subcommand 'clientt'
+
+  tip: a similar subcommand exists: 'client'
+
+Usage: btspace <COMMAND>
+
+For more information, try '--help'.
 $ btspace [showw]
 error: unrecognized subcommand 'showw'
 
@@ -164,6 +173,14 @@ $ btspace -- replica
 error: unexpected argument 'replica' found
 
   tip: subcommand 'replica' exists; to use it, remove the '--' before it
+
+Usage: btspace <COMMAND>
+
+For more information, try '--help'.
+$ btspace -- client
+error: unexpected argument 'client' found
+
+  tip: subcommand 'client' exists; to use it, remove the '--' before it
 
 Usage: btspace <COMMAND>
 
@@ -282,6 +299,24 @@ Options:
 
 It reads records from standard input and writes records to standard output: frames that come and go, and timers.
 Something else has to carry them between the parties. It ends with its input.
+$ btspace help client
+Serves a client by the file of its keys, over a script and records
+
+Usage: btspace client [OPTIONS] <KEYS> <IN> <OUT>
+
+Arguments:
+  <KEYS>  The file of the client's keys, as keys writes it
+  <IN>    The file from which it reads records
+  <OUT>   The file to which it writes records
+
+Options:
+      --above <TIMESTAMP>  Begin above this timestamp, below 2^62 [default: the milliseconds since 1970, times 2^20]
+  -h, --help               Print help
+
+It calls the operations of the lines on standard input, and prints a line for each: the result, or ! and why the line
+is refused. Something else has to carry records between the parties: they are read at IN and written to OUT, which are
+named pipes or /dev/fd/N. A client that is started again has to begin above all its earlier timestamps. By the clock it
+does, unless that is set back.
 $ btspace help show
 Prints the tuple that is encoded by these bytes
 
@@ -352,6 +387,14 @@ $ btspace [--too] schedule
 error: unexpected argument '--too' found
 
   tip: 'schedule --to' exists
+
+Usage: btspace <COMMAND>
+
+For more information, try '--help'.
+$ btspace [--abovee] client
+error: unexpected argument '--abovee' found
+
+  tip: 'client --above' exists
 
 Usage: btspace <COMMAND>
 

@@ -88,6 +88,7 @@ change_taken c v s bytes =
     option_map_or (λ x. if (x.0 == s) && nat_lt v x.1.view && is_within c x.1 then x.1.view else 0)
     (signed_change c bytes) 0
 
+-- the view of replica s's view change that the party receives in this entry, if it counts; else 0
 abbrev pub change_at : Configuration → List Entry → Entry → ℕ → ℕ
 change_at c past (Got p bytes) s = change_taken c (view c past) s bytes
 change_at c past _ s = 0
@@ -144,15 +145,17 @@ is_stable c me past checkpoint =
 
 -- ---- the low mark
 
--- the number that an entry makes stable, else 0; the number that it installs; the start of the new view that it takes
+-- the number of the checkpoint that an entry makes stable, else 0
 abbrev pub stable_at : Configuration → ℕ → List Entry → Entry → ℕ
 stable_at c me past e =
     option_map_or (λ x. if is_stable c me (e ∷ past) x.1 then x.1.number else 0) (checkpoint_in c e) 0
 
+-- the number of the state that the replica installs in this entry, else 0
 abbrev pub installed_at : Entry → ℕ
 installed_at (Installed replica number root) = number
 installed_at _ = 0
 
+-- the start of the new view that the replica takes or sends in this entry, else 0
 abbrev pub started_at : Configuration → List Entry → Entry → ℕ
 started_at c past e = option_map_or (λ new. new.start) (taken c past e) 0
 
@@ -191,12 +194,12 @@ abbrev pub assigned_batch : ℕ → ℕ → NewViewData → Option (List ℕ)
 assigned_batch v i new =
     if (new.view == v) && nat_lt new.start i then slice_get new.batches (i - new.start - 1) else None
 
--- the batch that a new view in this entry pre-prepares in view v for number i, if i is within the marks then; and the
--- batch that a pre-prepare in this entry does
+-- the batch that a new view in this entry pre-prepares in view v for number i, if i is within the marks then
 abbrev pub assigned_proposal : Configuration → ℕ → List Entry → Entry → ℕ → ℕ → Option (List ℕ)
 assigned_proposal c me past e v i = if is_in_marks c (low c me (e ∷ past)) i then
     option_and_then (assigned_batch v i) (taken c past e) else None
 
+-- the batch that a pre-prepare in this entry pre-prepares in view v for number i, if the message counts
 abbrev pub entry_proposal : Configuration → ℕ → List Entry → Entry → ℕ → ℕ → Option (List ℕ)
 entry_proposal c me past e v i =
     if counts_at c me past e v i then option_and_then (batch_from c me v i) (brought c e) else None
@@ -209,7 +212,7 @@ proposal c me past e v i = or_else (assigned_proposal c me past e v i) (entry_pr
 unfoldable pub logged : Configuration → ℕ → List Entry → ℕ → ℕ → Option (List ℕ)
 logged c me past v i = first_given (λ earlier e. proposal c me earlier e v i) past
 
--- the digest in a prepare by replica s as a backup of view v, and in a commit by s
+-- the digest in a prepare for number i by replica s as a backup of view v
 abbrev pub prepare_from : Configuration → ℕ → ℕ → ℕ → Body → Option (List ℕ)
 prepare_from c s v i body = elim body.message [
   | Prepare view number digest ↦
@@ -217,6 +220,7 @@ prepare_from c s v i body = elim body.message [
   | _ ↦ None
 ]
 
+-- the digest in a commit for number i by replica s in view v
 abbrev pub commit_from : ℕ → ℕ → ℕ → Body → Option (List ℕ)
 commit_from s v i body = elim body.message [
   | Commit view number digest ↦ then_some ((body.sender == s) && (view == v) && (number == i)) digest
@@ -227,10 +231,11 @@ commit_from s v i body = elim body.message [
 abbrev pub vote_in : Configuration → ℕ → List Entry → Entry → (Body → Option (List ℕ)) → ℕ → ℕ → Option (List ℕ)
 vote_in c me past e vote v i = if counts_at c me past e v i then option_and_then vote (brought c e) else None
 
--- the first digest that replica s prepared, or committed, in view v for number i
+-- the first digest that replica s prepared in view v for number i
 unfoldable pub prepare_of : Configuration → ℕ → List Entry → ℕ → ℕ → ℕ → Option (List ℕ)
 prepare_of c me past v i s = first_given (λ earlier e. vote_in c me earlier e (prepare_from c s v i) v i) past
 
+-- the first digest that replica s committed in view v for number i
 unfoldable pub commit_of : Configuration → ℕ → List Entry → ℕ → ℕ → ℕ → Option (List ℕ)
 commit_of c me past v i s = first_given (λ earlier e. vote_in c me earlier e (commit_from s v i) v i) past
 

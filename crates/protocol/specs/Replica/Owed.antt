@@ -94,12 +94,13 @@ NumbersOnce c me past _ = ⊤
 
 -- ---- the digests that the parts of a transfer must have (Castro and Liskov, TOCS 2002, on state transfer)
 
--- the root's digests tell the wanted digest of an inner part, and the inner part's digests that of a page
+-- The root's digests tell the wanted digest of an inner part.
 abbrev pub IsInnerWanted : Configuration → ℕ → List Entry → ℕ → ℕ → List ℕ → Type 0
 IsInnerWanted c me past k index digest =
     (root : List ℕ) × (digests : List (List ℕ)) × IsRootWanted c past k root
     × GotBelow c me past levels.Root 0 root digests × (slice_get digests index ≡ Some digest)
 
+-- The digests of a page's inner part tell the wanted digest of the page.
 abbrev pub IsPageWanted : Configuration → ℕ → List Entry → ℕ → ℕ → List ℕ → Type 0
 IsPageWanted c me past k index digest =
     (inner : List ℕ) × (digests : List (List ℕ)) × IsInnerWanted c me past k (index / 32) inner

@@ -74,6 +74,7 @@ abbrev pub AtInput : (List Entry → Entry → Type 0) → List Entry → Type 0
 AtInput P [] = ⊥
 AtInput P (e ∷ past) = either (is_output e) (AtInput P past) (P past e)
 
+-- The entry is a tick: time goes by at its party.
 abbrev pub IsTick : Entry → Type 0
 IsTick e = elim e [ Tick p ↦ ⊤ | _ ↦ ⊥ ]
 
@@ -101,11 +102,12 @@ pub record Point : Type 0 where
 abbrev pub first_point : Point
 first_point = record { state = opening; snapshots = opening ∷ []; ran = []; waiting = [] }
 
--- A request that is received waits, if its timestamp is above its client's last and above that of the client's waiting
--- one, which it replaces.
+-- The request has a greater timestamp than the waiting one, if that is of the same client.
 abbrev pub is_newer : Call → Call → Bool
 is_newer call other = not (other.client == call.client) || nat_lt other.timestamp call.timestamp
 
+-- A request that is received waits, if its timestamp is above its client's last and above that of the client's waiting
+-- one, which it replaces.
 abbrev pub with_waiting : State → List Call → Call → List Call
 with_waiting st waiting call =
     if nat_lt (last_time st call.client) call.timestamp && list_all (is_newer call) waiting
@@ -356,12 +358,13 @@ digests_at st levels.Root index = inner_digests (pages_of st)
 digests_at st levels.Inner index = page_digests (pages_of st) index
 digests_at st levels.Page index = []
 
--- The digests, or the page, are a kept state's, and some replica sent a fetch for them.
+-- The digests are a kept state's, and some replica sent a fetch for them.
 abbrev pub MayMeta : Configuration → ℕ → List Entry → Point → ℕ → Level → ℕ → List (List ℕ) → Type 0
 MayMeta c me past point k level index digests =
     KeptState c me past point k
     (λ st. digests ≡ digests_at st level index) × ((s : ℕ) × WasAsked c me past s k level index)
 
+-- The page is a kept state's, and some replica sent a fetch for it.
 abbrev pub MayPage : Configuration → ℕ → List Entry → Point → ℕ → ℕ → List ℕ → Type 0
 MayPage c me past point k index text =
     KeptState c me past point k (λ st. text ≡ page_text st index) × ((s : ℕ) × WasAsked c me past s k levels.Page index)

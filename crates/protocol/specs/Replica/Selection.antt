@@ -51,17 +51,19 @@ count_in c test set = count_below (passes_by test set) (replicas c)
 
 -- ---- a view change within its bounds: views in it are below its own, numbers within its marks, and all below 2^48
 
--- an entry of a P or Q set is within the bounds of its view change; so is a checkpoint entry; and so is the whole
+-- An entry of a P or Q set is within the bounds of its view change.
 abbrev pub is_batch_entry_within : Configuration → ViewChangeData → BatchEntry → Bool
 is_batch_entry_within c vc batch_entry =
     nat_lt batch_entry.view vc.view && nat_lt vc.low batch_entry.number && nat_le batch_entry.number (vc.low + span c)
     && is_number batch_entry.number
 
+-- A checkpoint of the C set is within the bounds of its view change.
 abbrev pub is_checkpoint_within : Configuration → ViewChangeData → CheckpointEntry → Bool
 is_checkpoint_within c vc checkpoint =
     nat_le vc.low checkpoint.number && nat_le checkpoint.number (vc.low + span c) && (checkpoint.number % c.period == 0)
     && is_number checkpoint.number
 
+-- The view change is within its bounds, with all entries of its sets.
 abbrev pub is_within : Configuration → ViewChangeData → Bool
 is_within c vc = is_number vc.view && is_number vc.low
     && list_all (is_batch_entry_within c vc) vc.prepared && list_all (is_batch_entry_within c vc) vc.pre_prepared

@@ -121,6 +121,7 @@ pub record IsReplicatedState (st : State) : Type 0 where
 
 -- ---- pages: first those of tuples, then one for the reply to each client, then the header; all others are empty
 
+-- the index of the header's page, behind the pages of tuples and those of replies
 abbrev pub header_page : ℕ
 header_page = TUPLE_PAGES + MAX_CLIENTS
 
@@ -136,9 +137,10 @@ page_text st page =
 unfoldable pub all_pages : (ℕ → List ℕ) → List (List ℕ)
 all_pages page = map page (range_with_len 0 PAGES)
 
--- the pages of a state, and the root of the tree over them, which a checkpoint has
+-- the pages of a state
 abbrev pub pages_of : State → List (List ℕ)
 pages_of st = all_pages (page_text st)
 
+-- the root of the partition tree over a state's pages, which a checkpoint has
 abbrev pub root_of : State → List ℕ
 root_of st = root_of_pages (pages_of st)

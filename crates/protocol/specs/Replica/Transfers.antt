@@ -38,6 +38,7 @@ asked_last (_ ∷ past) = asked_last past
 
 -- ---- the pages that were taken
 
+-- The level is that of pages, the leaves of the partition tree.
 abbrev pub is_page_level : Level → Bool
 is_page_level levels.Page = true
 is_page_level _ = false

@@ -30,10 +30,11 @@ pub record Item : Type 0 where
 
 -- ---- legal
 
--- the answer that the space gives to the item, and the contents that it leaves
+-- the answer that the space gives to the item
 abbrev pub item_outcome : Contents → Item → Outcome
 item_outcome ts item = outcome ts (client_number item.client) item.op
 
+-- the contents that the item leaves in the space
 abbrev pub item_after : Contents → Item → Contents
 item_after ts item = tuples_after ts (client_number item.client) item.op
 
@@ -227,11 +228,12 @@ comes_before x y =
     && (nat_lt x.item.client y.item.client || ((x.item.client == y.item.client)
     && nat_le x.item.timestamp y.item.timestamp)))))))
 
--- inserts a point into a sorted list, and sorts a list; equal points keep their order
+-- a sorted list with one more point, ahead of those that are equal to it
 abbrev pub insert_point : Placing → List Placing → List Placing
 insert_point x [] = x ∷ []
 insert_point x (y ∷ ys) = if comes_before x y then x ∷ y ∷ ys else y ∷ insert_point x ys
 
+-- the points of a list, sorted; equal points keep their order
 abbrev pub sorted : List Placing → List Placing
 sorted [] = []
 sorted (x ∷ xs) = insert_point x (sorted xs)

@@ -49,22 +49,27 @@ pub record IsConfiguration (c : Configuration) : Type 0 where
 
 -- ---- parties: replica r is the party r, client k the party 256 + k
 
--- whether a party is a replica, or a client; a faulty replica, or a correct one; a correct client; or correct at all
+-- The party is one of the 3f + 1 replicas.
 abbrev pub is_replica : Configuration → ℕ → Bool
 is_replica c p = is_member_replica (signers c) p
 
+-- The party is one of the clients.
 abbrev pub is_client : Configuration → ℕ → Bool
 is_client c p = is_member_client (signers c) p
 
+-- The party is one of the faulty replicas.
 abbrev pub is_faulty_replica : Configuration → ℕ → Bool
 is_faulty_replica c = member c.faulty_replicas
 
+-- The party is a correct replica: one that is not faulty.
 abbrev pub is_correct_replica : Configuration → ℕ → Bool
 is_correct_replica c p = is_replica c p && not (member c.faulty_replicas p)
 
+-- The party is a correct client: one that is not faulty.
 abbrev pub is_correct_client : Configuration → ℕ → Bool
 is_correct_client c p = is_client c p && not (member c.faulty_clients (client_number p))
 
+-- The party is correct: a correct replica or a correct client.
 abbrev pub is_correct : Configuration → ℕ → Bool
 is_correct c p = is_correct_replica c p || is_correct_client c p
 

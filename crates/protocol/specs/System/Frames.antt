@@ -27,6 +27,7 @@ abbrev pub leaf_in : Authenticator → Option ℕ
 leaf_in (macs entries) = None
 leaf_in (signature s) = slice_get s 0
 
+-- the leaf by which the frame that the bytes spell is signed, if it is signed
 abbrev pub leaf_of : List ℕ → Option ℕ
 leaf_of bytes = option_and_then (λ frame. leaf_in frame.authenticator) (frame_of bytes)
 

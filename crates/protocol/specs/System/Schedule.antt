@@ -50,12 +50,12 @@ made_by c (Sent p bytes) = record {
 } ∷ []
 made_by c _ = []
 
--- The bytes of a frame with MACs under the keys that the seed gives its sender, for whatever receivers; and of one signed
--- with a leaf of the replica's keys.
+-- the bytes of a frame with MACs under the keys that the seed gives its sender, for whatever receivers
 abbrev pub sealed_bytes : Configuration → ℕ → List ℕ → List ℕ → List ℕ
 sealed_bytes c sender receivers body =
     piece body ++ authenticator_spelling (macs (map (entry_for (dealt c.seed) sender body) receivers))
 
+-- the bytes of a frame that is signed with a leaf of the keys that the seed gives the replica
 abbrev pub signed_bytes : Configuration → ℕ → ℕ → List ℕ → List ℕ
 signed_bytes c replica leaf body =
     piece body ++ authenticator_spelling (signature (signature_of (signing_seed c.seed replica) leaf body))

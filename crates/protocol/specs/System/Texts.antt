@@ -16,10 +16,11 @@ use Rattle.protocol.specs.Replica.State.{opening, after_batches, page_text, all_
 use Rattle.protocol.specs.Replica.Transfers.{in_place}
 use Rattle.protocol.specs.Space.Linear.{reached}
 
--- the batches in a message; and the page, or the text of digests, in it
+-- the batches in a message
 abbrev pub batches_of : Message → List (List ℕ)
 batches_of message = elim message [ PrePrepare view number batch ↦ batch ∷ [] | NewView new ↦ new.batches | _ ↦ [] ]
 
+-- the page, or the text of digests, in a message
 abbrev pub parts_of : Message → List (List ℕ)
 parts_of message =
     elim message [ Meta number level index digests ↦ concat digests ∷ [] | Page number index text ↦ text ∷ [] | _ ↦ [] ]

@@ -64,10 +64,11 @@ either false one other = other
 
 -- ---- frames
 
--- the frames that a frame carries, which carry none themselves; and with them the frame itself
+-- the frames that a frame carries, which carry none themselves
 abbrev pub carried_by : List ℕ → List (List ℕ)
 carried_by bytes = option_map_or (λ body. carried body.message) (said bytes) []
 
+-- a frame, with those that it carries
 abbrev pub frames_in : List ℕ → List (List ℕ)
 frames_in bytes = bytes ∷ carried_by bytes
 
