@@ -37,7 +37,7 @@ def fault_of(row, program):
     node, fault = carrier()
     if fault:
         return NO_CARRIER
-    return rows.fault_of(row, cluster.Programs(node, program, rows.client_of(program)), SEED)[1]
+    return rows.fault_of(row, cluster.Programs(node, program), SEED)[1]
 
 
 def fault_of_try(page, program):

@@ -32,11 +32,10 @@ class Trouble(Exception):
 
 
 class Programs(NamedTuple):
-    """The carrier, the program, and what clients run: the program too, or one that stands in for it."""
+    """The carrier, and the program that is its child."""
 
     node: str
     btspace: str
-    client: str
 
 
 def free_ports(count):
@@ -190,8 +189,7 @@ class Cluster:
 
     def words(self, name, *more, btspace=None):
         kind = "replica" if name[0] == "r" else "client"
-        program = btspace or (self.programs.btspace if kind == "replica" else self.programs.client)
-        keys = self.room / "keys" / f"{name}.toml"
+        keys, program = self.room / "keys" / f"{name}.toml", btspace or self.programs.btspace
         return [self.programs.node, kind, self.hosts_of(name), keys, "--btspace", program, *more]
 
     def start(self, number):

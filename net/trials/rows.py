@@ -63,12 +63,6 @@ def build():
     return told([NET / "build"])
 
 
-def client_of(btspace):
-    """The program, if it has a word for clients, or else what stands in for it."""
-    has_word = subprocess.run([btspace, "help", "client"], capture_output=True).returncode == 0
-    return btspace if has_word else NET / "trials" / "standin"
-
-
 def unit_tests(*_):
     results = re.findall(r"^test result: ok\. (\d+) passed", told([NET / "build", "--test"]), re.MULTILINE)
     passed = sum(map(int, results))
