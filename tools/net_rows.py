@@ -1,5 +1,5 @@
-"""The rows of tools/test about the carrier of net/: that it builds, its unit tests, what net/test does to real processes, and
-net/try as the pages have it.
+"""The rows of tools/test about the carrier of net/: that it builds, its unit tests, what net/test does to real
+processes, and net/try as the pages have it.
 
 Nothing of it listens beyond loopback. What it needs is installed; where it can't be, the row of the build fails.
 """
@@ -37,7 +37,7 @@ def fault_of(row, program):
     node, fault = carrier()
     if fault:
         return NO_CARRIER
-    return rows.fault_of(row, cluster.Programs(node, program, rows.client_of(program)), SEED)[1]
+    return rows.fault_of(row, cluster.Programs(node, program), SEED)[1]
 
 
 def fault_of_try(page, program):
@@ -51,7 +51,7 @@ def fault_of_try(page, program):
 
 def all_rows(programs):
     yield Row("net/build", lambda: carrier()[1])
-    for it in rows.all_rows():
+    for it in rows.all_rows(with_long=False):
         yield Row(f"net/test: {it.name}", lambda it=it: fault_of(it, programs.whole))
     for page in PAGES:
         yield Row(f"net/try, as {page} has it", lambda page=page: fault_of_try(page, programs.whole))

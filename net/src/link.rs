@@ -72,8 +72,8 @@ impl From<WrongLength> for LinkEnd {
     }
 }
 
-/// Carries what goes and comes over a link until one of both ends, or until it is told to end. What goes is a task of its
-/// own, so that a wake has one of both to look at.
+/// Carries what goes and comes over a link until one of both ends, or until it is told to end. What goes is a task of
+/// its own, so that a wake has one of both to look at.
 pub async fn carry(
     receiver: Receiver,
     stream: Box<dyn Stream>,

@@ -6,16 +6,17 @@
 //!
 //! One thread runs all tasks. They share a [`node::Node`]:
 //!
-//! - [`dial`] and [`accept`] begin links, and [`link`] is what their two ends have in common;
+//! - [`dial`] and [`accept`] begin links of parties, [`welcome`] meets strangers, and [`link`] is what both ends of a
+//!   link have in common;
 //! - [`outbox`] has what waits for a peer, [`intake`] what waits for the child;
 //! - [`route`] takes what the child writes, and [`timer`] keeps its time;
 //! - [`run`] starts the child and ends it in order.
 //!
 //! # What it keeps
 //!
-//! 64 MB for all peers together ([`outbox`]). Of what comes, a lane of 64 KB and the last piece for each party, and
-//! for each link the record that hasn't come whole: a replica's has 4 MB at most, and a client's 2.4 KB. A party has
-//! four accepted links at most, and there are 64 that haven't said whose they are.
+//! 64 MB for all peers together ([`outbox`]). Of what comes, 64 KB and a record for each party, and for each link the
+//! record that hasn't come whole: a replica's has 4 MB at most, and a client's 2.4 KB. Another replica has four
+//! accepted links at most, and a client two. At each of two ports there are 64 that haven't said whose they are.
 
 mod accept;
 mod child;

@@ -1,4 +1,5 @@
-"""Processes on loopback: replicas, and clients that call one operation after another. All that is started ends with them."""
+"""Processes on loopback: replicas, and clients that call one operation after another. All that is started ends with
+them."""
 
 import os
 import random
@@ -21,8 +22,8 @@ from space import ANY, INT, cas, inp, out, rd_all, rdp
 
 HERE = Path(__file__).resolve().parent
 FIRST_CLIENT = 256
-# No process takes longer to begin, to answer after a fault, or to end, in seconds. A primary that is gone costs a timer of
-# two seconds, the next one four, and so on; a machine at work takes several times as long.
+# No process takes longer to begin, to answer after a fault, or to end, in seconds. A primary that is gone costs a
+# timer of two seconds, the next one four, and so on; a machine at work takes several times as long.
 BOUND = 120
 
 
@@ -31,11 +32,10 @@ class Trouble(Exception):
 
 
 class Programs(NamedTuple):
-    """The carrier, the program, and what clients run: the program too, or one that stands in for it."""
+    """The carrier, and the program that is its child."""
 
     node: str
     btspace: str
-    client: str
 
 
 def free_ports(count):
@@ -189,8 +189,7 @@ class Cluster:
 
     def words(self, name, *more, btspace=None):
         kind = "replica" if name[0] == "r" else "client"
-        program = btspace or (self.programs.btspace if kind == "replica" else self.programs.client)
-        keys = self.room / "keys" / f"{name}.toml"
+        keys, program = self.room / "keys" / f"{name}.toml", btspace or self.programs.btspace
         return [self.programs.node, kind, self.hosts_of(name), keys, "--btspace", program, *more]
 
     def start(self, number):
@@ -263,8 +262,8 @@ class Cluster:
 
 
 def operations(seed, place):
-    """Operations without end of the client at this place, on a few keys, so that clients meet. Each tuple that is put has a
-    number of its own."""
+    """Operations without end of the client at this place, on a few keys, so that clients meet. Each tuple that is put
+    has a number of its own."""
     source, number = random.Random(f"{seed} {place}"), 0
     while True:
         number += 1

@@ -1,9 +1,9 @@
 """Are there positions for all calls at which one sequential tuple space gives their answers?
 
-Each call acts at one moment between its begin and its end. A call without an answer acted at some moment after its begin,
-or never. The search is that of Wing and Gong (JPDC 1993), with the memo of Lowe (2017): depth first over which calls have
-acted and what the space is then. A call that may act now, gets its answer now and changes nothing is taken at once: to take
-it later helps no other one.
+Each call acts at one moment between its begin and its end. A call without an answer acted at some moment after its
+begin, or never. The search is that of Wing and Gong (JPDC 1993), with the memo of Lowe (2017): depth first over which
+calls have acted and what the space is then. A call that may act now, gets its answer now and changes nothing is taken
+at once: to take it later helps no other one.
 """
 
 from typing import NamedTuple, Optional

@@ -1,7 +1,7 @@
 """A network between the processes of a test: each link that is dialled goes through a port of this one.
 
-It can be cut, held in one direction, and disturbed: frames are then delayed each by its own time, so that they overtake each
-other, and are lost or repeated. It has no part in links that use TLS, but to cut them.
+It can be cut, held in one direction, and disturbed: frames are then delayed each by its own time, so that they
+overtake each other, and are lost or repeated. It has no part in links that use TLS, but to cut them.
 """
 
 import asyncio
@@ -135,7 +135,8 @@ class Network:
         self.change(pairs, act)
 
     def hold(self, pairs):
-        """What goes from the dialler to the replica waits, until the route is healed. The other direction stays as it is."""
+        """What goes from the dialler to the replica waits, until the route is healed. The other direction stays as it
+        is."""
         self.change(pairs, lambda route: route.there.is_open.clear())
 
     def disturb(self, pairs, faults):

@@ -63,14 +63,9 @@ def build():
     return told([NET / "build"])
 
 
-def client_of(btspace):
-    """The program, if it has a word for clients, or else what stands in for it."""
-    has_word = subprocess.run([btspace, "help", "client"], capture_output=True).returncode == 0
-    return btspace if has_word else NET / "trials" / "standin"
-
-
 def unit_tests(*_):
-    passed = sum(map(int, re.findall(r"^test result: ok\. (\d+) passed", told([NET / "build", "--test"]), re.MULTILINE)))
+    results = re.findall(r"^test result: ok\. (\d+) passed", told([NET / "build", "--test"]), re.MULTILINE)
+    passed = sum(map(int, results))
     if not passed:
         raise Trouble("cargo ran no test")
     return f"{passed} passed"
@@ -85,9 +80,9 @@ def checker_tests(*_):
     return f"{result.testsRun} passed"
 
 
-def all_rows():
+def all_rows(with_long=True):
     yield Row("the carrier's unit tests", unit_tests)
     yield Row("the checker's unit tests", checker_tests)
-    for it in SCENARIOS:
+    for it in (it for it in SCENARIOS if with_long or not it.is_long):
         yield Row(it.name, lambda *given, it=it: run(it, *given))
     yield Row("three of four replicas lie, and the checker sees it", find_violation)

@@ -18,20 +18,21 @@ from space import INT, inp, out, rdp
 CALLS = 12
 # So many calls of histories that aren't right are shown.
 SHOWN = 100
-# What a carrier may take of memory beside floods, in bytes. Without TLS a stranger may say that it is any replica. So four
-# links of each of three have a record of 4 MB that hasn't come whole, and one that waits for the child.
+# What a carrier may take of memory beside floods, in bytes. Without TLS a stranger may say that it is any replica. So
+# four links of each of three have a record of 4 MB that hasn't come whole, and one that waits for the child.
 MOST_MEMORY = 150 << 20
 # Seconds for which a process is paused or a link is cut.
 PAUSE = 3
 
 
 class Scenario(NamedTuple):
-    """Its name, what it does, and how its cluster is made."""
+    """Its name, what it does, how its cluster is made, and whether it may take minutes: then the gate leaves it out."""
 
     name: str
     act: Callable
     made: dict = {}
     clients: int = 3
+    is_long: bool = False
 
 
 def judge(histories, wanted=LINEAR):
@@ -167,10 +168,8 @@ def flood(ports, seed, way, is_over):
 def floods(cluster, load):
     """Noise on each port, by six strangers at once: five ways on those of replicas, and one on those of metrics."""
     is_over, links, metrics = threading.Event(), cluster.ports[: cluster.count], cluster.ports[cluster.count :]
-    strangers = [(links, way) for way in NOISE] + [(metrics, "bytes")]
-    threads = [
-        threading.Thread(target=flood, args=(ports, cluster.seed, way, is_over), daemon=True) for ports, way in strangers
-    ]
+    strangers = [(links, cluster.seed, way, is_over) for way in NOISE] + [(metrics, cluster.seed, "bytes", is_over)]
+    threads = [threading.Thread(target=flood, args=it, daemon=True) for it in strangers]
     for it in threads:
         it.start()
     try:
@@ -192,8 +191,8 @@ def go_on_beside_liar(cluster, load):
 
 
 def kill_a_client(cluster, load):
-    """A client dies in a call. Nobody knows whether that one acted. The others go on, and it does so in two new lives, of which
-    the last is told where to begin. Two lives at once are refused."""
+    """A client dies in a call. Nobody knows whether that one acted. The others go on, and it does so in two new
+    lives, of which the last is told where to begin. Two lives at once are refused."""
     second = cluster.client(1)
     if second.process.begun.wait(BOUND) != 3 or "is at work" not in second.process.said():
         raise Trouble(f"c1 started twice: {second.process.said()}")
@@ -243,7 +242,7 @@ def refuse_false_names(cluster, load):
     cluster.ports[0], cluster.ports[1] = cluster.ports[1], cluster.ports[0]
     misled = cluster.client(6, "--log", "info")
     for it in ("r0", "r1"):
-        await_that(lambda: f"dial.failed peer={it}" in misled.process.said(), f"a client sees that another replica is {it}")
+        await_that(lambda: f"dial.failed peer={it}" in misled.process.said(), f"a client sees that another is {it}")
     if "link.up peer=r0" in misled.process.said():
         raise Trouble(f"a client takes another replica for r0: {misled.process.said()}")
     load.go_on(CALLS, "with TLS")
@@ -255,7 +254,9 @@ SCENARIOS = (
     Scenario("seven replicas and three clients", nothing, {"faults": 2}),
     Scenario("kill -9 of a backup", kill(2)),
     Scenario("kill -9 of the primary", kill(0)),
-    Scenario("kill -9 of the primary and of the next one, of seven", kill(0, 1), {"faults": 2}),
+    Scenario("kill -9 of the primary and of a backup, of seven", kill(0, 2), {"faults": 2}),
+    # README.md of net says what makes it long.
+    Scenario("kill -9 of the primary and of the next one, of seven", kill(0, 1), {"faults": 2}, is_long=True),
     Scenario("a backup stands still for seconds, and is needed then", pause(1)),
     Scenario("the primary stands still for seconds, and is needed then", pause(0)),
     Scenario("the link of the primary to a backup is cut and healed, and the primary dies", cut_one_link, THROUGH),
@@ -275,7 +276,8 @@ SCENARIOS = (
 
 
 def find_violation(programs, room, seed):
-    """Three of four replicas lie, more than f: clients are told what no space answers, and the checker has to see it."""
+    """Three of four replicas lie, more than f: clients are told what no space answers, and the checker has to see
+    it."""
     with Cluster(programs, room, seed, liars={it: "answers" for it in (1, 2, 3)}) as cluster:
         client = cluster.client(0)
         for op in (out(1, 1), rdp(1, INT), inp(1, INT)) * 3:

@@ -1,7 +1,7 @@
 """A tuple space of version 1 as docs/formats.md has it, for the values and operations of these tests.
 
-Tuples are Python's, of numbers and texts. A template's field is a value, or one of the words ANY, INT and TEXT. A space is
-a tuple of tuples, the oldest first.
+Tuples are Python's, of numbers and texts. A template's field is a value, or one of the words ANY, INT and TEXT. A
+space is a tuple of tuples, the oldest first.
 """
 
 from typing import NamedTuple
