@@ -1,6 +1,7 @@
 //! The loop of a client's process, over a client that is made up.
 
 use crate::readers::{Failing, Pieces};
+use crate::writers::Sink;
 use client_process::{Caller, ConverseFault, converse};
 use events::{Output, Outputs, SharedBytes, Stop, emit};
 use std::alloc::Global;
@@ -161,30 +162,6 @@ fn due_for(len: usize) -> (usize, usize) {
 fn are_due(len: usize, sent: &[u8], told: &[u8]) -> bool {
     let (frames, results) = due_for(len);
     sent == &SENT[..frames.min(SENT.len())] && told == &TOLD[..results.min(TOLD.len())]
-}
-
-// Takes so many bytes at a time, and fails beyond so many.
-#[derive(Drop)]
-struct Sink {
-    taken: Vec<u8>,
-    step: usize,
-    most: usize,
-}
-
-impl Write for Sink {
-    fn write(&mut self, buf: &[u8]) -> io::Result<usize> {
-        let room = self.most.saturating_sub(self.taken.len());
-        let count = buf.len().min(self.step).min(room);
-        if count == 0 && !buf.is_empty() {
-            return Err(io::Error::from(ErrorKind::BrokenPipe));
-        }
-        self.taken.extend_from_slice(&buf[..count])?;
-        Ok(count)
-    }
-
-    fn flush(&mut self) -> io::Result<()> {
-        Ok(())
-    }
 }
 
 // How a session ends.
@@ -403,6 +380,38 @@ fn want_of_memory_stops_it_between_inputs(rt: HostRuntime) {
         );
         assert!(rt; is_right, "step {last}");
     }
+}
+
+// A record of no bytes, two of kinds that there aren't, and an answer; and then one that says to have 4,294,967,295 bytes.
+static STRANGE: [u8; 29] = [
+    0x00, 0x00, 0x00, 0x00, 0x00, 0x00, 0x00, 0x02, 0x00, 0x61, 0x00, 0x00, 0x00, 0x03, 0x80, 0x01,
+    0x61, 0x00, 0x00, 0x00, 0x02, 0x01, 0x61, 0xff, 0xff, 0xff, 0xff, 0x01, 0x61,
+];
+
+// Whether the first call passes over what tells nothing, and the second one gets no answer.
+fn passes_over(alloc: Global) -> bool {
+    let script = Pieces {
+        left: b"out (1)\nout (2)",
+        step: 15,
+    };
+    let records = Pieces {
+        left: &STRANGE,
+        step: 29,
+    };
+    let made = Made {
+        calls: 0,
+        steps: 0,
+        last: 99,
+    };
+    let mut frames = Vec::new(alloc);
+    let mut results = Vec::new(alloc);
+    let ended = end_of(converse(alloc, made, script, records, &mut frames, &mut results));
+    ended == End::Records && results.as_slice() == b"done\n".as_slice()
+}
+
+#[test]
+fn what_tells_nothing_is_passed_over(rt: HostRuntime) {
+    assert!(rt; passes_over(rt.alloc()));
 }
 
 // What was flushed of either text, and whether it was all that was due at each read.

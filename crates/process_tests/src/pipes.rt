@@ -9,6 +9,10 @@ use terms::{ClientId, Party, ReplicaId};
 
 const REPLICAS: usize = 4;
 
+// Only this replica and the clients lose frames. If two replicas lacked a batch, calls would wait for a change of view,
+// and signatures take long.
+const LAST_REPLICA: usize = 3;
+
 /// The places of the clients behind the replicas.
 pub const CLIENTS: [usize; 2] = [4, 5];
 
@@ -132,7 +136,7 @@ impl Pipes {
         };
         let milliseconds = u32::from_be_bytes([*i, *j, *k, *l]);
         let end = self.now.saturating_add(u64::from(milliseconds));
-        let number = [*a, *b, *c, *d, *e, *f, *g, *h];
+        let number = u64::from_be_bytes([*a, *b, *c, *d, *e, *f, *g, *h]);
         self.processes.get_mut(sender)?.begin_timer(number, end);
         Some(())
     }
@@ -155,6 +159,7 @@ impl Pipes {
         let receiver = self.processes.get_mut(place)?;
         match fate {
             Fate::Comes => receiver.come(frame),
+            Fate::Lost if place < LAST_REPLICA => receiver.come_late(frame),
             Fate::Lost => Some(()),
             Fate::Twice => {
                 receiver.come(frame)?;

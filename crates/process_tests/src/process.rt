@@ -24,7 +24,7 @@ pub struct Process {
     sent: Vec<u8>,
     told: Vec<u8>,
     late: Vec<u8>,
-    timer: Option<([u8; 8], u64)>,
+    timer: Option<(u64, u64)>,
     is_due: bool,
 }
 
@@ -83,7 +83,7 @@ impl Process {
     // ---- its timer
 
     /// A timer begins, in place of the last one.
-    pub fn begin_timer(&mut self, number: [u8; 8], end: u64) {
+    pub fn begin_timer(&mut self, number: u64, end: u64) {
         self.timer = Some((number, end));
     }
 
@@ -106,10 +106,10 @@ impl Process {
         }
     }
 
-    fn end_timer(&mut self, number: [u8; 8]) -> Option<()> {
+    fn end_timer(&mut self, number: u64) -> Option<()> {
         self.timer = None;
         self.tell(&[0, 0, 0, 9, 2])?;
-        self.tell(&number)
+        self.tell(&number.to_be_bytes())
     }
 
     // ---- what it does
