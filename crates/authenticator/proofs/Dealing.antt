@@ -151,6 +151,19 @@ module _ (seed : List ℕ) (me : ℕ) where
       with_one old new (keys_with seed me (range_with_len (FIRST_CLIENT + (client + 1)) (clients - (client + 1)))) (FIRST_CLIENT + client) longer
       ∙ ap (λ (parties : List ℕ). old ++ keys_with seed me parties) (sym (next_range FIRST_CLIENT clients client less))
 
+  pub next_two : (clients pair : ℕ) (old new : List SharedKey) → 2 * pair + 1 < clients
+      → new ≡ (old ++ both_keys seed me (FIRST_CLIENT + 2 * pair)) ++ both_keys seed me (FIRST_CLIENT + 2 * pair + 1)
+      → new ++ keys_with seed me (range_with_len (FIRST_CLIENT + 2 * (pair + 1)) (clients - 2 * (pair + 1)))
+      ≡ old ++ keys_with seed me (range_with_len (FIRST_CLIENT + 2 * pair) (clients - 2 * pair))
+  next_two clients pair old new less longer =
+      let one : 2 * pair < clients = omega (arith, less) in
+      let after : 2 * (pair + 1) ≡ 2 * pair + 1 + 1 = omega arith in
+      let there : FIRST_CLIENT + 2 * pair + 1 ≡ FIRST_CLIENT + (2 * pair + 1) = omega arith in
+      ap (λ (k : ℕ). new ++ keys_with seed me (range_with_len (FIRST_CLIENT + k) (clients - k))) after
+      ∙ next_client clients (2 * pair + 1) (old ++ both_keys seed me (FIRST_CLIENT + 2 * pair)) new less
+      (longer ∙ ap (λ (k : ℕ). (old ++ both_keys seed me (FIRST_CLIENT + 2 * pair)) ++ both_keys seed me k) there)
+      ∙ next_client clients (2 * pair) old (old ++ both_keys seed me (FIRST_CLIENT + 2 * pair)) one refl
+
   pub no_client : (clients client : ℕ) (keys : List SharedKey) → clients ≤ client
       → keys ++ keys_with seed me (range_with_len (FIRST_CLIENT + client) (clients - client)) ≡ keys
   no_client clients client keys over =

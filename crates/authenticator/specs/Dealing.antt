@@ -1,6 +1,6 @@
 -- Which keys a seed gives to each party. Replicas exchange frames with each other and with all clients; clients exchange
 -- none with each other.
-use Rattle.std.specs.Prelude.{ℕ, ◌+◌, ◌*◌, ◌==◌, not, List, [], ◌∷◌, ◌++◌, filter, nat_lt, if◌then◌else◌}
+use Rattle.std.specs.Prelude.{◌≡◌, ℕ, ◌+◌, ◌*◌, ◌==◌, not, List, [], ◌∷◌, ◌++◌, filter, nat_lt, if◌then◌else◌}
 use Rattle.std.specs.List.{flat_map, range_with_len}
 use Rattle.terms.specs.declared.parties.TheConstants.{FIRST_CLIENT}
 use Rattle.authenticator.specs.Keys.{derived_key}
@@ -21,6 +21,12 @@ abbrev pub both_keys : List ℕ → ℕ → ℕ → List SharedKey
 both_keys seed me party =
     record { from = party; to = me; key = derived_key seed party me }
     ∷ record { from = me; to = party; key = derived_key seed me party } ∷ []
+
+-- The keys of two parties are appended: the one from the party to this one, and the one back.
+abbrev pub IsPairPushed : ℕ → ℕ → List (List ℕ) → List SharedKey → List SharedKey → Type 0
+IsPairPushed me party pair old new =
+    (there back : List ℕ) → pair ≡ there ∷ back ∷ []
+    → new ≡ old ++ record { from = party; to = me; key = there } ∷ record { from = me; to = party; key = back } ∷ []
 
 -- the keys of a party with each of these, one after another
 abbrev pub keys_with : List ℕ → ℕ → List ℕ → List SharedKey

@@ -3,7 +3,7 @@
 ghost use Rattle.std.specs.Prelude.{◌≡◌, [], ◌∷◌, ◌++◌, ◌≤◌, ◌+◌, ◌*◌, ◌<◌, ◌==◌, ◌&&◌, not, nat_lt};
 ghost use Rattle.std.specs.Prelude.{IfOk, IfSome, OnOk};
 ghost use Rattle.std.specs.Int.{w16, to_be_bytes};
-ghost use Rattle.authenticator.specs.Dealing.{all_clients, both_keys, clients_of, dealt_keys, keys_with, other_replicas, others_among};
+ghost use Rattle.authenticator.specs.Dealing.{IsPairPushed, all_clients, both_keys, clients_of, dealt_keys, keys_with, other_replicas, others_among};
 ghost use Rattle.authenticator.specs.Keys.{derived_key, find_key, row, signing_seed};
 ghost use Rattle.authenticator.specs.Laws.{is_among_clients, is_peer};
 ghost use Rattle.authenticator.specs.RingView.{joins, keys_dealt};
@@ -64,22 +64,61 @@ impl Seed {
         self.source.mac(&key_text(from, to))
     }
 
+    // The keys between a party and two others, in both directions. All four are derived together.
+    fn derive_four(&self, me: u16, one: u16, other: u16) -> [[u8; 32]; 4]
+        ensures { result ≡ derived_key self.now one me ∷ derived_key self.now me one
+            ∷ derived_key self.now other me ∷ derived_key self.now me other ∷ [] }
+    {
+        let (a, b) = (key_text(one, me), key_text(me, one));
+        let (c, d) = (key_text(other, me), key_text(me, other));
+        self.source.mac_each([&a, &b, &c, &d])
+    }
+
+    // Appends the keys between a party and two others, in both directions.
+    fn push_two(
+        &self,
+        me: u16,
+        one: u16,
+        other: u16,
+        keys: &mut Vec<SharedKey>,
+    ) -> Result<(), AllocError>
+        ensures { OnOk result (keys.new.items ≡ (keys.old.items ++ both_keys self.now me one) ++ both_keys self.now me other) }
+    {
+        let [a, b, c, d] = self.derive_four(me, one, other);
+        push_pair(me, one, [a, b], keys)?;
+        push_pair(me, other, [c, d], keys)
+    }
+
     // Appends the keys between two parties, in both directions.
     fn push_both(&self, me: u16, party: u16, keys: &mut Vec<SharedKey>) -> Result<(), AllocError>
         ensures { OnOk result (keys.new.items ≡ keys.old.items ++ both_keys self.now me party) }
     {
-        keys.push(SharedKey {
-            from: party,
-            to: me,
-            key: self.derive(party, me),
-        })?;
-        keys.push(SharedKey {
-            from: me,
-            to: party,
-            key: self.derive(me, party),
-        })?;
-        Ok(())
+        let pair = [self.derive(party, me), self.derive(me, party)];
+        push_pair(me, party, pair, keys)
     }
+}
+
+// Appends the key from a party to this one, and the key back.
+fn push_pair(
+    me: u16,
+    party: u16,
+    pair: [[u8; 32]; 2],
+    keys: &mut Vec<SharedKey>,
+) -> Result<(), AllocError>
+    ensures { OnOk result (IsPairPushed me party pair keys.old.items keys.new.items) }
+{
+    let [there, back] = pair;
+    keys.push(SharedKey {
+        from: party,
+        to: me,
+        key: there,
+    })?;
+    keys.push(SharedKey {
+        from: me,
+        to: party,
+        key: back,
+    })?;
+    Ok(())
 }
 
 /// What a seed gives one party: the keys that `deal` lists, before they are dealt.
@@ -244,8 +283,12 @@ fn push_clients(
     requires { clients ≤ 256 }
     ensures { OnOk result (keys.new.items ≡ keys.old.items ++ keys_with seed.now me (all_clients clients)) }
 {
-    for client in 0..clients {
-        seed.push_both(me, FIRST_CLIENT + client, keys)?;
+    for pair in 0..clients / 2 {
+        let first = FIRST_CLIENT + 2 * pair;
+        seed.push_two(me, first, first + 1, keys)?;
+    }
+    if clients % 2 == 1 {
+        seed.push_both(me, FIRST_CLIENT + clients - 1, keys)?;
     }
     Ok(())
 }
