@@ -1,15 +1,20 @@
 -- From pieces to lines.
-use Rattle.std.proofs.Common.{◌≡◌, inl, inr, ℕ, zero, suc, ◌+◌, ◌<◌, ◌≤◌, ◌==◌, Bool, true, false, not, MatchBool, eqb-true, true≢false, List, [], ◌∷◌, ◌++◌, Option, None, Some, IfSome, Result, Ok, Err, MatchResult, length, take, get_or, refl, sym, ap, subst, ◌∙◌, arith, append-nil, take-take, length-take-le}
+use Rattle.std.proofs.Common.{◌≡◌, inl, inr, ℕ, zero, suc, ◌+◌, ◌<◌, ◌≤◌, ◌==◌, Bool, true, false, not, MatchBool}
+use Rattle.std.proofs.Common.{eqb-true, true≢false, List, [], ◌∷◌, ◌++◌, Option, None, Some, IfSome, Result, Ok, Err}
+use Rattle.std.proofs.Common.{MatchResult, length, take, get_or, refl, sym, ap, subst, ◌∙◌, arith, append-nil}
+use Rattle.std.proofs.Common.{take-take, length-take-le}
 use Rattle.std.specs.Str.Lines.{lines, strip_carriage_return}
 use Rattle.std.specs.Io.BufRead.{drop_through, DropsThrough}
 use Rattle.tuple_text.specs.Lines.{IsSkipped, IsComment}
 use Rattle.tuple_text.specs.Texts.{AreBlanks}
-use Rattle.tuple_text.specs.Faults.{Faults, PassesNoLimit, StopsAt, LineBegins, EndsTooLong, KeepsBoth, KeepsLevels, KeepsCounts, AnyOperation}
+use Rattle.tuple_text.specs.Faults.{Faults, PassesNoLimit, StopsAt, LineBegins, EndsTooLong, KeepsBoth, KeepsLevels}
+use Rattle.tuple_text.specs.Faults.{KeepsCounts, AnyOperation}
 use Rattle.tuple_text.specs.declared.faults.LineFault.{LineFault}
 use Rattle.tuple_text.specs.declared.faults.LineFault.TheVariants.{BadByte, TooDeep, TooManyFields, TooLong, NoMemory}
 use Rattle.one_space.specs.Pieces.{TakesPiece}
 use Rattle.one_space.specs.LongLines.{JudgesEarly}
-use Rattle.one_space.specs.NextLines.{IsNextLine, BeginsWith, HoldsLine, ReturnsLine, NextLineFails, IsJudged, IsRefused}
+use Rattle.one_space.specs.NextLines.{IsNextLine, BeginsWith, HoldsLine, ReturnsLine, NextLineFails, IsJudged}
+use Rattle.one_space.specs.NextLines.{IsRefused}
 use Rattle.one_space.specs.declared.pieces.PieceEnd.TheVariants.{Full, LineFeed, InputEnd}
 use Rattle.one_space.specs.declared.input.NextLine.{NextLine}
 use Rattle.one_space.specs.declared.input.NextLine.TheVariants as next

@@ -1,5 +1,8 @@
 -- A run up to one of its lines.
-use Rattle.std.proofs.Common.{◌≡◌, ◌≢◌, if◌then◌else◌, append-nil, option_map, inl, inr, ℕ, ◌+◌, ◌-◌, ◌^◌, ◌<◌, ◌≤◌, Bool, true, false, cond, List, [], ◌∷◌, ◌++◌, Option, None, Some, IfSome, IfOk, Result, Ok, Err, MatchResult, MatchBool, OnOk, IfErr, ◌==◌, length, map, min, refl, sym, ap, subst, ◌∙◌, arith}
+use Rattle.std.proofs.Common.{◌≡◌, ◌≢◌, if◌then◌else◌, append-nil, option_map, inl, inr, ℕ, ◌+◌, ◌-◌, ◌^◌, ◌<◌, ◌≤◌}
+use Rattle.std.proofs.Common.{Bool, true, false, cond, List, [], ◌∷◌, ◌++◌, Option, None, Some, IfSome, IfOk, Result}
+use Rattle.std.proofs.Common.{Ok, Err, MatchResult, MatchBool, OnOk, IfErr, ◌==◌, length, map, min, refl, sym, ap}
+use Rattle.std.proofs.Common.{subst, ◌∙◌, arith}
 use Rattle.std.proofs.lemmas.List.{length-append}
 use Rattle.std.specs.Str.Lines.{lines}
 use Rattle.std.specs.Io.BufRead.{DropsThrough, drop_through}
@@ -18,10 +21,13 @@ use Rattle.space.specs.Births.{SpaceState, tuples_of, state_after}
 use Rattle.space.proofs.Batches.{next_after}
 use Rattle.space.proofs.Keeping.{tuples_of-state_after}
 use Rattle.one_space.specs.Complaints.{Says, refusal_line}
-use Rattle.one_space.specs.Endings.{Breaks, FrontIsWritten, Gives, IsWriteFault, Left, Runs, Scene, StopsBy, read_fault_of}
-use Rattle.one_space.specs.Moments.{EndsEarly, EndsLate, EndsStrictly, GoesOn, HelpsOrPasses, IsAt, Passes, PassesRead, Quiets, RunsOperation, Settles, left_with}
+use Rattle.one_space.specs.Endings.{Breaks, FrontIsWritten, Gives, IsWriteFault, Left, Runs, Scene, StopsBy}
+use Rattle.one_space.specs.Endings.{read_fault_of}
+use Rattle.one_space.specs.Moments.{EndsEarly, EndsLate, EndsStrictly, GoesOn, HelpsOrPasses, IsAt, Passes, PassesRead}
+use Rattle.one_space.specs.Moments.{Quiets, RunsOperation, Settles, left_with}
 use Rattle.one_space.specs.NextLines.{BeginsWith, HoldsLine, IsCutLine, IsNextLine, NextLineFails, ReturnsLine}
-use Rattle.one_space.specs.Run.{Ending, complete, refused_at, cut_short, IsHelp, LinesSay, PassesOver, Refusal, refusal, result_line, at_end, stops, skips, calls, refuses, passes, helps, is_late}
+use Rattle.one_space.specs.Run.{Ending, complete, refused_at, cut_short, IsHelp, LinesSay, PassesOver, Refusal, refusal}
+use Rattle.one_space.specs.Run.{result_line, at_end, stops, skips, calls, refuses, passes, helps, is_late}
 use Rattle.one_space.specs.declared.input.NextLine.{NextLine}
 use Rattle.one_space.specs.declared.input.NextLine.TheVariants as next
 use Rattle.one_space.specs.declared.input.NoLine.{NoLine}
@@ -36,7 +42,8 @@ use Rattle.one_space.specs.declared.session.Manner.{Manner}
 use Rattle.one_space.specs.declared.session.Manner.TheVariants.{Strict, KeepsGoing, Talks}
 use Rattle.one_space.specs.declared.session.Turn.{Turn}
 use Rattle.one_space.proofs.Giving.{gives_nothing, gives_operation, gives_same, gives_told, gives_written}
-use Rattle.one_space.proofs.SoFar.{unread, at_last, cut, late, refused, past_skipped, past_operation, past_refused, past_help, few_refusals}
+use Rattle.one_space.proofs.SoFar.{unread, at_last, cut, late, refused, past_skipped, past_operation, past_refused}
+use Rattle.one_space.proofs.SoFar.{past_help, few_refusals}
 
 -- an operation raises the next birth number by at most 257
 pub state_after_next : (s : SpaceState) (o : Operation) → (state_after s 0 o).next ≤ s.next + 257

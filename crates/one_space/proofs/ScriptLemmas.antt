@@ -1,5 +1,7 @@
 -- A script up to one of its lines.
-use Rattle.std.proofs.Common.{◌≡◌, inl, inr, ℕ, ◌+◌, ◌^◌, ◌<◌, ◌≤◌, Bool, true, false, List, [], ◌∷◌, ◌++◌, Option, None, Some, IfSome, IfOk, Result, Ok, Err, MatchResult, MatchBool, Vec, refl, sym, ap, subst, ◌∙◌, map, length, arith}
+use Rattle.std.proofs.Common.{◌≡◌, inl, inr, ℕ, ◌+◌, ◌^◌, ◌<◌, ◌≤◌, Bool, true, false, List, [], ◌∷◌, ◌++◌, Option}
+use Rattle.std.proofs.Common.{None, Some, IfSome, IfOk, Result, Ok, Err, MatchResult, MatchBool, Vec, refl, sym, ap}
+use Rattle.std.proofs.Common.{subst, ◌∙◌, map, length, arith}
 use Rattle.std.proofs.lemmas.List.{map-append, length-append}
 use Rattle.std.specs.declared.alloc.Global.{Global}
 use Rattle.std.specs.Str.Lines.{lines}
@@ -12,7 +14,8 @@ use Rattle.tuple_text.specs.declared.faults.LineFault.TheVariants.{TooLong}
 use Rattle.one_space.specs.NextLines.{ReturnsLine, NextLineFails, BeginsWith}
 use Rattle.one_space.specs.Reading.{ReadSoFar}
 use Rattle.one_space.specs.Complaints.{Says}
-use Rattle.one_space.specs.Scripts.{AreFirstOperations, EndsBy, EndsScript, KeepsOperation, KeptSoFar, SaysSome, TellsRefusal, lines_told, operations_of}
+use Rattle.one_space.specs.Scripts.{AreFirstOperations, EndsBy, EndsScript, KeepsOperation, KeptSoFar, SaysSome}
+use Rattle.one_space.specs.Scripts.{TellsRefusal, lines_told, operations_of}
 use Rattle.one_space.specs.declared.input.NextLine.{NextLine}
 use Rattle.one_space.specs.declared.input.NextLine.TheVariants as next
 use Rattle.one_space.specs.declared.input.NoLine.{NoLine}

@@ -1,12 +1,14 @@
 -- The lines of a reader's bytes, one after another.
-use Rattle.std.proofs.Common.{◌≡◌, ◌≢◌, ℕ, ◌+◌, ◌^◌, ◌<◌, ◌≤◌, List, [], ◌∷◌, ◌++◌, Option, Some, length, refl, sym, ap, subst, ◌∙◌, arith, append_assoc, append-nil}
+use Rattle.std.proofs.Common.{◌≡◌, ◌≢◌, ℕ, ◌+◌, ◌^◌, ◌<◌, ◌≤◌, List, [], ◌∷◌, ◌++◌, Option, Some, length, refl, sym, ap}
+use Rattle.std.proofs.Common.{subst, ◌∙◌, arith, append_assoc, append-nil}
 use Rattle.std.specs.Str.Lines.{lines}
 use Rattle.tuple_codec.specs.Operations.{Operation}
 use Rattle.tuple_text.specs.Lines.{IsLine, IsSkipped}
 use Rattle.tuple_text.specs.Faults.{RefusesLine}
 use Rattle.tuple_text.specs.declared.faults.LineFault.{LineFault}
 use Rattle.tuple_text.specs.declared.faults.LineFault.TheVariants.{NoMemory, TooLong}
-use Rattle.one_space.specs.Run.{Ending, complete, refused_at, cut_short, IsHelp, LinesSay, PassesOver, Refusal, refusal, at_end, stops, skips, calls, refuses, passes, helps, is_late}
+use Rattle.one_space.specs.Run.{Ending, complete, refused_at, cut_short, IsHelp, LinesSay, PassesOver, Refusal, refusal}
+use Rattle.one_space.specs.Run.{at_end, stops, skips, calls, refuses, passes, helps, is_late}
 use Rattle.one_space.specs.NextLines.{BeginsWith, IsNextLine}
 use Rattle.one_space.specs.Reading.{ReadSoFar}
 use Rattle.one_space.specs.declared.session.Manner.{Manner}

@@ -1,5 +1,6 @@
 -- The statuses of the commands, and what they say on standard error.
-use Rattle.std.specs.Prelude.{◌≡◌, ℕ, Bool, true, false, ◌==◌, if◌then◌else◌, List, [], Option, Result, Ok, Err, MatchResult, Vec}
+use Rattle.std.specs.Prelude.{◌≡◌, ℕ, Bool, true, false, ◌==◌, if◌then◌else◌, List, [], Option, Result, Ok, Err}
+use Rattle.std.specs.Prelude.{MatchResult, Vec}
 use Rattle.std.specs.declared.alloc.Global.{Global}
 use Rattle.tuple_codec.specs.declared.operations.Op.{Op}
 use Rattle.one_space.specs.Complaints.{IsUnreadable, OfOpen, OfShow, OfWrite, Says, lines_said, status_of}

@@ -12,7 +12,8 @@ use Rattle.one_space.specs.Run.{Refusal}
 use Rattle.one_space.specs.declared.digits.ShowFault.{ShowFault}
 use Rattle.one_space.specs.declared.digits.ShowFault.TheVariants as show
 use Rattle.one_space.specs.declared.complaints.Complaint.{Complaint}
-use Rattle.one_space.specs.declared.complaints.Complaint.TheVariants.{Line, Malformed, Step, Configuration, Unreadable, Stopped, OutputClosed}
+use Rattle.one_space.specs.declared.complaints.Complaint.TheVariants.{Line, Malformed, Step, Configuration, Unreadable}
+use Rattle.one_space.specs.declared.complaints.Complaint.TheVariants.{Stopped, OutputClosed}
 
 -- Only a byte that can't continue any valid line is named by its place.
 abbrev pub fault_place_text : LineFault → List ℕ
@@ -22,6 +23,7 @@ fault_place_text TooManyFields = codes ""
 fault_place_text TooLong = codes ""
 fault_place_text NoMemory = codes ""
 
+-- the line that tells of a complaint, empty if nobody reads the output any more
 abbrev pub complaint_text : Complaint → List ℕ
 complaint_text (Line number fault) =
     codes "line " ++ decimal number ++ codes ": refused " ++ decimal (line_refusal fault) ++ fault_place_text fault

@@ -1,5 +1,6 @@
 -- The end of a run over a reader's bytes.
-use Rattle.std.specs.Prelude.{◌≡◌, ℕ, List, [], ◌++◌, length, map, Option, None, Some, IfSome, Result, MatchResult, Contains}
+use Rattle.std.specs.Prelude.{◌≡◌, ℕ, List, [], ◌++◌, length, map, Option, None, Some, IfSome, Result, MatchResult}
+use Rattle.std.specs.Prelude.{Contains}
 use Rattle.std.specs.Str.Lines.{lines}
 use Rattle.std.specs.Io.KnownBytes.{Appends}
 use Rattle.tuple_codec.specs.Operations.{Operation}

@@ -1,5 +1,6 @@
 -- Definitions for the private functions that read a line of more than one piece.
-use Rattle.std.specs.Prelude.{◌≡◌, ℕ, ◌-◌, ◌≤◌, Bool, MatchBool, List, ◌++◌, length, take, drop, Option, IfSome, Result, Err}
+use Rattle.std.specs.Prelude.{◌≡◌, ℕ, ◌-◌, ◌≤◌, Bool, MatchBool, List, ◌++◌, length, take, drop, Option, IfSome, Result}
+use Rattle.std.specs.Prelude.{Err}
 use Rattle.tuple_text.specs.Texts.{AreBlanks}
 use Rattle.one_space.specs.NextLines.{ReadsLine, JudgesNextLine}
 use Rattle.one_space.specs.Pieces.{NoLineFeed}

@@ -1,5 +1,6 @@
 -- Definitions for the private functions of a run: the run between two lines.
-use Rattle.std.specs.Prelude.{◌≡◌, ◌⊎◌, ℕ, ◌+◌, ◌-◌, ◌^◌, Bool, true, MatchBool, List, [], ◌∷◌, ◌++◌, length, min, Option, IfSome, Result, Err, OnOk, MatchResult, Vec}
+use Rattle.std.specs.Prelude.{◌≡◌, ◌⊎◌, ℕ, ◌+◌, ◌-◌, ◌^◌, Bool, true, MatchBool, List, [], ◌∷◌, ◌++◌, length, min}
+use Rattle.std.specs.Prelude.{Option, IfSome, Result, Err, OnOk, MatchResult, Vec}
 use Rattle.std.specs.Io.BufRead.{DropsThrough}
 use Rattle.std.specs.Io.KnownBytes.{Appends}
 use Rattle.std.specs.declared.alloc.Global.{Global}

@@ -1,5 +1,6 @@
 -- The results of reading a line, by the bytes that were left.
-use Rattle.std.specs.Prelude.{◌≡◌, ◌≢◌, ◌⊎◌, ℕ, ◌≤◌, Bool, MatchBool, List, [], ◌∷◌, length, Option, Some, IfSome, Result, MatchResult}
+use Rattle.std.specs.Prelude.{◌≡◌, ◌≢◌, ◌⊎◌, ℕ, ◌≤◌, Bool, MatchBool, List, [], ◌∷◌, length, Option, Some, IfSome}
+use Rattle.std.specs.Prelude.{Result, MatchResult}
 use Rattle.std.specs.Io.BufRead.{drop_through}
 use Rattle.std.specs.Str.Lines.{lines}
 use Rattle.tuple_codec.specs.OperationView.{operation_of}

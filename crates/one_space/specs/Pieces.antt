@@ -1,5 +1,6 @@
 -- A piece of a line: the part that is read at once.
-use Rattle.std.specs.Prelude.{◌≡◌, ◌==◌, Bool, false, if◌then◌else◌, ℕ, ◌≤◌, List, [], ◌∷◌, ◌++◌, length, All, Option, None, Some, IfSome, Result, IfOk, Vec}
+use Rattle.std.specs.Prelude.{◌≡◌, ◌==◌, Bool, false, if◌then◌else◌, ℕ, ◌≤◌, List, [], ◌∷◌, ◌++◌, length, All, Option}
+use Rattle.std.specs.Prelude.{None, Some, IfSome, Result, IfOk, Vec}
 use Rattle.std.specs.declared.alloc.Global.{Global}
 use Rattle.one_space.specs.declared.pieces.PieceEnd.{PieceEnd}
 use Rattle.one_space.specs.declared.pieces.PieceEnd.TheVariants.{LineFeed, InputEnd, Full}

@@ -3,6 +3,7 @@ use Rattle.std.specs.Prelude.{ℕ}
 use Rattle.tuple_text.specs.declared.faults.LineFault.{LineFault}
 use Rattle.tuple_text.specs.declared.faults.LineFault.TheVariants.{BadByte, TooDeep, TooManyFields, TooLong, NoMemory}
 
+-- of a script line with this fault
 abbrev pub line_refusal : LineFault → ℕ
 line_refusal TooManyFields = 1
 line_refusal TooDeep = 2

@@ -16,6 +16,7 @@ pub record Refusal : Type 0 where
   pub line : ℕ
   pub fault : LineFault
 
+-- the refusal of the line of this number
 abbrev pub refusal : ℕ → LineFault → Refusal
 refusal line fault = record { line = line; fault = fault }
 
@@ -62,6 +63,7 @@ pub data LinesSay (manner : Manner) : ℕ → List (List ℕ) → List Operation
   is_late : {n : ℕ} {l : List ℕ} {ls : List (List ℕ)}
       → 2 ^ 48 ≤ n → LinesSay manner n (l ∷ ls) [] (refusal n TooLong ∷ []) (refused_at n TooLong)
 
+-- the text of an answer, and a line feed
 abbrev pub result_line : Outcome → List ℕ
 result_line r = outcome_text r ++ 10 ∷ []
 

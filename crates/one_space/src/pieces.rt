@@ -1,6 +1,7 @@
 //! Pieces of lines.
 
-ghost use Rattle.std.specs.Prelude.{◌≡◌, ◌≢◌, Ok, ◌==◌, ◌≤◌, ℕ, slice_index, ◌+◌, ◌-◌, ◌<◌, ◌++◌, Some, drop, length, vec_len};
+ghost use Rattle.std.specs.Prelude.{◌≡◌, ◌≢◌, Ok, ◌==◌, ◌≤◌, ℕ, slice_index, ◌+◌, ◌-◌, ◌<◌, ◌++◌, Some, drop, length};
+ghost use Rattle.std.specs.Prelude.{vec_len};
 ghost use Rattle.std.specs.List.{list_all};
 ghost use Rattle.std.specs.Str.Lines.{strip_carriage_return};
 ghost use Rattle.one_space.specs.Pieces.{ReadsPiece, ReadsPart, piece_end_of};

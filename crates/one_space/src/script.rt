@@ -4,7 +4,8 @@ ghost use Rattle.std.specs.Prelude.{◌≡◌, ◌+◌, ◌^◌, ◌<◌, ◌≤
 ghost use Rattle.std.specs.Io.Buffered.{reader_remaining};
 ghost use Rattle.one_space.specs.Complaints.{Says, refusal_line};
 ghost use Rattle.one_space.specs.Run.{refusal};
-ghost use Rattle.one_space.specs.Scripts.{EndsScript, JudgesScript, KeepsOperation, ReadsScript, ReadsScriptLine, TellsRefusal};
+ghost use Rattle.one_space.specs.Scripts.{EndsScript, JudgesScript, KeepsOperation, ReadsScript, ReadsScriptLine};
+ghost use Rattle.one_space.specs.Scripts.{TellsRefusal};
 ghost use Rattle.one_space.specs.declared.session.LocalFault.TheVariants as LocalFault;
 
 use crate::complaints::Complaint;

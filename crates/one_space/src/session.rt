@@ -1,6 +1,7 @@
 //! A script on a space of its own.
 
-ghost use Rattle.std.specs.Prelude.{◌≡◌, ◌++◌, ◌+◌, ◌^◌, ◌<◌, ◌≤◌, ◌*◌, ℕ, List, [], ◌∷◌, Option, Some, OnOk, OnErr, IfErr, IfSome};
+ghost use Rattle.std.specs.Prelude.{◌≡◌, ◌++◌, ◌+◌, ◌^◌, ◌<◌, ◌≤◌, ◌*◌, ℕ, List, [], ◌∷◌, Option, Some, OnOk, OnErr};
+ghost use Rattle.std.specs.Prelude.{IfErr, IfSome};
 ghost use Rattle.std.specs.Io.Buffered.{reader_buffer, reader_remaining};
 ghost use Rattle.memchr.specs.Find.{IsFirstByte, is_byte};
 ghost use Rattle.tuple_codec.specs.OperationView.{operation_of};
@@ -8,7 +9,8 @@ ghost use Rattle.tuple_codec.specs.Operations.{found, absent};
 ghost use Rattle.tuple_text.specs.Written.{WritesText};
 ghost use Rattle.space.specs.Births.{StateFollows, TuplesFollow, empty_in};
 ghost use Rattle.one_space.specs.Endings.{EndsKnown, EndsStrict, HeldForLine, IsWriteFault, scene_of};
-ghost use Rattle.one_space.specs.Moments.{AddsResult, EndsAll, EndsLate, EndsLines, EndsSome, Passes, PassesEarly, PassesRead};
+ghost use Rattle.one_space.specs.Moments.{AddsResult, EndsAll, EndsLate, EndsLines, EndsSome, Passes, PassesEarly};
+ghost use Rattle.one_space.specs.Moments.{PassesRead};
 ghost use Rattle.one_space.specs.Moments.{RefusesSo, RunsLine, RunsOperation, TellsLine, WritesAll, WritesDue, left_of};
 ghost use Rattle.one_space.specs.NextLines.{IsNextLine};
 ghost use Rattle.one_space.specs.Run.{result_line};

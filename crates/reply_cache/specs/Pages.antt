@@ -6,10 +6,12 @@ use Rattle.terms.specs.declared.parties.TheConstants.{MAX_CLIENTS}
 use Rattle.tuple_codec.specs.Spelling.{outcome_spelling}
 use Rattle.reply_cache.specs.Replies.{Kept, Replies, last_of, AreReplies}
 
+-- how a reply stands on its page: timestamp, number and answer
 abbrev pub kept_text : Kept → List ℕ
 kept_text k =
     to_be_bytes w64 k.timestamp ++ (to_be_bytes w64 k.number ++ outcome_spelling k.outcome)
 
+-- the text of a client's page: empty without a reply
 abbrev pub reply_text : Option Kept → List ℕ
 reply_text None = []
 reply_text (Some k) = kept_text k

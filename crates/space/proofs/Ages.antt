@@ -1,5 +1,6 @@
 -- Births in order of age, without one of them.
-use Rattle.std.proofs.Common.{◌≡◌, ◌≢◌, ℕ, zero, suc, ◌+◌, ◌-◌, ◌<◌, true, false, cond, List, [], ◌∷◌, ◌++◌, length, drop, take, append_assoc, get_or, refl, sym, ap, subst, ◌∙◌, arith, inl, inr, eq-eqb, ltb}
+use Rattle.std.proofs.Common.{◌≡◌, ◌≢◌, ℕ, zero, suc, ◌+◌, ◌-◌, ◌<◌, true, false, cond, List, [], ◌∷◌, ◌++◌, length}
+use Rattle.std.proofs.Common.{drop, take, append_assoc, get_or, refl, sym, ap, subst, ◌∙◌, arith, inl, inr, eq-eqb, ltb}
 use Rattle.std.specs.Prelude.{◌==◌, All, AllPairs, remove}
 use Rattle.std.specs.List.Sorted.{IsPartitionPoint, IsPartitionedBy}
 use Rattle.std.proofs.lemmas.Bool.{cases_eq, cases_lt, ne_eqb, ltb-true, ltb-false, lt-ltb}

@@ -4,7 +4,8 @@ use Rattle.std.specs.Prelude.{All, filter, find, is_some}
 use Rattle.std.proofs.lemmas.List.{length-take}
 use Rattle.std.proofs.lemmas.List.Elements.{All-head, All-tail, All-take, All-filter, All-map}
 use Rattle.tuple_tree.specs.Values.{TupleTree, TemplateTree, IsTuple}
-use Rattle.tuple_codec.specs.Operations.{Operation, out, rdp, inp, cas, rd_all, in_all, upgrade, IsOperation, IsOutcome, done, swapped, all, full, refused, AreTuples}
+use Rattle.tuple_codec.specs.Operations.{Operation, out, rdp, inp, cas, rd_all, in_all, upgrade, IsOperation, IsOutcome}
+use Rattle.tuple_codec.specs.Operations.{done, swapped, all, full, refused, AreTuples}
 use Rattle.template_match.specs.Tests.{is_match}
 use Rattle.space.specs.Applying.{refuses, served_outcome, outcome, has_room, first_match, found_or_absent}
 use Rattle.space.specs.Births.{SpaceState, IsState, tuples_of}

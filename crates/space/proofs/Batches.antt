@@ -1,5 +1,6 @@
 -- What a batch of operations leaves.
-use Rattle.std.proofs.Common.{◌≡◌, ℕ, ◌+◌, ◌*◌, ◌^◌, ◌≤◌, ◌<◌, Bool, true, false, cond, List, [], ◌∷◌, length, Result, Ok, Err, refl, sym, subst, arith}
+use Rattle.std.proofs.Common.{◌≡◌, ℕ, ◌+◌, ◌*◌, ◌^◌, ◌≤◌, ◌<◌, Bool, true, false, cond, List, [], ◌∷◌, length, Result}
+use Rattle.std.proofs.Common.{Ok, Err, refl, sym, subst, arith}
 use Rattle.std.specs.Prelude.{All, OnOk, OnErr, fold, is_some}
 use Rattle.std.proofs.lemmas.Bool.{ltb-true}
 use Rattle.std.proofs.lemmas.List.{length-map}
@@ -7,7 +8,8 @@ use Rattle.std.proofs.lemmas.List.Elements.{All-head, All-tail}
 use Rattle.tuple_tree.specs.Values.{TupleTree}
 use Rattle.tuple_codec.specs.Operations.{Operation, out, rdp, inp, cas, rd_all, in_all, upgrade, IsOperation}
 use Rattle.space.specs.Applying.{has_room, most_tuples, refuses, first_match}
-use Rattle.space.specs.Births.{SpaceState, IsState, Asked, tuples_of, with_birth, with_tuple, served_state, state_after, state_after_asked}
+use Rattle.space.specs.Births.{SpaceState, IsState, Asked, tuples_of, with_birth, with_tuple, served_state, state_after}
+use Rattle.space.specs.Births.{state_after_asked}
 use Rattle.space.specs.Pages.{IsStateAt}
 use Rattle.space.proofs.Keeping.{most_fit, IsNextBirth-birth_of, IsState-state_after}
 

@@ -1,5 +1,6 @@
 -- Which pages an operation changes.
-use Rattle.std.proofs.Common.{◌≡◌, ◌≢◌, ◌⊎◌, inl, inr, ℕ, zero, suc, ◌+◌, ◌%◌, ◌<◌, ◌≤◌, Bool, true, false, cond, List, [], ◌∷◌, ◌++◌, length, get_or, set, Some, refl, sym, ap, ◌∙◌, arith, append-nil}
+use Rattle.std.proofs.Common.{◌≡◌, ◌≢◌, ◌⊎◌, inl, inr, ℕ, zero, suc, ◌+◌, ◌%◌, ◌<◌, ◌≤◌, Bool, true, false, cond, List}
+use Rattle.std.proofs.Common.{[], ◌∷◌, ◌++◌, length, get_or, set, Some, refl, sym, ap, ◌∙◌, arith, append-nil}
 use Rattle.std.specs.Prelude.{◌==◌, All, Contains, find, map, remove, is_some}
 use Rattle.std.specs.List.{range_with_len}
 use Rattle.std.proofs.lemmas.Bool.{cases_eq, ne_eqb}
@@ -9,7 +10,8 @@ use Rattle.std.proofs.lemmas.List.FromFn.{length-range_with_len, get_or-range_wi
 use Rattle.tuple_tree.specs.Values.{TupleTree, TemplateTree}
 use Rattle.template_match.specs.Tests.{is_match}
 use Rattle.space.specs.Applying.{has_room, first_match}
-use Rattle.space.specs.Births.{BornTuple, SpaceState, tuples_of, birth_of, with_birth, with_tuple, without_match, served_state}
+use Rattle.space.specs.Births.{BornTuple, SpaceState, tuples_of, birth_of, with_birth, with_tuple, without_match}
+use Rattle.space.specs.Births.{served_state}
 use Rattle.space.specs.Pages.{on_page}
 use Rattle.space.specs.Marking.{with_pages}
 use Rattle.space.proofs.Texts.{on_page-append}

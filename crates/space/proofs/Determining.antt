@@ -1,5 +1,6 @@
 -- States are equal where their pages and headers are.
-use Rattle.std.proofs.Common.{◌≡◌, ℕ, suc, ◌%◌, ◌^◌, ◌≤◌, ◌<◌, Bool, true, false, cond, List, [], ◌∷◌, ◌++◌, length, take, drop, get_or, refl, sym, ap, ◌∙◌, subst, arith, eq-eqb, append_assoc, length-append}
+use Rattle.std.proofs.Common.{◌≡◌, ℕ, suc, ◌%◌, ◌^◌, ◌≤◌, ◌<◌, Bool, true, false, cond, List, [], ◌∷◌, ◌++◌, length}
+use Rattle.std.proofs.Common.{take, drop, get_or, refl, sym, ap, ◌∙◌, subst, arith, eq-eqb, append_assoc, length-append}
 use Rattle.std.specs.Prelude.{◌==◌, All, AllPairs, filter}
 use Rattle.std.specs.Int.{w16, w64, to_be_bytes, from_be_bytes}
 use Rattle.std.proofs.lemmas.List.{take_at, drop_at}
@@ -13,7 +14,8 @@ use Rattle.space.specs.Births.{BornTuple, SpaceState, IsState}
 use Rattle.space.specs.Reading.{IsEntry}
 use Rattle.space.specs.declared.version.Version.{Version}
 use Rattle.space.specs.declared.version.Version.TheVariants as versions
-use Rattle.space.specs.Pages.{stored_text, entry_text, entries_text, on_page, tuple_page_text, version_byte, header_text, IsStateAt}
+use Rattle.space.specs.Pages.{stored_text, entry_text, entries_text, on_page, tuple_page_text, version_byte}
+use Rattle.space.specs.Pages.{header_text, IsStateAt}
 
 -- ---- numbers and texts
 

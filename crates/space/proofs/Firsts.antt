@@ -1,11 +1,13 @@
 -- The first values of tuples and templates, read in their bytes.
-use Rattle.std.proofs.Common.{◌≡◌, ℕ, suc, ◌+◌, ◌-◌, ◌≤◌, Bool, true, false, cond, List, [], ◌∷◌, ◌++◌, length, take, Option, Some, None, ap, sym, subst, refl, ◌∙◌, arith, length-append}
+use Rattle.std.proofs.Common.{◌≡◌, ℕ, suc, ◌+◌, ◌-◌, ◌≤◌, Bool, true, false, cond, List, [], ◌∷◌, ◌++◌, length, take}
+use Rattle.std.proofs.Common.{Option, Some, None, ap, sym, subst, refl, ◌∙◌, arith, length-append}
 use Rattle.std.specs.Prelude.{option_map, slice_get, IfSome}
 use Rattle.std.proofs.lemmas.List.{take_at}
 use lib.Dec.{eqb}
 use Rattle.tuple_tree.specs.Items.{TreeItem, leaf, inner, none, item, how_many, length_in, as_list}
 use Rattle.tuple_tree.specs.Limits.{AreItems}
-use Rattle.tuple_tree.specs.Values.{Datum, bytes, actual, any, formal, datum_length, slot_length, datum_kind, IsDatum, IsSlot, TupleTree, TemplateTree, AreBytes, IsTuple, IsTemplate}
+use Rattle.tuple_tree.specs.Values.{Datum, bytes, actual, any, formal, datum_length, slot_length, datum_kind, IsDatum}
+use Rattle.tuple_tree.specs.Values.{IsSlot, TupleTree, TemplateTree, AreBytes, IsTuple, IsTemplate}
 use Rattle.tuple_tree.specs.declared.atoms.Kind.{Kind}
 use Rattle.tuple_tree.specs.declared.atoms.Kind.TheVariants as kinds
 use Rattle.tuple_tree.specs.declared.values.AtomRef.{AtomRef}
@@ -13,7 +15,8 @@ use Rattle.tuple_tree.specs.Reading.{◌>>=◌, rest_of, byte_at, nothing, item_
 use Rattle.tuple_tree.specs.Loose.{loose_at, loose_slot_at}
 use Rattle.tuple_tree.specs.Seen.{seen_datum}
 use Rattle.tuple_tree.specs.Spelling.{formal_tag, datum_spelling, slot_spelling, items_spelling}
-use Rattle.tuple_tree.proofs.Loosening.{IsLoose, IsLooseSlot, loosen, loosen_slot, loosen_item, loose_leaves, loose_slot_leaves}
+use Rattle.tuple_tree.proofs.Loosening.{IsLoose, IsLooseSlot, loosen, loosen_slot, loosen_item, loose_leaves}
+use Rattle.tuple_tree.proofs.Loosening.{loose_slot_leaves}
 use Rattle.tuple_tree.proofs.Readers.{parts}
 use Rattle.tuple_tree.proofs.Skipping.{rest_some}
 use Rattle.tuple_tree.proofs.Steps.{at_leaf}

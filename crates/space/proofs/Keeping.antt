@@ -1,5 +1,7 @@
 -- Operations keep what a state is.
-use Rattle.std.proofs.Common.{◌≡◌, ℕ, zero, suc, ◌+◌, ◌-◌, ◌%◌, ◌≤◌, ◌<◌, Bool, true, false, cond, List, [], ◌∷◌, ◌++◌, length, map, take, drop, get_or, set, Option, Some, None, refl, sym, ap, subst, ◌∙◌, arith, inl, inr, eq-eqb}
+use Rattle.std.proofs.Common.{◌≡◌, ℕ, zero, suc, ◌+◌, ◌-◌, ◌%◌, ◌≤◌, ◌<◌, Bool, true, false, cond, List, [], ◌∷◌, ◌++◌}
+use Rattle.std.proofs.Common.{length, map, take, drop, get_or, set, Option, Some, None, refl, sym, ap, subst, ◌∙◌}
+use Rattle.std.proofs.Common.{arith, inl, inr, eq-eqb}
 use Rattle.std.specs.Prelude.{◌==◌, All, position, is_some, nat_lt, remove}
 use Rattle.std.proofs.lemmas.Bool.{cases_eq, ltb-true, ltb-false, eqb-true, ne_eqb}
 use Rattle.std.proofs.lemmas.List.{length_push, length-map, map-append, get_or-set_same, get_or-set_other}
@@ -8,10 +10,14 @@ use Rattle.std.proofs.lemmas.List.Elements.{All-nil, All-push, All-append, All-t
 use Rattle.std.proofs.lemmas.List.Quantifiers.{all_pairs_push, all_pairs_remove}
 use Rattle.tuple_tree.specs.Items.{none}
 use Rattle.tuple_tree.specs.Values.{TupleTree, TemplateTree, IsTuple}
-use Rattle.tuple_codec.specs.Operations.{Operation, out, rdp, inp, cas, rd_all, in_all, upgrade, IsOperation, is_read_only}
+use Rattle.tuple_codec.specs.Operations.{Operation, out, rdp, inp, cas, rd_all, in_all, upgrade, IsOperation}
+use Rattle.tuple_codec.specs.Operations.{is_read_only}
 use Rattle.template_match.specs.Tests.{is_match}
-use Rattle.space.specs.Applying.{Contents, has_room, most_tuples, refuses, without_first, without_firsts, first_match, with_newest, served_after, tuples_after}
-use Rattle.space.specs.Births.{BornTuple, SpaceState, empty_in, tuples_of, page_count, has_page_room, first_passing, birth_of, with_birth, with_tuple, without_match, without_matches, upgraded, served_state, state_after, IsState, IsNextBirth}
+use Rattle.space.specs.Applying.{Contents, has_room, most_tuples, refuses, without_first, without_firsts, first_match}
+use Rattle.space.specs.Applying.{with_newest, served_after, tuples_after}
+use Rattle.space.specs.Births.{BornTuple, SpaceState, empty_in, tuples_of, page_count, has_page_room, first_passing}
+use Rattle.space.specs.Births.{birth_of, with_birth, with_tuple, without_match, without_matches, upgraded, served_state}
+use Rattle.space.specs.Births.{state_after, IsState, IsNextBirth}
 use Rattle.space.specs.Counted.{PagesAreCounted}
 use Rattle.space.specs.declared.version.Version.{Version}
 use Rattle.space.specs.declared.version.Version.TheVariants as versions

@@ -1,5 +1,7 @@
 -- The tables and the index follow the tuples.
-use Rattle.std.proofs.Common.{◌≡◌, ℕ, suc, ◌+◌, ◌-◌, ◌%◌, ◌≤◌, ◌<◌, Bool, true, false, cond, List, [], ◌∷◌, ◌++◌, length, map, take, drop, get_or, set, Some, refl, sym, ap, subst, ◌∙◌, arith, inl, inr, append-nil}
+use Rattle.std.proofs.Common.{◌≡◌, ℕ, suc, ◌+◌, ◌-◌, ◌%◌, ◌≤◌, ◌<◌, Bool, true, false, cond, List, [], ◌∷◌, ◌++◌}
+use Rattle.std.proofs.Common.{length, map, take, drop, get_or, set, Some, refl, sym, ap, subst, ◌∙◌, arith, inl, inr}
+use Rattle.std.proofs.Common.{append-nil}
 use Rattle.std.specs.Prelude.{◌==◌, All, AllPairs, filter, find, remove, nat_lt}
 use Rattle.std.specs.Ordering.{nat_cmp, is_eq}
 use Rattle.std.specs.Map.{lookup, remove_entry}
@@ -13,7 +15,8 @@ use Rattle.std.proofs.lemmas.List.Elements.{All-weaker, All-filter, All-drop}
 use Rattle.tuple_tree.specs.Values.{TupleTree, TemplateTree, IsTuple}
 use Rattle.template_match.specs.Tests.{is_match}
 use Rattle.space.specs.Applying.{most_tuples, without_first}
-use Rattle.space.specs.Births.{BornTuple, SpaceState, IsState, page_count, tuples_of, first_passing, birth_of, oldest_births, with_birth}
+use Rattle.space.specs.Births.{BornTuple, SpaceState, IsState, page_count, tuples_of, first_passing, birth_of}
+use Rattle.space.specs.Births.{oldest_births, with_birth}
 use Rattle.space.specs.Candidates.{is_candidate, candidates_of}
 use Rattle.space.specs.Counted.{IsIndexed}
 use Rattle.space.specs.Filing.{births_on, IsIndexOf}

@@ -1,5 +1,7 @@
 -- An operation changes no page but those of the tuples that it may add or take.
-use Rattle.std.proofs.Common.{◌≡◌, ◌≢◌, ◌⊎◌, inl, inr, ℕ, ◌+◌, ◌%◌, ◌≤◌, ◌<◌, arith, Bool, true, false, not, cond, List, [], ◌∷◌, ◌++◌, length, take, get_or, Result, Ok, Err, refl, sym, ap, subst, ◌∙◌, eq-eqb, eqb-true, append-nil}
+use Rattle.std.proofs.Common.{◌≡◌, ◌≢◌, ◌⊎◌, inl, inr, ℕ, ◌+◌, ◌%◌, ◌≤◌, ◌<◌, arith, Bool, true, false, not, cond, List}
+use Rattle.std.proofs.Common.{[], ◌∷◌, ◌++◌, length, take, get_or, Result, Ok, Err, refl, sym, ap, subst, ◌∙◌, eq-eqb}
+use Rattle.std.proofs.Common.{eqb-true, append-nil}
 use Rattle.std.specs.Prelude.{All, Contains, OnOk, OnErr, map, is_some, ◌==◌}
 use Rattle.std.proofs.lemmas.Bool.{or_parts, or_from, not_from_true}
 use Rattle.std.proofs.lemmas.List.{length-append, take-append-le}
@@ -7,10 +9,13 @@ use Rattle.std.proofs.lemmas.List.Elements.{All-head}
 use Rattle.tuple_tree.specs.Values.{TupleTree}
 use Rattle.tuple_codec.specs.Operations.{Operation, out, rdp, inp, cas, rd_all, in_all, upgrade}
 use Rattle.space.specs.Applying.{refuses, has_room, first_match}
-use Rattle.space.specs.Births.{BornTuple, SpaceState, birth_of, page_count, tuples_of, with_birth, with_tuple, served_state, state_after}
+use Rattle.space.specs.Births.{BornTuple, SpaceState, birth_of, page_count, tuples_of, with_birth, with_tuple}
+use Rattle.space.specs.Births.{served_state, state_after}
 use Rattle.space.specs.Pages.{entries_text, on_page, tuple_page_text, text_of_oldest}
 use Rattle.space.specs.Marking.{MarksChanged}
-use Rattle.space.specs.Watching.{WatchedState, is_changed, written_on, is_touched, written_text, served_births, touched_births, served_changes, changed_births, IsWatched, KeepsWritten, MayChange, TouchesChanges, TouchesOnly}
+use Rattle.space.specs.Watching.{WatchedState, is_changed, written_on, is_touched, written_text, served_births}
+use Rattle.space.specs.Watching.{touched_births, served_changes, changed_births, IsWatched, KeepsWritten, MayChange}
+use Rattle.space.specs.Watching.{TouchesChanges, TouchesOnly}
 use Rattle.space.proofs.Changing.{page_with_tuple, page_swapped, one_of_all, on_or_off, unmarked, marked}
 use Rattle.space.proofs.Taking.{page_kept}
 use Rattle.space.proofs.Texts.{on_page-append, length-on_page, oldest_are_all}

@@ -2,7 +2,8 @@
 use Rattle.std.proofs.Common.{◌≡◌, ℕ, Bool, true, false, cond, refl, sym, ap, ◌∙◌}
 use Rattle.std.specs.Prelude.{◌||◌}
 use Rattle.tuple_codec.specs.Operations.{Operation, out, rdp, inp, cas, rd_all, in_all, upgrade, refused, is_read_only}
-use Rattle.space.specs.Applying.{Contents, is_unknown, is_forbidden, refuses, outcome, served_outcome, wants_memory, served_wants_memory}
+use Rattle.space.specs.Applying.{Contents, is_unknown, is_forbidden, refuses, outcome, served_outcome, wants_memory}
+use Rattle.space.specs.Applying.{served_wants_memory}
 use Rattle.space.specs.Births.{SpaceState, tuples_of, state_after, served_state}
 use Rattle.space.specs.declared.version.Version.{Version}
 

@@ -1,9 +1,11 @@
 -- What an operation on a tuple space answers and leaves (Bessani and others, DepSpace, EuroSys 2008, section 3). The
 -- space is the list of its tuples, the oldest first; the versions, their limits and the choice of the oldest match are
 -- our own.
-use Rattle.std.specs.Prelude.{ℕ, zero, suc, Bool, true, false, not, ◌||◌, ◌==◌, List, [], ◌∷◌, ◌++◌, length, take, filter, find, nat_lt, Option, Some, None, is_some, if◌then◌else◌}
+use Rattle.std.specs.Prelude.{ℕ, zero, suc, Bool, true, false, not, ◌||◌, ◌==◌, List, [], ◌∷◌, ◌++◌, length, take}
+use Rattle.std.specs.Prelude.{filter, find, nat_lt, Option, Some, None, is_some, if◌then◌else◌}
 use Rattle.tuple_tree.specs.Values.{TupleTree, TemplateTree}
-use Rattle.tuple_codec.specs.Operations.{Operation, out, rdp, inp, cas, rd_all, in_all, upgrade, Outcome, done, found, absent, swapped, all, full, refused, is_version_2}
+use Rattle.tuple_codec.specs.Operations.{Operation, out, rdp, inp, cas, rd_all, in_all, upgrade, Outcome, done, found}
+use Rattle.tuple_codec.specs.Operations.{absent, swapped, all, full, refused, is_version_2}
 pub use Rattle.tuple_codec.specs.Operations.{is_read_only}
 use Rattle.template_match.specs.Tests.{is_match}
 use Rattle.space.specs.declared.version.Version.{Version}
@@ -27,9 +29,11 @@ abbrev pub most_tuples : Version → ℕ
 most_tuples versions.One = 8192
 most_tuples versions.Two = 12288
 
+-- whether the space holds fewer tuples than its version allows
 abbrev pub has_room : Contents → Bool
 has_room ts = nat_lt (length ts.tuples) (most_tuples ts.version)
 
+-- the contents with the tuple as the newest, if there is room for it
 abbrev pub with_newest : Contents → TupleTree → Contents
 with_newest ts t = if has_room ts then record ts { tuples = ts.tuples ++ t ∷ [] } else ts
 
@@ -47,6 +51,7 @@ without_firsts (suc n) test xs = without_firsts n test (without_first test xs)
 abbrev pub first_match : TemplateTree → Contents → Option TupleTree
 first_match p ts = find (is_match p) ts.tuples
 
+-- the answer to an rdp or an inp: its match, or absent
 abbrev pub found_or_absent : Option TupleTree → Outcome
 found_or_absent None = absent
 found_or_absent (Some t) = found t

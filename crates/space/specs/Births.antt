@@ -1,6 +1,7 @@
 -- Birth numbers. Each stored tuple has one, by which it lies on one of 256 pages of at most 64 tuples. A new tuple
 -- takes the least number not below the next one whose page has room, so that the order of births is the order of age.
-use Rattle.std.specs.Prelude.{◌≡◌, ℕ, zero, suc, ◌+◌, ◌%◌, ◌<◌, ◌≤◌, Bool, true, List, [], ◌∷◌, ◌++◌, length, take, map, filter, count_by, All, AllPairs, nat_lt, ◌==◌, is_some, if◌then◌else◌, refl}
+use Rattle.std.specs.Prelude.{◌≡◌, ℕ, zero, suc, ◌+◌, ◌%◌, ◌<◌, ◌≤◌, Bool, true, List, [], ◌∷◌, ◌++◌, length, take, map}
+use Rattle.std.specs.Prelude.{filter, count_by, All, AllPairs, nat_lt, ◌==◌, is_some, if◌then◌else◌, refl}
 use Rattle.std.specs.Coded.{Coded, code_by, coded×, coded_list, coded_ℕ}
 use Rattle.space.specs.declared.births.TheConstants.{PAGES, MAX_ON_PAGE}
 use Rattle.tuple_tree.specs.Values.{TupleTree, TemplateTree, IsTuple}
@@ -8,7 +9,8 @@ use Rattle.tuple_tree.specs.ValuesCode.{tuple_code}
 use Rattle.tuple_codec.specs.Operations.{Operation, out, rdp, inp, cas, rd_all, in_all, upgrade}
 use Rattle.template_match.specs.Tests.{is_match}
 use Rattle.space.specs.VersionCode.{version_code}
-use Rattle.space.specs.Applying.{Contents, has_room, most_tuples, refuses, without_first, without_firsts, first_match, wants_memory, tuples_after}
+use Rattle.space.specs.Applying.{Contents, has_room, most_tuples, refuses, without_first, without_firsts, first_match}
+use Rattle.space.specs.Applying.{wants_memory, tuples_after}
 use Rattle.space.specs.declared.version.Version.{Version}
 use Rattle.space.specs.declared.version.Version.TheVariants as versions
 
@@ -30,6 +32,7 @@ empty_in v = record { version = v; entries = []; next = 0 }
 abbrev pub empty_state : SpaceState
 empty_state = empty_in versions.One
 
+-- the contents of the space in this state, births aside
 abbrev pub tuples_of : SpaceState → Contents
 tuples_of s = record { version = s.version; tuples = map (λ e. e.1) s.entries }
 
@@ -46,15 +49,19 @@ unfoldable pub first_passing : (ℕ → Bool) → ℕ → ℕ → ℕ
 first_passing test zero start = start
 first_passing test (suc n) start = if test start then start else first_passing test n (start + 1)
 
+-- the birth number of a new tuple: the least one not below the next whose page has room
 abbrev pub birth_of : SpaceState → ℕ
 birth_of s = first_passing (has_page_room s.entries) PAGES s.next
 
+-- the state with the tuple as the newest, under its birth number
 abbrev pub with_birth : SpaceState → TupleTree → SpaceState
 with_birth s t = record s { entries = s.entries ++ (birth_of s, t) ∷ []; next = birth_of s + 1 }
 
+-- the state with the tuple as the newest, if there is room for it
 abbrev pub with_tuple : SpaceState → TupleTree → SpaceState
 with_tuple s t = if has_room (tuples_of s) then with_birth s t else s
 
+-- the state without the oldest tuple that the template matches
 abbrev pub without_match : SpaceState → TemplateTree → SpaceState
 without_match s p = record s { entries = without_first (λ e. is_match p e.1) s.entries }
 

@@ -1,5 +1,6 @@
 -- Lists of births by small numbers and by keys, and the tuples that they lead to.
-use Rattle.std.specs.Prelude.{◌≡◌, ℕ, ◌%◌, ◌<◌, ◌==◌, Bool, List, [], ◌∷◌, ◌++◌, length, map, filter, remove, slice_index_or, AllPairs, Option, Some, None, if◌then◌else◌}
+use Rattle.std.specs.Prelude.{◌≡◌, ℕ, ◌%◌, ◌<◌, ◌==◌, Bool, List, [], ◌∷◌, ◌++◌, length, map, filter, remove}
+use Rattle.std.specs.Prelude.{slice_index_or, AllPairs, Option, Some, None, if◌then◌else◌}
 use Rattle.std.specs.HashMap.{get_by}
 use Rattle.space.specs.declared.births.TheConstants.{PAGES}
 use Rattle.tuple_tree.specs.Items.{how_many}

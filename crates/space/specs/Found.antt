@@ -1,5 +1,6 @@
 -- What the private functions that find entries by their births speak of.
-use Rattle.std.specs.Prelude.{◌≡◌, ℕ, List, take, map, filter, find, flat_map, fold, Option, option_map, option_to_list, Result, IfOk, Vec}
+use Rattle.std.specs.Prelude.{◌≡◌, ℕ, List, take, map, filter, find, flat_map, fold, Option, option_map, option_to_list}
+use Rattle.std.specs.Prelude.{Result, IfOk, Vec}
 use Rattle.std.specs.Borrow.{Bor}
 use Rattle.std.specs.Ordering.{nat_cmp}
 use Rattle.std.specs.Map.{lookup, remove_entry}

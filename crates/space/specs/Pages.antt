@@ -2,7 +2,8 @@
 -- births: each as its birth number in 8 bytes, high byte first, in version 2 the length of its spelling in 2 bytes, and
 -- its spelling. What else a state has stands in a header: a byte for the version, the number of executed batches and
 -- the next birth number, both in 8 bytes.
-use Rattle.std.specs.Prelude.{◌≡◌, ℕ, ◌*◌, ◌^◌, ◌≤◌, ◌<◌, ◌%◌, List, [], ◌∷◌, ◌++◌, length, take, map, filter, flat_map, slice_index_or, ◌==◌, Result, MatchResult}
+use Rattle.std.specs.Prelude.{◌≡◌, ℕ, ◌*◌, ◌^◌, ◌≤◌, ◌<◌, ◌%◌, List, [], ◌∷◌, ◌++◌, length, take, map, filter, flat_map}
+use Rattle.std.specs.Prelude.{slice_index_or, ◌==◌, Result, MatchResult}
 use Rattle.std.specs.Borrow.{Bor}
 use Rattle.std.specs.Int.{w64, to_be_bytes}
 use Rattle.space.specs.declared.births.TheConstants.{PAGES, BIRTHS_A_BATCH}
@@ -19,9 +20,11 @@ abbrev pub stored_text : Version → TupleTree → List ℕ
 stored_text versions.One t = tuple_spelling t
 stored_text versions.Two t = string (tuple_spelling t)
 
+-- how a tuple stands on a page, with its birth number
 abbrev pub entry_text : Version → BornTuple → List ℕ
 entry_text v e = to_be_bytes w64 e.0 ++ stored_text v e.1
 
+-- how tuples stand on a page, one after another
 abbrev pub entries_text : Version → List BornTuple → List ℕ
 entries_text v es = flat_map (entry_text v) es
 
@@ -29,6 +32,7 @@ entries_text v es = flat_map (entry_text v) es
 unfoldable pub on_page : ℕ → List BornTuple → List BornTuple
 on_page page es = filter (λ e. e.0 % PAGES == page) es
 
+-- the text of a page: its tuples, the oldest first
 abbrev pub tuple_page_text : SpaceState → ℕ → List ℕ
 tuple_page_text s page = entries_text s.version (on_page page s.entries)
 

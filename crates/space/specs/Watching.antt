@@ -1,5 +1,6 @@
 -- A space and which of its pages may have changed.
-use Rattle.std.specs.Prelude.{◌≡◌, ℕ, ◌%◌, ◌<◌, ◌≤◌, Bool, true, false, not, ◌||◌, ◌==◌, List, [], ◌∷◌, map, Contains, slice_index, slice_index_or, if◌then◌else◌, refl}
+use Rattle.std.specs.Prelude.{◌≡◌, ℕ, ◌%◌, ◌<◌, ◌≤◌, Bool, true, false, not, ◌||◌, ◌==◌, List, [], ◌∷◌, map, Contains}
+use Rattle.std.specs.Prelude.{slice_index, slice_index_or, if◌then◌else◌, refl}
 use Rattle.std.specs.Coded.{Coded, code_by, coded×, coded_list, coded_bool, coded_ℕ}
 use Rattle.std.specs.List.{range_with_len}
 use Rattle.space.specs.declared.births.TheConstants.{PAGES}

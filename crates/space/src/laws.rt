@@ -6,7 +6,8 @@ ghost use Rattle.tuple_codec.specs.Operations.{Operation};
 ghost use Rattle.template_match.specs.Tests.{is_match};
 ghost use Rattle.space.specs.Candidates.{is_candidate};
 ghost use Rattle.space.specs.Births.{SpaceState, IsNextBirth, TuplesFollow, birth_of, empty_state, state_after};
-ghost use Rattle.space.specs.Laws.{StatesStay, AnswersAreValid, ReadsKnowNoClient, PagesDetermineSpace, BatchLeavesState};
+ghost use Rattle.space.specs.Laws.{StatesStay, AnswersAreValid, ReadsKnowNoClient, PagesDetermineSpace};
+ghost use Rattle.space.specs.Laws.{BatchLeavesState};
 ghost use Rattle.space.specs.Pages.{IsStateAt};
 
 /// A new tuple takes the least birth number whose page has room, and such a number is never far. The 256 pages hold

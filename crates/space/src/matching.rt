@@ -3,7 +3,8 @@
 ghost use Rattle.std.specs.Prelude.{◌≡◌, ◌≢◌, [], OnErr};
 ghost use Rattle.space.specs.Births.{oldest_births};
 ghost use Rattle.space.specs.Prints.{TellsMatches};
-ghost use Rattle.space.specs.Found.{IsMatchAt, IsOldest, IsOldestAt, AreOldestAt, AreOldestSeen, matches_at, entries_at, entry_of_birth};
+ghost use Rattle.space.specs.Found.{IsMatchAt, IsOldest, IsOldestAt, AreOldestAt, AreOldestSeen, matches_at};
+ghost use Rattle.space.specs.Found.{entries_at, entry_of_birth};
 
 use crate::prints::{Wanted, wanted_by};
 use crate::stored::Stored;

@@ -6,7 +6,8 @@ ghost use Rattle.tuple_tree.specs.Values.{actual, formal, datum_kind};
 ghost use Rattle.tuple_tree.specs.Seen.{seen_datum};
 ghost use Rattle.tuple_tree.specs.Spelling.{formal_tag};
 ghost use Rattle.space.specs.Firsts.{front_at};
-ghost use Rattle.space.specs.Prints.{datum_print, front_print, entry_label, first_kind, tuple_print, IsUnlike, TellsMatches};
+ghost use Rattle.space.specs.Prints.{datum_print, front_print, entry_label, first_kind, tuple_print, IsUnlike};
+ghost use Rattle.space.specs.Prints.{TellsMatches};
 
 use std::alloc::Allocator;
 use tuple_tree::{AtomRef, Kind, Template, Tuple, read_atom, read_byte, skip_field, skip_value};

@@ -1,9 +1,11 @@
 //! From the texts of pages back to births and tuples.
 
-ghost use Rattle.std.specs.Prelude.{◌≡◌, ◌≢◌, ℕ, ◌+◌, ◌*◌, ◌^◌, ◌≤◌, ◌<◌, ◌%◌, ◌++◌, ◌∷◌, [], length, All, AllPairs, IfOk, OnOk, IfSome, IsSome};
+ghost use Rattle.std.specs.Prelude.{◌≡◌, ◌≢◌, ℕ, ◌+◌, ◌*◌, ◌^◌, ◌≤◌, ◌<◌, ◌%◌, ◌++◌, ◌∷◌, [], length, All, AllPairs};
+ghost use Rattle.std.specs.Prelude.{IfOk, OnOk, IfSome, IsSome};
 ghost use Rattle.std.specs.Int.{w64, to_be_bytes};
 ghost use Rattle.space.specs.Pages.{on_page};
-ghost use Rattle.space.specs.Reading.{IsEntry, IsEntryOf, TupleIsAdded, IsHeader, ReadsStored, ReadsEachStored, ReadsSpelled, ReadsEach, ReadsPage, ReadsEachPage};
+ghost use Rattle.space.specs.Reading.{IsEntry, IsEntryOf, TupleIsAdded, IsHeader, ReadsStored, ReadsEachStored};
+ghost use Rattle.space.specs.Reading.{ReadsSpelled, ReadsEach, ReadsPage, ReadsEachPage};
 
 use crate::births::{BIRTHS_A_BATCH, MAX_ON_PAGE, PAGES};
 use crate::pages::{HEADER_LEN, len_of, version_of};

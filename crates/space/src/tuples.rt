@@ -1,6 +1,7 @@
 //! The space and its operations.
 
-ghost use Rattle.std.specs.Prelude.{◌≡◌, ℕ, ◌+◌, ◌%◌, ◌^◌, ◌<◌, ◌≤◌, true, length, slice_index_or, slice_set, is_some, OnOk, OnErr, IfOk, IfSome, IsTrue, ◌↔◌};
+ghost use Rattle.std.specs.Prelude.{◌≡◌, ℕ, ◌+◌, ◌%◌, ◌^◌, ◌<◌, ◌≤◌, true, length, slice_index_or, slice_set, is_some};
+ghost use Rattle.std.specs.Prelude.{OnOk, OnErr, IfOk, IfSome, IsTrue, ◌↔◌};
 ghost use Rattle.std.specs.List.{range_with_len};
 ghost use Rattle.std.specs.Ordering.{nat_cmp};
 ghost use Rattle.std.specs.Map.{lookup};
@@ -10,14 +11,18 @@ ghost use Rattle.tuple_codec.specs.Operations.{rdp, inp, cas, rd_all, in_all};
 ghost use Rattle.tuple_codec.specs.OperationView.{operation_of, outcome_of};
 ghost use Rattle.space.specs.Answers.{AnswersOperation, AnswersAnyone, RefusesChanges, LacksMemory};
 ghost use Rattle.space.specs.Candidates.{candidates_of};
-ghost use Rattle.space.specs.Applying.{served_outcome, first_match, has_room, most_tuples, is_unknown, is_forbidden, refuses};
+ghost use Rattle.space.specs.Applying.{served_outcome, first_match, has_room, most_tuples, is_unknown, is_forbidden};
+ghost use Rattle.space.specs.Applying.{refuses};
 ghost use Rattle.space.specs.Seeing.{ShowsAnyone, ShowsServed, StaysAsAsked, outcome_seen};
 ghost use Rattle.space.specs.Serving.{AnswersServed, FollowsServed, WantsServed};
-ghost use Rattle.space.specs.Pages.{tuple_page_text, text_of_oldest, header_text, texts_of, ArePagesOfTuples, MayBePages, ReadsEachState};
+ghost use Rattle.space.specs.Pages.{tuple_page_text, text_of_oldest, header_text, texts_of, ArePagesOfTuples};
+ghost use Rattle.space.specs.Pages.{MayBePages, ReadsEachState};
 ghost use Rattle.space.specs.Reading.{ArePagesOf, ReadsAllPages};
 ghost use Rattle.space.specs.Found.{IsOldest, without_birth, without_births};
 ghost use Rattle.space.specs.Marking.{MarksChanged, with_pages};
-ghost use Rattle.space.specs.Births.{IsState, StateFollows, TuplesFollow, WantsMemory, empty_state, empty_in, oldest_births, page_count, tuples_of, with_birth, with_tuple, without_match, without_matches, upgraded};
+ghost use Rattle.space.specs.Births.{IsState, StateFollows, TuplesFollow, WantsMemory, empty_state, empty_in};
+ghost use Rattle.space.specs.Births.{oldest_births, page_count, tuples_of, with_birth, with_tuple, without_match};
+ghost use Rattle.space.specs.Births.{without_matches, upgraded};
 
 use crate::births::{PAGES, empty_pages, next_birth};
 use crate::index::Index;

@@ -1,5 +1,6 @@
 -- The walk along the bytes of a whole template and of a whole tuple decides whether they match.
-use Rattle.std.proofs.Common.{◌≡◌, ℕ, Bool, true, false, List, [], Option, Some, None, cond, ap, sym, refl, ◌∙◌, arith, append-nil}
+use Rattle.std.proofs.Common.{◌≡◌, ℕ, Bool, true, false, List, [], Option, Some, None, cond, ap, sym, refl, ◌∙◌, arith}
+use Rattle.std.proofs.Common.{append-nil}
 use Rattle.tuple_tree.specs.Items.{none, with_last, how_many}
 use Rattle.tuple_tree.specs.Values.{slot_length, TemplateTree, TupleTree, IsTemplate, IsTuple}
 use Rattle.tuple_tree.specs.Reading.{◌>>=◌, item_at, more}

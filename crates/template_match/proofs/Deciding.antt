@@ -7,7 +7,8 @@ use Rattle.std.proofs.lemmas.Slice.Eq.{bytes_eq-Decides}
 use Rattle.tuple_tree.specs.Items.{TreeItem, leaf, inner, none, item}
 use Rattle.tuple_tree.specs.declared.atoms.Kind.{Kind}
 use Rattle.tuple_tree.specs.declared.atoms.Kind.TheVariants as kinds
-use Rattle.tuple_tree.specs.Values.{Datum, number, text, bytes, truth, wide, Slot, actual, any, formal, kind_of, TupleTree, TemplateTree}
+use Rattle.tuple_tree.specs.Values.{Datum, number, text, bytes, truth, wide, Slot, actual, any, formal, kind_of}
+use Rattle.tuple_tree.specs.Values.{TupleTree, TemplateTree}
 use Rattle.template_match.specs.Matches.{Matches, FieldMatches, SlotMatches}
 use Rattle.template_match.specs.Tests.{is_match, is_field_match, is_slot_match, is_of_kind, datum_eq}
 

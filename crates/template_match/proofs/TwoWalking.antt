@@ -1,5 +1,6 @@
 -- A walk along the bytes of a template and of values is the walk by the template that is read.
-use Rattle.std.proofs.Common.{◌≡◌, ℕ, zero, suc, ◌+◌, ◌-◌, ◌<◌, ◌≤◌, true, false, List, [], ◌∷◌, length, take, Option, Some, None, ap, sym, refl, ◌∙◌, arith, length-append}
+use Rattle.std.proofs.Common.{◌≡◌, ℕ, zero, suc, ◌+◌, ◌-◌, ◌<◌, ◌≤◌, true, false, List, [], ◌∷◌, length, take, Option}
+use Rattle.std.proofs.Common.{Some, None, ap, sym, refl, ◌∙◌, arith, length-append}
 use Rattle.std.proofs.lemmas.List.{take_at}
 use Rattle.std.proofs.lemmas.Bool.{le-ltb, lt-ltb}
 use lib.Dec.{ltb}
@@ -13,7 +14,8 @@ use Rattle.tuple_tree.proofs.Skipping.{rest_some}
 use Rattle.tuple_tree.proofs.Steps.{inner_below, no_levels}
 use Rattle.tuple_tree.specs.Loose.{loose_at, loose_slot_at}
 use Rattle.tuple_tree.proofs.Telling.{byte_whole}
-use Rattle.template_match.specs.Walks.{strip, behind_field, behind_fields, behind_both, behind_one, behind_atom, behind_nested}
+use Rattle.template_match.specs.Walks.{strip, behind_field, behind_fields, behind_both, behind_one, behind_atom}
+use Rattle.template_match.specs.Walks.{behind_nested}
 use Rattle.tuple_tree.proofs.Loosening.{loose_leaves}
 use Rattle.tuple_tree.proofs.Seeing.{joined, more_from}
 

@@ -1,11 +1,15 @@
 -- A walk along the bytes of a tuple decides whether a template matches it.
-use Rattle.std.proofs.Common.{◌≡◌, ℕ, suc, ◌≤◌, Bool, true, false, ◌&&◌, cond, List, [], ◌∷◌, ◌++◌, Some, None, ap, sym, refl, ◌∙◌, arith, append_assoc, append-nil}
+use Rattle.std.proofs.Common.{◌≡◌, ℕ, suc, ◌≤◌, Bool, true, false, ◌&&◌, cond, List, [], ◌∷◌, ◌++◌, Some, None, ap, sym}
+use Rattle.std.proofs.Common.{refl, ◌∙◌, arith, append_assoc, append-nil}
 use Rattle.std.specs.Bool.{Decides}
 use Rattle.std.proofs.lemmas.Bool.{and_parts, eqb-true, eq-eqb}
 use lib.Dec.{eqb}
-use Rattle.tuple_tree.specs.Items.{TreeItem, leaf, inner, none, item, how_many, item_levels, levels_in, item_length, length_in}
+use Rattle.tuple_tree.specs.Items.{TreeItem, leaf, inner, none, item, how_many, item_levels, levels_in, item_length}
+use Rattle.tuple_tree.specs.Items.{length_in}
 use Rattle.tuple_tree.specs.Limits.{IsItem, AreItems}
-use Rattle.tuple_tree.specs.Values.{Datum, number, text, bytes, truth, wide, Slot, actual, any, formal, kind_of, datum_length, slot_length, IsDatum, IsSlot, TupleTree, TemplateTree, IsTuple, IsTemplate}
+use Rattle.tuple_tree.specs.Values.{Datum, number, text, bytes, truth, wide, Slot, actual, any, formal, kind_of}
+use Rattle.tuple_tree.specs.Values.{datum_length, slot_length, IsDatum, IsSlot, TupleTree, TemplateTree, IsTuple}
+use Rattle.tuple_tree.specs.Values.{IsTemplate}
 use Rattle.tuple_tree.specs.ValuesCode.{kind_number, kind_from, kind_from-number}
 use Rattle.tuple_tree.specs.declared.atoms.Kind.{Kind}
 use Rattle.tuple_tree.specs.declared.atoms.Kind.TheVariants as kinds

@@ -6,7 +6,8 @@ use Rattle.std.specs.Bool.{beq}
 use Rattle.tuple_tree.specs.Items.{TreeItem, leaf, inner, none, item}
 use Rattle.tuple_tree.specs.declared.atoms.Kind.{Kind}
 use Rattle.tuple_tree.specs.declared.atoms.Kind.TheVariants as kinds
-use Rattle.tuple_tree.specs.Values.{Datum, number, text, bytes, truth, wide, Slot, actual, any, formal, TupleTree, TemplateTree}
+use Rattle.tuple_tree.specs.Values.{Datum, number, text, bytes, truth, wide, Slot, actual, any, formal, TupleTree}
+use Rattle.tuple_tree.specs.Values.{TemplateTree}
 
 -- Whether two plain values are equal; values of different kinds never are.
 abbrev pub datum_eq : Datum → Datum → Bool
@@ -17,6 +18,7 @@ datum_eq (truth b) (truth c) = beq b c
 datum_eq (wide m) (wide n) = int_eq m n
 datum_eq _ _ = false
 
+-- whether a value equals this plain one
 abbrev pub is_datum : Datum → TreeItem Datum → Bool
 is_datum x (leaf y) = datum_eq x y
 is_datum x (inner t) = false
@@ -31,17 +33,20 @@ is_of_kind kinds.Tuple (inner t) = true
 is_of_kind kinds.Wide (leaf (wide n)) = true
 is_of_kind _ _ = false
 
+-- whether a value matches a field that is no template: an equal value, any value, or each value of the kind
 abbrev pub is_slot_match : Slot → TreeItem Datum → Bool
 is_slot_match (actual x) v = is_datum x v
 is_slot_match any v = true
 is_slot_match (formal k) v = is_of_kind k v
 
+-- whether a field matches a value: a nested template matches nested tuples alone, and these as a template
 abbrev mutual
   pub is_field_match : TreeItem Slot → TreeItem Datum → Bool
   is_field_match (leaf s) v = is_slot_match s v
   is_field_match (inner p) (leaf x) = false
   is_field_match (inner p) (inner t) = is_match p t
 
+  -- whether a template matches a tuple: both have the same number of items, and each field matches
   pub is_match : TemplateTree → TupleTree → Bool
   is_match none none = true
   is_match none (item v t) = false

@@ -3,7 +3,8 @@
 ghost use Rattle.std.specs.Prelude.{◌≡◌, ◌+◌, ◌*◌, Some};
 ghost use Rattle.tuple_tree.specs.Results.{Yields};
 ghost use Rattle.tuple_tree.specs.Reading.{byte_at};
-ghost use Rattle.template_match.specs.Walks.{behind_value, behind_kind, behind_both, behind_one, behind_atom, behind_nested, value_tag};
+ghost use Rattle.template_match.specs.Walks.{behind_value, behind_kind, behind_both, behind_one, behind_atom};
+ghost use Rattle.template_match.specs.Walks.{behind_nested, value_tag};
 
 use crate::strip::{strip_behind, strip_front};
 use tuple_tree::{Kind, MAX_FIELDS, read_byte, skip_atom, skip_value};

@@ -4,10 +4,11 @@ use Rattle.terms.specs.declared.parties.Party.{Party}
 use Rattle.terms.specs.declared.parties.Party.TheVariants as parties
 use Rattle.terms.specs.declared.parties.TheConstants.{FIRST_CLIENT}
 
--- the number of a client among the parties, and that of a party among the clients
+-- the number of a client among the parties
 abbrev pub client_party : ℕ → ℕ
 client_party client = FIRST_CLIENT + client
 
+-- the number of a party among the clients
 abbrev pub client_number : ℕ → ℕ
 client_number party = party - FIRST_CLIENT
 

@@ -1,5 +1,6 @@
 -- Reading meets the grammar, from both sides.
-use Rattle.std.proofs.Common.{◌≡◌, ℕ, ◌-◌, ◌≤◌, List, [], ◌++◌, length, take, drop, Some, None, ap, sym, refl, ◌∙◌, arith, append-nil, length-append}
+use Rattle.std.proofs.Common.{◌≡◌, ℕ, ◌-◌, ◌≤◌, List, [], ◌++◌, length, take, drop, Some, None, ap, sym, refl, ◌∙◌}
+use Rattle.std.proofs.Common.{arith, append-nil, length-append}
 use Rattle.std.proofs.lemmas.List.{take_at, take-append-drop, length-drop}
 use Rattle.tuple_tree.specs.Values.{AreBytes, IsDatum, IsSlot, datum_length, slot_length, IsTuple, IsTemplate}
 use Rattle.tuple_tree.specs.Reading.{Reader, datum_at, slot_at, tuple_at, template_at}

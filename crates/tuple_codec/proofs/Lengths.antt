@@ -1,8 +1,10 @@
 -- The lengths of spellings.
 use Rattle.std.proofs.Common.{◌≡◌, ◌*◌, ◌≤◌, List, [], ◌∷◌, length, length-append, arith}
 use Rattle.tuple_tree.specs.Items.{whole_length}
-use Rattle.tuple_tree.specs.Values.{IsDatum, IsSlot, datum_length, slot_length, TupleTree, TemplateTree, IsTuple, IsTemplate}
-use Rattle.tuple_codec.specs.Operations.{Operation, out, rdp, inp, cas, rd_all, in_all, upgrade, IsOperation, Outcome, done, found, absent, swapped, all, full, refused, IsOutcome, AreTuples}
+use Rattle.tuple_tree.specs.Values.{IsDatum, IsSlot, datum_length, slot_length, TupleTree, TemplateTree, IsTuple}
+use Rattle.tuple_tree.specs.Values.{IsTemplate}
+use Rattle.tuple_codec.specs.Operations.{Operation, out, rdp, inp, cas, rd_all, in_all, upgrade, IsOperation, Outcome}
+use Rattle.tuple_codec.specs.Operations.{done, found, absent, swapped, all, full, refused, IsOutcome, AreTuples}
 use Rattle.tuple_tree.specs.Reading.{datum_at, slot_at}
 use Rattle.tuple_tree.specs.Spelling.{datum_spelling, slot_spelling, tuple_spelling, template_spelling}
 use Rattle.tuple_codec.specs.Spelling.{tuples_spelling, operation_spelling, outcome_spelling}

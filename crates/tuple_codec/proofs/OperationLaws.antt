@@ -1,14 +1,20 @@
 -- Operations and outcomes at the front of bytes.
-use Rattle.std.proofs.Common.{◌≡◌, ℕ, suc, ◌≤◌, false, ◌&&◌, cond, List, [], ◌∷◌, ◌++◌, length, Some, None, ap, sym, refl, ◌∙◌, arith, append_assoc, append-nil, length-append}
+use Rattle.std.proofs.Common.{◌≡◌, ℕ, suc, ◌≤◌, false, ◌&&◌, cond, List, [], ◌∷◌, ◌++◌, length, Some, None, ap, sym}
+use Rattle.std.proofs.Common.{refl, ◌∙◌, arith, append_assoc, append-nil, length-append}
 use Rattle.std.proofs.lemmas.Bool.{leb-true, le-leb, and_parts, and_from, ltb-false, le-ltb}
 use lib.Dec.{leb, ltb}
 use Rattle.tuple_tree.specs.Values.{TupleTree, TemplateTree, IsTuple, IsTemplate}
-use Rattle.tuple_codec.specs.Operations.{Operation, out, rdp, inp, cas, rd_all, in_all, upgrade, IsCounted, IsOperation, AreTuples, Outcome, done, found, absent, swapped, all, full, refused, IsOutcome}
+use Rattle.tuple_codec.specs.Operations.{Operation, out, rdp, inp, cas, rd_all, in_all, upgrade, IsCounted, IsOperation}
+use Rattle.tuple_codec.specs.Operations.{AreTuples, Outcome, done, found, absent, swapped, all, full, refused}
+use Rattle.tuple_codec.specs.Operations.{IsOutcome}
 use Rattle.tuple_tree.specs.Reading.{◌>>=◌, read_as, unknown, more, byte_at, flag_at, tuple_at, template_at}
-use Rattle.tuple_codec.specs.Reading.{cas_at, counted_template_at, operation_rows, operation_behind, operation_at, with_last_tuple, tuples_at, outcome_rows, outcome_behind, outcome_at}
+use Rattle.tuple_codec.specs.Reading.{cas_at, counted_template_at, operation_rows, operation_behind, operation_at}
+use Rattle.tuple_codec.specs.Reading.{with_last_tuple, tuples_at, outcome_rows, outcome_behind, outcome_at}
 use Rattle.tuple_tree.specs.Spelling.{flag, tuple_spelling, template_spelling}
 use Rattle.tuple_codec.specs.Spelling.{counted_spelling, operation_spelling, tuples_spelling, outcome_spelling}
-use Rattle.tuple_tree.proofs.Readers.{Found, FoundBehind, bind_some, parts, guard_holds, guard_fails, moved, byte_found, as_found, as_again, tag_found, behind_found, RowsFound, ◌⨾◌, found_by_table, unknown_found, Grows, more_found}
+use Rattle.tuple_tree.proofs.Readers.{Found, FoundBehind, bind_some, parts, guard_holds, guard_fails, moved, byte_found}
+use Rattle.tuple_tree.proofs.Readers.{as_found, as_again, tag_found, behind_found, RowsFound, ◌⨾◌, found_by_table}
+use Rattle.tuple_tree.proofs.Readers.{unknown_found, Grows, more_found}
 use Rattle.tuple_tree.proofs.Numbers.{flag_found, flag_again}
 use Rattle.tuple_codec.proofs.Grammar.{Reads, tuple_reads, template_reads}
 

@@ -1,5 +1,6 @@
 -- Texts that are appended one after another.
-use Rattle.std.proofs.Common.{◌≡◌, ℕ, ◌+◌, ◌<◌, ◌≤◌, List, ◌++◌, length, take, drop, get_or, Result, Ok, Err, ap, sym, refl, ◌∙◌, arith, append_assoc, append-nil}
+use Rattle.std.proofs.Common.{◌≡◌, ℕ, ◌+◌, ◌<◌, ◌≤◌, List, ◌++◌, length, take, drop, get_or, Result, Ok, Err, ap, sym}
+use Rattle.std.proofs.Common.{refl, ◌∙◌, arith, append_assoc, append-nil}
 use Rattle.std.proofs.lemmas.List.{take_at, take-take, take-append-le, length-take, at_drop_more, at_drop_all}
 use Rattle.tuple_tree.specs.Values.{TupleTree}
 use Rattle.tuple_tree.specs.Puts.{PutsText}

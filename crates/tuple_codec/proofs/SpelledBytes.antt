@@ -1,5 +1,6 @@
 -- Each spelling is a list of bytes.
-use Rattle.std.proofs.Common.{◌≡◌, ℕ, ◌+◌, ◌/◌, ◌<◌, ◌≤◌, Bool, true, false, cond, List, [], ◌∷◌, ◌++◌, length, refl, subst, arith}
+use Rattle.std.proofs.Common.{◌≡◌, ℕ, ◌+◌, ◌/◌, ◌<◌, ◌≤◌, Bool, true, false, cond, List, [], ◌∷◌, ◌++◌, length, refl}
+use Rattle.std.proofs.Common.{subst, arith}
 use Rattle.std.proofs.lemmas.Bool.{and_parts, ltb-true}
 use Rattle.std.specs.Prelude.{nat_lt}
 use Rattle.std.specs.Int.{w16, w32, w64, w128, to_be_bytes, cast_unsigned}
@@ -7,11 +8,14 @@ use Rattle.std.specs.Str.{IsUtf8}
 use Rattle.std.proofs.Math.Utf8.{scalar, scalars, encode, encodes, next, scalar_cases}
 use Rattle.tuple_tree.specs.Items.{TreeItem, leaf, inner, Items, none, item, how_many}
 use Rattle.tuple_tree.specs.Limits.{IsItem, AreItems}
-use Rattle.tuple_tree.specs.Values.{Datum, number, text, bytes, truth, wide, Slot, actual, any, formal, AreBytes, IsDatum, IsSlot, TupleTree, TemplateTree, IsTuple, IsTemplate}
+use Rattle.tuple_tree.specs.Values.{Datum, number, text, bytes, truth, wide, Slot, actual, any, formal, AreBytes}
+use Rattle.tuple_tree.specs.Values.{IsDatum, IsSlot, TupleTree, TemplateTree, IsTuple, IsTemplate}
 use Rattle.tuple_tree.specs.declared.atoms.Kind.{Kind}
 use Rattle.tuple_tree.specs.declared.atoms.Kind.TheVariants as kinds
-use Rattle.tuple_codec.specs.Operations.{Operation, out, rdp, inp, cas, rd_all, in_all, upgrade, IsOperation, AreTuples, Outcome, done, found, absent, swapped, all, full, refused, IsOutcome}
-use Rattle.tuple_tree.specs.Spelling.{string, flag, wide_bytes, datum_spelling, formal_tag, slot_spelling, item_spelling, items_spelling, whole_spelling, tuple_spelling, template_spelling}
+use Rattle.tuple_codec.specs.Operations.{Operation, out, rdp, inp, cas, rd_all, in_all, upgrade, IsOperation, AreTuples}
+use Rattle.tuple_codec.specs.Operations.{Outcome, done, found, absent, swapped, all, full, refused, IsOutcome}
+use Rattle.tuple_tree.specs.Spelling.{string, flag, wide_bytes, datum_spelling, formal_tag, slot_spelling}
+use Rattle.tuple_tree.specs.Spelling.{item_spelling, items_spelling, whole_spelling, tuple_spelling, template_spelling}
 use Rattle.tuple_codec.specs.Spelling.{operation_spelling, tuples_spelling, outcome_spelling}
 use Rattle.tuple_tree.proofs.Readers.{bytes_append}
 use Rattle.tuple_tree.proofs.NumberBytes.{no_bytes, bytes_more, high_bytes}

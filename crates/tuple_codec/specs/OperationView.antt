@@ -1,6 +1,7 @@
 -- The plain operations and answers that the Rust values stand for, and their spellings.
 use Rattle.std.specs.Prelude.{ℕ, List}
-use Rattle.tuple_codec.specs.Operations.{Operation, out, rdp, inp, cas, rd_all, in_all, upgrade, Outcome, done, found, absent, swapped, all, full, refused}
+use Rattle.tuple_codec.specs.Operations.{Operation, out, rdp, inp, cas, rd_all, in_all, upgrade, Outcome, done, found}
+use Rattle.tuple_codec.specs.Operations.{absent, swapped, all, full, refused}
 use Rattle.tuple_codec.specs.Spelling.{operation_spelling, outcome_spelling}
 use Rattle.tuple_codec.specs.declared.operations.Op.{Op}
 use Rattle.tuple_codec.specs.declared.operations.Op.TheVariants as ops
@@ -8,6 +9,7 @@ use Rattle.tuple_codec.specs.declared.operations.Answer.{Answer}
 use Rattle.tuple_codec.specs.declared.operations.Answer.TheVariants as answers
 
 module _ {A : Type 0} where
+  -- the operation that a Rust value stands for
   abbrev pub operation_of : Op A → Operation
   operation_of (ops.Out t) = out t
   operation_of (ops.Rdp p) = rdp p
@@ -17,6 +19,7 @@ module _ {A : Type 0} where
   operation_of (ops.InAll max p) = in_all max.count p
   operation_of ops.Upgrade = upgrade
 
+  -- the answer that a Rust value stands for
   abbrev pub outcome_of : Answer A → Outcome
   outcome_of answers.Done = done
   outcome_of (answers.Found t) = found t

@@ -4,6 +4,7 @@ use Rattle.std.specs.Prelude.{ℕ, ◌≤◌, Bool, true, false, ◌||◌, List,
 use Rattle.tuple_tree.specs.Items.{has_leaf}
 use Rattle.tuple_tree.specs.Values.{TupleTree, TemplateTree, IsTuple, IsTemplate, is_wide, is_wide_slot}
 
+-- an operation on a tuple space; the number of an rdAll and an inAll is the most matches that it asks for
 pub data Operation : Type 0 where
   out : TupleTree → Operation
   rdp : TemplateTree → Operation
@@ -13,6 +14,7 @@ pub data Operation : Type 0 where
   in_all : ℕ → TemplateTree → Operation
   upgrade : Operation
 
+-- the answer of a space to an operation
 pub data Outcome : Type 0 where
   done : Outcome
   found : TupleTree → Outcome
@@ -26,6 +28,7 @@ pub data Outcome : Type 0 where
 abbrev pub IsCounted : ℕ → TemplateTree → Type 0
 IsCounted n p = (1 ≤ n) × (n ≤ 64) × IsTemplate p
 
+-- Each tuple and template of the operation is within the limits, and a count is from 1 to 64.
 abbrev pub IsOperation : Operation → Type 0
 IsOperation (out t) = IsTuple t
 IsOperation (rdp p) = IsTemplate p
@@ -55,10 +58,12 @@ is_version_2 (rd_all n p) = has_leaf is_wide_slot p
 is_version_2 (in_all n p) = true
 is_version_2 upgrade = false
 
+-- Each of these tuples is within the limits.
 abbrev pub AreTuples : List TupleTree → Type 0
 AreTuples [] = Unit {0}
 AreTuples (t ∷ ts) = IsTuple t × AreTuples ts
 
+-- Each tuple of the answer is within the limits, and there are at most 64.
 abbrev pub IsOutcome : Outcome → Type 0
 IsOutcome done = Unit {0}
 IsOutcome (found t) = IsTuple t

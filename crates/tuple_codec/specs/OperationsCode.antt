@@ -4,7 +4,8 @@ use Rattle.std.specs.Coded.{Coded, code_by, coded_list, coded⊎, coded×, coded
 use Rattle.std.proofs.Common.{inl, inr}
 use Rattle.tuple_tree.specs.Values.{TupleTree, TemplateTree}
 use Rattle.tuple_tree.specs.ValuesCode.{tuple_code, template_code}
-use Rattle.tuple_codec.specs.Operations.{Operation, out, rdp, inp, cas, rd_all, in_all, upgrade, Outcome, done, found, absent, swapped, all, full, refused}
+use Rattle.tuple_codec.specs.Operations.{Operation, out, rdp, inp, cas, rd_all, in_all, upgrade, Outcome, done, found}
+use Rattle.tuple_codec.specs.Operations.{absent, swapped, all, full, refused}
 
 abbrev pub OperationParts : Type 0
 OperationParts = TupleTree

@@ -1,7 +1,8 @@
 -- The bytes of operations and outcomes, made of those of tuples and templates, and what it means to spell.
 use Rattle.std.specs.Prelude.{◌≡◌, ℕ, ◌≤◌, List, [], ◌∷◌, ◌++◌, length, take}
 use Rattle.tuple_tree.specs.Values.{TupleTree, TemplateTree, IsTuple, IsTemplate}
-use Rattle.tuple_codec.specs.Operations.{Operation, out, rdp, inp, cas, rd_all, in_all, upgrade, IsOperation, Outcome, done, found, absent, swapped, all, full, refused, IsOutcome}
+use Rattle.tuple_codec.specs.Operations.{Operation, out, rdp, inp, cas, rd_all, in_all, upgrade, IsOperation, Outcome}
+use Rattle.tuple_codec.specs.Operations.{done, found, absent, swapped, all, full, refused, IsOutcome}
 use Rattle.tuple_tree.specs.Spelling.{flag, tuple_spelling, template_spelling}
 
 -- an operation with two arguments: its tag, and then both
@@ -12,6 +13,7 @@ cas_spelling p t = 0x24 ∷ template_spelling p ++ tuple_spelling t
 abbrev pub counted_spelling : ℕ × TemplateTree → List ℕ
 counted_spelling x = x.0 ∷ template_spelling x.1
 
+-- tags 21 to 27, each before the operation's arguments
 abbrev pub operation_spelling : Operation → List ℕ
 operation_spelling (out t) = 0x21 ∷ tuple_spelling t
 operation_spelling (rdp p) = 0x22 ∷ template_spelling p
@@ -21,10 +23,12 @@ operation_spelling (rd_all n p) = 0x25 ∷ counted_spelling (n, p)
 operation_spelling (in_all n p) = 0x26 ∷ counted_spelling (n, p)
 operation_spelling upgrade = 0x27 ∷ []
 
+-- the tuples one after another, without their count
 abbrev pub tuples_spelling : List TupleTree → List ℕ
 tuples_spelling [] = []
 tuples_spelling (t ∷ ts) = tuple_spelling t ++ tuples_spelling ts
 
+-- tags 31 to 37, each before the answer's content
 abbrev pub outcome_spelling : Outcome → List ℕ
 outcome_spelling done = 0x31 ∷ []
 outcome_spelling (found t) = 0x32 ∷ tuple_spelling t

@@ -5,7 +5,8 @@ ghost use Rattle.tuple_codec.specs.Operations.{Operation, Outcome};
 ghost use Rattle.tuple_tree.specs.Results.{Yields};
 ghost use Rattle.tuple_codec.specs.Spelling.{SpellsOperation, SpellsOutcome};
 ghost use Rattle.tuple_tree.specs.Reading.{rest_of, tuple_at, template_at};
-ghost use Rattle.tuple_codec.specs.Reading.{cas_at, counted_template_at, operation_behind, operation_at, tuples_at, outcome_behind, outcome_at};
+ghost use Rattle.tuple_codec.specs.Reading.{cas_at, counted_template_at, operation_behind, operation_at, tuples_at};
+ghost use Rattle.tuple_codec.specs.Reading.{outcome_behind, outcome_at};
 
 use crate::operations::{MAX_ANSWERS, Max};
 use crate::reading::frame;

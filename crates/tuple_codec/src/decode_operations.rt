@@ -4,9 +4,11 @@ ghost use Rattle.std.specs.Prelude.{◌≡◌, ◌≢◌, ◌+◌, ◌<◌, ◌�
 ghost use Rattle.tuple_codec.specs.Operations.{out, rdp, inp, rd_all, in_all};
 ghost use Rattle.tuple_codec.specs.OperationView.{operation_of, outcome_of};
 ghost use Rattle.tuple_codec.specs.Results.{DecodingReturns, DecodesSpelled, DecodesEach};
-ghost use Rattle.tuple_codec.specs.Spelling.{SpellsOperation, SpellsOutcome, SpellsSomeOperation, FrontSpellsOperation, FrontSpellsOutcome};
+ghost use Rattle.tuple_codec.specs.Spelling.{SpellsOperation, SpellsOutcome, SpellsSomeOperation, FrontSpellsOperation};
+ghost use Rattle.tuple_codec.specs.Spelling.{FrontSpellsOutcome};
 ghost use Rattle.tuple_tree.specs.Reading.{read_as, tuple_at, template_at};
-ghost use Rattle.tuple_codec.specs.Reading.{cas_at, counted_template_at, operation_behind, operation_at, tuples_at, found_at, swapped_at, all_at, outcome_behind, outcome_at, with_last_tuple};
+ghost use Rattle.tuple_codec.specs.Reading.{cas_at, counted_template_at, operation_behind, operation_at, tuples_at};
+ghost use Rattle.tuple_codec.specs.Reading.{found_at, swapped_at, all_at, outcome_behind, outcome_at, with_last_tuple};
 
 use crate::bad::Bad;
 use crate::check::{skip_answer, skip_op};

@@ -1,6 +1,7 @@
 //! Operations on a tuple space and their answers (Bessani and others, DepSpace, EuroSys 2008, section 3).
 
-ghost use Rattle.std.specs.Prelude.{◌≡◌, ◌+◌, ◌<◌, ◌≤◌, [], ◌∷◌, ◌++◌, length, map, OnOk, OnErr, IfOk, IfErr, IsTrue, SomeIff, IsSome, IfSome, ◌↔◌};
+ghost use Rattle.std.specs.Prelude.{◌≡◌, ◌+◌, ◌<◌, ◌≤◌, [], ◌∷◌, ◌++◌, length, map, OnOk, OnErr, IfOk, IfErr, IsTrue};
+ghost use Rattle.std.specs.Prelude.{SomeIff, IsSome, IfSome, ◌↔◌};
 ghost use Rattle.tuple_tree.specs.Values.{IsTuple, IsTemplate};
 ghost use Rattle.tuple_codec.specs.Operations.{AreTuples};
 ghost use Rattle.tuple_tree.specs.Spelling.{tuple_spelling, template_spelling};

@@ -1,9 +1,12 @@
 -- The text of a value, with bytes after it that can't continue it, is read as that value, or passes a limit.
-use Rattle.std.proofs.Common.{◌≡◌, ℕ, zero, suc, ◌<◌, ◌≤◌, ◌==◌, Bool, true, false, cond, List, [], ◌∷◌, ◌++◌, length, codes, refl, ap, sym, subst, ◌∙◌, append_assoc, arith, ◌⊎◌, inl, inr, if◌then◌else◌, length-append}
+use Rattle.std.proofs.Common.{◌≡◌, ℕ, zero, suc, ◌<◌, ◌≤◌, ◌==◌, Bool, true, false, cond, List, [], ◌∷◌, ◌++◌, length}
+use Rattle.std.proofs.Common.{codes, refl, ap, sym, subst, ◌∙◌, append_assoc, arith, ◌⊎◌, inl, inr, if◌then◌else◌}
+use Rattle.std.proofs.Common.{length-append}
 use Rattle.tuple_tree.specs.Items.{TreeItem, leaf, inner, Items, none, item, with_last, item_levels}
 use Rattle.tuple_text.specs.Texts.{AreBlanks, ItemText, WholeText}
 use Rattle.tuple_text.specs.Lines.{EachLeaf, LeafIn}
-use Rattle.tuple_text.specs.Reading.{Read, got, stop, Reading, ◌>>=◌, look, word, turn, follows, full, items, no_room, deeper}
+use Rattle.tuple_text.specs.Reading.{Read, got, stop, Reading, ◌>>=◌, look, word, turn, follows, full, items, no_room}
+use Rattle.tuple_text.specs.Reading.{deeper}
 use Rattle.tuple_text.specs.declared.reader.Stop.{Stop}
 use Rattle.tuple_text.specs.declared.reader.Stop.TheVariants.{BadByte, TooDeep, TooManyFields}
 use Rattle.tuple_text.proofs.Blanks.{Frees, freed, blanks_again}

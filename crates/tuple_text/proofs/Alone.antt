@@ -1,16 +1,19 @@
 -- Reading a template that stands alone: as the argument of an rdp.
-use Rattle.std.proofs.Common.{◌≡◌, ℕ, zero, suc, ◌+◌, ◌-◌, ◌<◌, ◌≤◌, ◌==◌, min, Bool, true, false, cond, List, [], ◌∷◌, ◌++◌, length, take, codes, refl, ap, sym, subst, ◌∙◌, arith, length-append}
+use Rattle.std.proofs.Common.{◌≡◌, ℕ, zero, suc, ◌+◌, ◌-◌, ◌<◌, ◌≤◌, ◌==◌, min, Bool, true, false, cond, List, [], ◌∷◌}
+use Rattle.std.proofs.Common.{◌++◌, length, take, codes, refl, ap, sym, subst, ◌∙◌, arith, length-append}
 use Rattle.tuple_tree.specs.Values.{TemplateTree}
 use Rattle.tuple_codec.specs.Operations.{rdp}
 use Rattle.tuple_text.specs.Lines.{IsLine}
 use Rattle.tuple_text.specs.Faults.{Faults, IsBadAt, behind}
-use Rattle.tuple_text.specs.Reading.{Read, got, stop, ◌>>=◌, blanks, template, argument, ending, ended, one_line, verb_line, operation, line, lone_template, fault_at, ReadingStops}
+use Rattle.tuple_text.specs.Reading.{Read, got, stop, ◌>>=◌, blanks, template, argument, ending, ended, one_line}
+use Rattle.tuple_text.specs.Reading.{verb_line, operation, line, lone_template, fault_at, ReadingStops}
 use Rattle.tuple_text.specs.declared.reader.Stop.{Stop}
 use Rattle.tuple_text.specs.declared.reader.Stop.TheVariants.{BadByte, TooDeep, TooManyFields, TooLong, NoMemory}
 use Rattle.tuple_text.specs.declared.faults.LineFault.TheVariants as faults
 use Rattle.tuple_text.proofs.Local.{LocalAs, IsLocal, left, local_got, local_then}
 use Rattle.tuple_text.proofs.Localities.{blanks_local, ending_local, template_local}
-use Rattle.tuple_text.proofs.Judging.{front, front_to, read_is_line, too_big, line_reads_only, line_no_stop, stopped_faults}
+use Rattle.tuple_text.proofs.Judging.{front, front_to, read_is_line, too_big, line_reads_only, line_no_stop}
+use Rattle.tuple_text.proofs.Judging.{stopped_faults}
 
 -- the line with this text as its argument
 abbrev pub as_line : List ℕ → List ℕ

@@ -1,10 +1,12 @@
 -- Reading the arguments of a line, one after the other.
-use Rattle.std.proofs.Common.{◌≡◌, ℕ, List, [], ◌∷◌, ◌++◌, refl, ap, sym, subst, ◌∙◌, append_assoc, append-nil, arith, ◌⊎◌, inl, inr}
+use Rattle.std.proofs.Common.{◌≡◌, ℕ, List, [], ◌∷◌, ◌++◌, refl, ap, sym, subst, ◌∙◌, append_assoc, append-nil, arith}
+use Rattle.std.proofs.Common.{◌⊎◌, inl, inr}
 use Rattle.tuple_codec.specs.Operations.{Operation}
 use Rattle.tuple_text.specs.Texts.{AreBlanks, IsGap}
 use Rattle.tuple_text.specs.Reading.{got, Reading, ◌>>=◌, word, gap, argument, ending, ended}
 use Rattle.tuple_text.proofs.Right.{Limits, RightTo, RightAs, Never, then_to, then_right}
-use Rattle.tuple_text.proofs.Blanks.{Gap, BeginsGap, gap_right, blanks_append, IsWord, BeginsWord, word_right, Ending, BeginsBlanks, ending_right}
+use Rattle.tuple_text.proofs.Blanks.{Gap, BeginsGap, gap_right, blanks_append, IsWord, BeginsWord, word_right, Ending}
+use Rattle.tuple_text.proofs.Blanks.{BeginsBlanks, ending_right}
 use Rattle.tuple_text.proofs.Numbers.{ends_there}
 
 abbrev pub Begins : {V : Type 0} → (Limits → V → List ℕ → Type 0) → Limits → List ℕ → Type 0

@@ -3,7 +3,8 @@ use Rattle.std.proofs.Common.{◌≡◌, ℕ, Bool, true, List, codes, refl, ap,
 use Rattle.tuple_tree.specs.Values.{TemplateTree}
 use Rattle.tuple_codec.specs.Operations.{Operation, out, cas}
 use Rattle.tuple_text.specs.declared.verbs.Verb.{Verb}
-use Rattle.tuple_text.specs.Reading.{Read, got, stop, ◌>>=◌, word, tuple, template, argument, ending, ended, last, positive, out_line, cas_line, one_of, all_of, one_line, all_line}
+use Rattle.tuple_text.specs.Reading.{Read, got, stop, ◌>>=◌, word, tuple, template, argument, ending, ended, last}
+use Rattle.tuple_text.specs.Reading.{positive, out_line, cas_line, one_of, all_of, one_line, all_line}
 
 got_as : {V W : Type 0} → (v : V) (k : V → W) (y : Read Bool) → (y >>= λ _ rest. got (k v) rest) ≡ ((y >>= λ _ rest. got v rest) >>= λ v rest. got (k v) rest)
 got_as v k (got b rest) = refl

@@ -1,10 +1,14 @@
 -- The texts of the fields that bytes spell.
-use Rattle.std.proofs.Common.{◌≡◌, ℕ, zero, suc, ◌+◌, ◌-◌, ◌<◌, true, false, cond, List, [], ◌∷◌, ◌++◌, length, Option, Some, None, ap, sym, subst, refl, ◌∙◌, arith, append-nil}
+use Rattle.std.proofs.Common.{◌≡◌, ℕ, zero, suc, ◌+◌, ◌-◌, ◌<◌, true, false, cond, List, [], ◌∷◌, ◌++◌, length, Option}
+use Rattle.std.proofs.Common.{Some, None, ap, sym, subst, refl, ◌∙◌, arith, append-nil}
 use lib.Dec.{ltb}
-use Rattle.tuple_tree.specs.Items.{TreeItem, leaf, inner, none, item, with_last, how_many, item_levels, levels_in, item_length, length_in}
+use Rattle.tuple_tree.specs.Items.{TreeItem, leaf, inner, none, item, with_last, how_many, item_levels, levels_in}
+use Rattle.tuple_tree.specs.Items.{item_length, length_in}
 use Rattle.tuple_tree.specs.Limits.{IsItem, AreItems}
-use Rattle.tuple_tree.specs.Values.{Datum, Slot, actual, TupleTree, TemplateTree, IsDatum, IsSlot, IsTuple, IsTemplate, datum_length, slot_length}
-use Rattle.tuple_tree.specs.Reading.{◌>>=◌, Reader, rest_of, more, byte_at, inner_at, item_at, items_at, items_with, item_with}
+use Rattle.tuple_tree.specs.Values.{Datum, Slot, actual, TupleTree, TemplateTree, IsDatum, IsSlot, IsTuple, IsTemplate}
+use Rattle.tuple_tree.specs.Values.{datum_length, slot_length}
+use Rattle.tuple_tree.specs.Reading.{◌>>=◌, Reader, rest_of, more, byte_at, inner_at, item_at, items_at, items_with}
+use Rattle.tuple_tree.specs.Reading.{item_with}
 use Rattle.tuple_tree.specs.Loose.{loose_slot_at}
 use Rattle.tuple_tree.specs.Spelling.{datum_spelling, slot_spelling, item_spelling, items_spelling}
 use Rattle.tuple_tree.proofs.Loosening.{IsLooseSlot, loosen_slot, loosen_items, loose_slot_leaves}
@@ -14,7 +18,8 @@ use Rattle.tuple_tree.proofs.Steps.{at_leaf, at_five, inner_below, no_levels}
 use Rattle.tuple_tree.proofs.Trees.{onto_again}
 use Rattle.tuple_text.specs.Texts.{datum_text, slot_text}
 use Rattle.tuple_text.specs.Written.{item_written, items_written, more_written, tuple_written, template_written}
-use Rattle.tuple_text.specs.Walks.{spelled_field_at, spelled_fields_at, field_written, fields_written, others_written, IsThere, text_of}
+use Rattle.tuple_text.specs.Walks.{spelled_field_at, spelled_fields_at, field_written, fields_written, others_written}
+use Rattle.tuple_text.specs.Walks.{IsThere, text_of}
 
 -- ---- one field, and those after it
 

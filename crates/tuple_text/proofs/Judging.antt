@@ -1,5 +1,7 @@
 -- The result of reading the line says which faults it has.
-use Rattle.std.proofs.Common.{◌≡◌, ℕ, zero, suc, ◌+◌, ◌-◌, ◌<◌, ◌≤◌, ◌==◌, min, Bool, true, false, cond, List, [], ◌∷◌, ◌++◌, length, take, drop, codes, refl, ap, sym, subst, ◌∙◌, append_assoc, append-nil, arith, ◌⊎◌, inl, inr, length-append}
+use Rattle.std.proofs.Common.{◌≡◌, ℕ, zero, suc, ◌+◌, ◌-◌, ◌<◌, ◌≤◌, ◌==◌, min, Bool, true, false, cond, List, [], ◌∷◌}
+use Rattle.std.proofs.Common.{◌++◌, length, take, drop, codes, refl, ap, sym, subst, ◌∙◌, append_assoc, append-nil}
+use Rattle.std.proofs.Common.{arith, ◌⊎◌, inl, inr, length-append}
 use Rattle.std.proofs.lemmas.List.{take_at, length-take, length-drop, take-append-drop}
 use Rattle.std.proofs.lemmas.Bool.{cases_lt}
 use Rattle.tuple_tree.specs.Items.{Items, levels_of}
@@ -10,9 +12,13 @@ use Rattle.tuple_text.specs.declared.verbs.Verb.{Verb}
 use Rattle.tuple_text.specs.declared.verbs.Verb.TheVariants.{Rd, In}
 use Rattle.tuple_text.specs.Texts.{AreBlanks}
 use Rattle.tuple_text.specs.Lines.{LineText, IsLine, IsSkipped, IsComment, operation_name}
-use Rattle.tuple_text.specs.Faults.{AnyOperation, KeepsCount, KeepsBoth, EndsTooLong, PassesNoLimit, StopsAt, IsBadAt, Faults}
+use Rattle.tuple_text.specs.Faults.{AnyOperation, KeepsCount, KeepsBoth, EndsTooLong, PassesNoLimit, StopsAt, IsBadAt}
+use Rattle.tuple_text.specs.Faults.{Faults}
 use Rattle.tuple_text.specs.Faults.{LineBegins as BeginsLine}
-use Rattle.tuple_text.specs.Reading.{Read, got, stop, Reading, ◌>>=◌, nothing, look, blanks, word, finish, ending, ended, positive, argument, tuple, template, out_line, cas_line, upgrade_line, letters, one_of, all_of, one_line, all_line, verb_line, operation, line, fault_at, ReadingStops}
+use Rattle.tuple_text.specs.Reading.{Read, got, stop, Reading, ◌>>=◌, nothing, look, blanks, word, finish, ending}
+use Rattle.tuple_text.specs.Reading.{ended, positive, argument, tuple, template, out_line, cas_line, upgrade_line}
+use Rattle.tuple_text.specs.Reading.{letters, one_of, all_of, one_line, all_line, verb_line, operation, line, fault_at}
+use Rattle.tuple_text.specs.Reading.{ReadingStops}
 use Rattle.tuple_text.specs.declared.reader.Stop.{Stop}
 use Rattle.tuple_text.specs.declared.reader.Stop.TheVariants.{BadByte, TooDeep, TooManyFields, TooLong, NoMemory}
 use Rattle.tuple_text.specs.declared.faults.LineFault.TheVariants as faults
@@ -24,7 +30,8 @@ use Rattle.tuple_text.proofs.Levels.{are_counted}
 use Rattle.tuple_text.proofs.Arguments.{Begins}
 use Rattle.tuple_text.proofs.LineRight.{GoodLine, LimitedLine, line_right, Keeps}
 use Rattle.tuple_text.proofs.Again.{AgainAs}
-use Rattle.tuple_text.proofs.LineAgain.{Exceeds, line_again, never_bad, keeps_counts, keeps_levels, within_exceeds, StopsBefore, too_long_stops}
+use Rattle.tuple_text.proofs.LineAgain.{Exceeds, line_again, never_bad, keeps_counts, keeps_levels, within_exceeds}
+use Rattle.tuple_text.proofs.LineAgain.{StopsBefore, too_long_stops}
 
 pub take_take : (k m : ℕ) (bs : List ℕ) → k ≤ m → take k (take m bs) ≡ take k bs
 take_take zero m bs h = refl

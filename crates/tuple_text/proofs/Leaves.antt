@@ -1,10 +1,13 @@
 -- Reading the values and fields that are no lists.
-use Rattle.std.proofs.Common.{◌≡◌, ℕ, ℤ, ◌+◌, ◌-◌, ◌≤◌, ◌==◌, Bool, true, false, cond, ◌||◌, List, [], ◌∷◌, ◌++◌, codes, pos, negsuc, refl, ap, sym, subst, ◌∙◌, append_assoc, arith, ◌⊎◌, inl, inr, FitsSigned, w64}
+use Rattle.std.proofs.Common.{◌≡◌, ℕ, ℤ, ◌+◌, ◌-◌, ◌≤◌, ◌==◌, Bool, true, false, cond, ◌||◌, List, [], ◌∷◌, ◌++◌, codes}
+use Rattle.std.proofs.Common.{pos, negsuc, refl, ap, sym, subst, ◌∙◌, append_assoc, arith, ◌⊎◌, inl, inr, FitsSigned}
+use Rattle.std.proofs.Common.{w64}
 use Rattle.std.specs.Int.{w128}
 use Rattle.std.proofs.lemmas.Bool.{eqb-true, ne_eqb, eq-eqb, or_cases, or_left, or_right}
 use Rattle.std.proofs.lemmas.Fmt.{decimal_digit}
 use Rattle.std.specs.Fmt.{decimal, signed_decimal}
-use Rattle.tuple_tree.specs.Values.{Datum, number, text, bytes, truth, wide, Slot, actual, any, formal, IsDatum, IsUtf8IfText, IsSlot, AreBytes}
+use Rattle.tuple_tree.specs.Values.{Datum, number, text, bytes, truth, wide, Slot, actual, any, formal, IsDatum}
+use Rattle.tuple_tree.specs.Values.{IsUtf8IfText, IsSlot, AreBytes}
 use Rattle.tuple_tree.specs.declared.atoms.Kind.{Kind}
 use Rattle.tuple_tree.specs.declared.atoms.Kind.TheVariants as kinds
 use Rattle.std.proofs.lemmas.Str.{IsUtf8-nil}
@@ -14,9 +17,12 @@ use Rattle.tuple_text.specs.Texts.{datum_text, slot_text, formal_text, escaped, 
 use Rattle.tuple_text.specs.Literals.{text_literal, bytes_literal, is_hex, NoHex}
 use Rattle.tuple_text.proofs.LiteralTexts.{IsTextLiteral, BeginsTextLiteral, text_right, text_again}
 use Rattle.tuple_text.proofs.LiteralBytes.{IsByteString, BeginsByteString, bytes_right, bytes_again}
-use Rattle.tuple_text.specs.Reading.{Read, got, Reading, ◌>>=◌, look, nothing, named, word, MOST, MOST_WIDE, signed, numeral, wide_numeral, quoted, byte_string, truth_or_number, datum, kind_b, kind_t, kind, formal_slot, actual_slot, slot, begins_datum, begins_slot}
+use Rattle.tuple_text.specs.Reading.{Read, got, Reading, ◌>>=◌, look, nothing, named, word, MOST, MOST_WIDE, signed}
+use Rattle.tuple_text.specs.Reading.{numeral, wide_numeral, quoted, byte_string, truth_or_number, datum, kind_b, kind_t}
+use Rattle.tuple_text.specs.Reading.{kind, formal_slot, actual_slot, slot, begins_datum, begins_slot}
 use Rattle.tuple_text.proofs.Right.{Limits, both, RightAs, Never, Found, then_right, look_right, nothing_right}
-use Rattle.tuple_text.proofs.Numbers.{IsSigned, BeginsSigned, most_64, most_128, signed_right, signed_again, signed_head, NoDigit, is_digit, digit_range, digit_is, ends_there}
+use Rattle.tuple_text.proofs.Numbers.{IsSigned, BeginsSigned, most_64, most_128, signed_right, signed_again}
+use Rattle.tuple_text.proofs.Numbers.{signed_head, NoDigit, is_digit, digit_range, digit_is, ends_there}
 use Rattle.tuple_text.proofs.Blanks.{IsWord, BeginsWord, word_right}
 
 -- the bytes after an item of a list begin with a blank or a closing parenthesis

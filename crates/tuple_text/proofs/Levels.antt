@@ -1,6 +1,7 @@
 -- The levels of an item, and the limits that a list's items keep or pass.
 use Rattle.std.proofs.Common.{ℕ, suc, ◌<◌, ◌≤◌, arith}
-use Rattle.tuple_tree.specs.Items.{TreeItem, leaf, inner, Items, none, item, how_many, item_levels, levels_in, whole_length}
+use Rattle.tuple_tree.specs.Items.{TreeItem, leaf, inner, Items, none, item, how_many, item_levels, levels_in}
+use Rattle.tuple_tree.specs.Items.{whole_length}
 use Rattle.tuple_tree.specs.Limits.{IsItem, AreItems}
 use Rattle.tuple_text.specs.Lines.{EachLeaf, LeafIn}
 use Rattle.tuple_text.specs.declared.reader.Stop.{Stop}

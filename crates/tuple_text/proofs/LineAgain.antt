@@ -1,5 +1,7 @@
 -- Reading the line of an operation again.
-use Rattle.std.proofs.Common.{◌≡◌, ℕ, zero, suc, ◌+◌, ◌<◌, ◌≤◌, nat_le, Bool, true, false, cond, List, [], ◌∷◌, ◌++◌, length, take, Some, None, refl, ap, sym, subst, ◌∙◌, append_assoc, append-nil, arith, ◌⊎◌, inl, inr, length-append}
+use Rattle.std.proofs.Common.{◌≡◌, ℕ, zero, suc, ◌+◌, ◌<◌, ◌≤◌, nat_le, Bool, true, false, cond, List, [], ◌∷◌, ◌++◌}
+use Rattle.std.proofs.Common.{length, take, Some, None, refl, ap, sym, subst, ◌∙◌, append_assoc, append-nil, arith, ◌⊎◌}
+use Rattle.std.proofs.Common.{inl, inr, length-append}
 use Rattle.std.specs.Prelude.{slice_index}
 use Rattle.std.proofs.lemmas.Bool.{leb-true, leb-false, ne_eqb}
 use Rattle.tuple_tree.specs.Items.{Items, levels_of, whole_length}
@@ -7,9 +9,13 @@ use Rattle.tuple_tree.specs.Limits.{IsWithin}
 use Rattle.tuple_tree.specs.Values.{datum_length, slot_length, IsDatum, IsSlot, TupleTree, TemplateTree}
 use Rattle.tuple_codec.specs.Operations.{Operation, out, rdp, inp, cas, rd_all, in_all, upgrade, IsOperation}
 use Rattle.tuple_text.specs.Texts.{AreBlanks, IsGap, WholeText, datum_text, slot_text}
-use Rattle.tuple_text.specs.Lines.{EachLeaf, LineText, TupleArgument, TemplateArgument, CountArgument, ArgumentsText, arguments, operation_name}
-use Rattle.tuple_text.specs.Faults.{KeepsCount, KeepsLevels, KeepsCounts, EndsTooLong, ArgumentsClosed, argument_lengths}
-use Rattle.tuple_text.specs.Reading.{Read, got, stop, Reading, ◌>>=◌, positive, kept, no_room, datum, slot, begins_datum, begins_slot, close, tuple, template, argument, ended, out_line, cas_line, upgrade_line, one_line, all_line, verb_line, operation, line}
+use Rattle.tuple_text.specs.Lines.{EachLeaf, LineText, TupleArgument, TemplateArgument, CountArgument, ArgumentsText}
+use Rattle.tuple_text.specs.Lines.{arguments, operation_name}
+use Rattle.tuple_text.specs.Faults.{KeepsCount, KeepsLevels, KeepsCounts, EndsTooLong, ArgumentsClosed}
+use Rattle.tuple_text.specs.Faults.{argument_lengths}
+use Rattle.tuple_text.specs.Reading.{Read, got, stop, Reading, ◌>>=◌, positive, kept, no_room, datum, slot}
+use Rattle.tuple_text.specs.Reading.{begins_datum, begins_slot, close, tuple, template, argument, ended, out_line}
+use Rattle.tuple_text.specs.Reading.{cas_line, upgrade_line, one_line, all_line, verb_line, operation, line}
 use Rattle.tuple_text.specs.declared.reader.Stop.{Stop}
 use Rattle.tuple_text.specs.declared.reader.Stop.TheVariants.{BadByte, TooDeep, TooManyFields, TooLong, NoMemory}
 use Rattle.tuple_text.proofs.Blanks.{NoBlank, blanks_again, gap_again, ending_again}
@@ -17,7 +23,8 @@ use Rattle.tuple_text.proofs.Numbers.{NoDigit, is_digit, positive_again, head_of
 use Rattle.tuple_text.proofs.Levels.{Exceed, are_counted}
 use Rattle.tuple_text.proofs.Leaves.{EndsItem, datum_head, datum_again, slot_head, slot_again}
 use Rattle.tuple_text.proofs.Plain.{plain_item, plain_whole, whole_seen}
-use Rattle.tuple_text.proofs.Again.{AgainAs, again_got, then_again, then_into, step_again, list_into, list_again, item_head, item_again}
+use Rattle.tuple_text.proofs.Again.{AgainAs, again_got, then_again, then_into, step_again, list_into, list_again}
+use Rattle.tuple_text.proofs.Again.{item_head, item_again}
 
 -- the limits that a tree passes
 abbrev pub TreeExceeds : {L : Type 0} → (L → ℕ) → Items L → Stop → Type 0

@@ -1,5 +1,6 @@
 -- Reading whole lines keeps to the grammar.
-use Rattle.std.proofs.Common.{◌≡◌, ℕ, true, ◌+◌, ◌<◌, ◌≤◌, List, [], ◌∷◌, ◌++◌, length, take, codes, refl, ap, sym, subst, ◌∙◌, append_assoc, append-nil, arith, inl, inr}
+use Rattle.std.proofs.Common.{◌≡◌, ℕ, true, ◌+◌, ◌<◌, ◌≤◌, List, [], ◌∷◌, ◌++◌, length, take, codes, refl, ap, sym}
+use Rattle.std.proofs.Common.{subst, ◌∙◌, append_assoc, append-nil, arith, inl, inr}
 use Rattle.std.specs.Prelude.{slice_index}
 use Rattle.std.specs.Fmt.{decimal}
 use Rattle.tuple_tree.specs.Items.{Items, none, levels_of, whole_length}
@@ -9,13 +10,16 @@ use Rattle.tuple_codec.specs.Operations.{Operation, out, rdp, inp, cas, rd_all, 
 use Rattle.tuple_text.specs.Texts.{AreBlanks, WholeText, datum_text, slot_text}
 use Rattle.tuple_text.specs.Lines.{EachLeaf, LineText, operation_name, arguments, ArgumentsText}
 use Rattle.tuple_text.specs.Faults.{KeepsCount, KeepsLevels, KeepsBoth, EndsTooLong, ArgumentsClosed, argument_lengths}
-use Rattle.tuple_text.specs.Reading.{◌>>=◌, nothing, look, blanks, positive, datum, slot, begins_datum, begins_slot, tuple, template, argument, ended, out_line, cas_line, upgrade_line, letters, one_of, all_of, one_line, all_line, verb_line, operation, line}
+use Rattle.tuple_text.specs.Reading.{◌>>=◌, nothing, look, blanks, positive, datum, slot, begins_datum, begins_slot}
+use Rattle.tuple_text.specs.Reading.{tuple, template, argument, ended, out_line, cas_line, upgrade_line, letters}
+use Rattle.tuple_text.specs.Reading.{one_of, all_of, one_line, all_line, verb_line, operation, line}
 use Rattle.tuple_text.specs.declared.verbs.Verb.{Verb}
 use Rattle.tuple_text.specs.declared.verbs.Verb.TheVariants.{Rd, In}
 use Rattle.tuple_text.proofs.Right.{Limits, both, levels, no_limits, RightTo, Never, then_to, look_right, nothing_right}
 use Rattle.tuple_text.proofs.Blanks.{ArePassed, BeginsBlanks, blanks_right}
 use Rattle.tuple_text.proofs.Numbers.{IsPositive, positive_right}
-use Rattle.tuple_text.proofs.Levels.{OneIs, Fits, Overflows, each_weaker, each_leaf, each_levels, each_counted, are_items}
+use Rattle.tuple_text.proofs.Levels.{OneIs, Fits, Overflows, each_weaker, each_leaf, each_levels, each_counted}
+use Rattle.tuple_text.proofs.Levels.{are_items}
 use Rattle.tuple_text.proofs.Leaves.{datum_right, datum_starts, some_datum, slot_right, slot_starts, some_slot}
 use Rattle.tuple_text.proofs.Plain.{whole_seen}
 use Rattle.tuple_text.proofs.Lists.{IsList, IsKept, IsLong, some_list}

@@ -1,11 +1,13 @@
 -- Reading lists keeps to the grammar, whatever their items are.
-use Rattle.std.proofs.Common.{◌≡◌, ℕ, zero, suc, ◌≤◌, ◌==◌, Bool, true, false, cond, List, [], ◌∷◌, ◌++◌, codes, refl, ap, sym, subst, ◌∙◌, append_assoc, append-nil, arith, if◌then◌else◌}
+use Rattle.std.proofs.Common.{◌≡◌, ℕ, zero, suc, ◌≤◌, ◌==◌, Bool, true, false, cond, List, [], ◌∷◌, ◌++◌, codes, refl}
+use Rattle.std.proofs.Common.{ap, sym, subst, ◌∙◌, append_assoc, append-nil, arith, if◌then◌else◌}
 use Rattle.tuple_tree.specs.Items.{TreeItem, Items, none, item, with_last, how_many}
 use Rattle.tuple_text.specs.Texts.{AreBlanks, ItemText, WholeText}
 use Rattle.tuple_text.specs.Reading.{got, stop, Reading, ◌>>=◌, word, blanks, turn, follows, full, items}
 use Rattle.tuple_text.specs.declared.reader.Stop.{Stop}
 use Rattle.tuple_text.specs.declared.reader.Stop.TheVariants.{BadByte, TooDeep, TooManyFields, TooLong, NoMemory}
-use Rattle.tuple_text.proofs.Right.{Limits, both, levels, no_limits, DecidesAt, RightTo, RightAs, Never, then_to, then_right, nothing_passed}
+use Rattle.tuple_text.proofs.Right.{Limits, both, levels, no_limits, DecidesAt, RightTo, RightAs, Never, then_to}
+use Rattle.tuple_text.proofs.Right.{then_right, nothing_passed}
 use Rattle.tuple_text.proofs.Blanks.{Frees, ArePassed, BeginsBlanks, blanks_right, IsWord, BeginsWord, word_right}
 use Rattle.tuple_text.proofs.Endings.{join, join_none, join_last, Each, Ends, ends_to_items}
 

@@ -1,6 +1,8 @@
 -- Reading text literals.
-use Rattle.std.proofs.Common.{◌≡◌, ℕ, ◌+◌, ◌*◌, ◌/◌, ◌%◌, ◌<◌, ◌≤◌, ◌==◌, nat_lt, Bool, true, false, cond, List, [], ◌∷◌, ◌++◌, refl, ap, sym, subst, ◌∙◌, append_assoc, append-nil, arith, ◌⊎◌, inl, inr}
-use Rattle.std.proofs.lemmas.Bool.{eqb-true, eqb-false, ne_eqb, and_from, and_parts, cond_both, cases_lt, ltb-true, ltb-false, cases_eq}
+use Rattle.std.proofs.Common.{◌≡◌, ℕ, ◌+◌, ◌*◌, ◌/◌, ◌%◌, ◌<◌, ◌≤◌, ◌==◌, nat_lt, Bool, true, false, cond, List, []}
+use Rattle.std.proofs.Common.{◌∷◌, ◌++◌, refl, ap, sym, subst, ◌∙◌, append_assoc, append-nil, arith, ◌⊎◌, inl, inr}
+use Rattle.std.proofs.lemmas.Bool.{eqb-true, eqb-false, ne_eqb, and_from, and_parts, cond_both, cases_lt, ltb-true}
+use Rattle.std.proofs.lemmas.Bool.{ltb-false, cases_eq}
 use Rattle.std.proofs.lemmas.Grind.{flat_map-append}
 use Rattle.std.specs.Char.{encode_utf8}
 use Rattle.std.specs.Str.{IsUtf8, all_scalars, encode_utf8_all}
@@ -8,15 +10,23 @@ use Rattle.std.specs.List.{flat_map}
 use Rattle.tuple_tree.specs.Values.{text}
 use Rattle.tuple_text.specs.Texts.{escaped, hex_digit, hex_pair, datum_text}
 use Rattle.tuple_text.specs.Read.{got, stop}
-use Rattle.tuple_text.specs.Literals.{is_hex, hex_value, is_between, continued, led, step, stepped, text_from, text_literal}
+use Rattle.tuple_text.specs.Literals.{is_hex, hex_value, is_between, continued, led, step, stepped, text_from}
+use Rattle.tuple_text.specs.Literals.{text_literal}
 use Rattle.tuple_text.specs.declared.reader.Stop.TheVariants.{BadByte}
 use Rattle.tuple_text.specs.declared.literals.Expected.{Expected}
-use Rattle.tuple_text.specs.declared.literals.Expected.TheVariants.{Character, Escape, FirstDigit, DigitBehindZero, DigitBehindOne, OneByte, TwoBytes, ThreeBytes, BytesBehindE0, BytesBehindEd, BytesBehindF0, BytesBehindF4}
+use Rattle.tuple_text.specs.declared.literals.Expected.TheVariants.{Character, Escape, FirstDigit, DigitBehindZero}
+use Rattle.tuple_text.specs.declared.literals.Expected.TheVariants.{DigitBehindOne, OneByte, TwoBytes, ThreeBytes}
+use Rattle.tuple_text.specs.declared.literals.Expected.TheVariants.{BytesBehindE0, BytesBehindEd, BytesBehindF0}
+use Rattle.tuple_text.specs.declared.literals.Expected.TheVariants.{BytesBehindF4}
 use Rattle.tuple_text.specs.declared.literals.Step.{Step}
 use Rattle.tuple_text.specs.declared.literals.Step.TheVariants.{Refused, Ends, Passes, Adds}
 use Rattle.tuple_text.proofs.Right.{Limits, both, RightAs, Stuck, right_on}
-use Rattle.tuple_text.proofs.Local.{LocalAs, IsLocal, local_got, local_stop, local_look, local_pass, local_empty, local_test}
-use Rattle.tuple_text.proofs.LiteralCharacters.{IsEncoded, encoded_one, encoded_two, encoded_three, encoded_four, Encoding, of_one, of_two, of_three, of_four, encoding, between_is, between_parts, above_between, hex_is, digit_hex, pair_of, escaped_plain, escaped_number, AreHigh, high_escaped}
+use Rattle.tuple_text.proofs.Local.{LocalAs, IsLocal, local_got, local_stop, local_look, local_pass, local_empty}
+use Rattle.tuple_text.proofs.Local.{local_test}
+use Rattle.tuple_text.proofs.LiteralCharacters.{IsEncoded, encoded_one, encoded_two, encoded_three, encoded_four}
+use Rattle.tuple_text.proofs.LiteralCharacters.{Encoding, of_one, of_two, of_three, of_four, encoding, between_is}
+use Rattle.tuple_text.proofs.LiteralCharacters.{between_parts, above_between, hex_is, digit_hex, pair_of, escaped_plain}
+use Rattle.tuple_text.proofs.LiteralCharacters.{escaped_number, AreHigh, high_escaped}
 
 -- nothing is passed
 pub stuck_first : (B : Limits → List ℕ → Type 0) (bs : List ℕ) → B both [] → Stuck B BadByte bs bs

@@ -1,5 +1,6 @@
 -- Each reading of the grammar is local.
-use Rattle.std.proofs.Common.{◌≡◌, ℕ, zero, suc, ◌-◌, ◌+◌, ◌*◌, ◌/◌, Bool, true, false, cond, ◌&&◌, List, [], ◌∷◌, codes, pos, negsuc, Option, None, Some, option_map, refl, if◌then◌else◌}
+use Rattle.std.proofs.Common.{◌≡◌, ℕ, zero, suc, ◌-◌, ◌+◌, ◌*◌, ◌/◌, Bool, true, false, cond, ◌&&◌, List, [], ◌∷◌}
+use Rattle.std.proofs.Common.{codes, pos, negsuc, Option, None, Some, option_map, refl, if◌then◌else◌}
 use Rattle.std.specs.Prelude.{◌==◌, nat_le}
 use Rattle.tuple_tree.specs.Items.{TreeItem, leaf, inner, Items, none}
 use Rattle.tuple_tree.specs.Values.{number, text, bytes, truth, wide, actual, any, formal, datum_length, slot_length}
@@ -8,13 +9,20 @@ use Rattle.tuple_tree.specs.declared.atoms.Kind.TheVariants as kinds
 use Rattle.tuple_codec.specs.Operations.{Operation, out, cas, upgrade}
 use Rattle.tuple_text.specs.declared.verbs.Verb.{Verb}
 use Rattle.tuple_text.specs.declared.verbs.Verb.TheVariants.{Rd, In}
-use Rattle.tuple_text.specs.Reading.{got, stop, Reading, ◌>>=◌, nothing, look, blanks, word, named, gap, finish, digits, positive, MOST, MOST_WIDE, signed, numeral, wide_numeral, quoted, byte_string, truth_or_number, datum, kind_b, kind_t, kind, formal_slot, actual_slot, slot, begins_datum, begins_slot, full, follows, turn, items, no_room, kept_with, leaf_item, list, item_at, items_at, close, whole, tuple, template, argument, ending, ended, out_line, cas_line, upgrade_line, letters, one_of, all_of, one_line, all_line, verb_line, operation, line}
+use Rattle.tuple_text.specs.Reading.{got, stop, Reading, ◌>>=◌, nothing, look, blanks, word, named, gap, finish, digits}
+use Rattle.tuple_text.specs.Reading.{positive, MOST, MOST_WIDE, signed, numeral, wide_numeral, quoted, byte_string}
+use Rattle.tuple_text.specs.Reading.{truth_or_number, datum, kind_b, kind_t, kind, formal_slot, actual_slot, slot}
+use Rattle.tuple_text.specs.Reading.{begins_datum, begins_slot, full, follows, turn, items, no_room, kept_with}
+use Rattle.tuple_text.specs.Reading.{leaf_item, list, item_at, items_at, close, whole, tuple, template, argument}
+use Rattle.tuple_text.specs.Reading.{ending, ended, out_line, cas_line, upgrade_line, letters, one_of, all_of, one_line}
+use Rattle.tuple_text.specs.Reading.{all_line, verb_line, operation, line}
 use Rattle.tuple_text.specs.declared.reader.Stop.{Stop}
 use Rattle.tuple_text.specs.Literals.{text_literal, bytes_literal}
 use Rattle.tuple_text.proofs.LiteralTexts.{text_local}
 use Rattle.tuple_text.proofs.LiteralBytes.{bytes_local}
 use Rattle.tuple_text.specs.declared.reader.Stop.TheVariants.{BadByte, TooDeep, TooLong}
-use Rattle.tuple_text.proofs.Local.{LocalAs, IsLocal, local_got, local_stop, local_then, local_if, local_look, local_empty, local_test, passing, local_passing, local_choice}
+use Rattle.tuple_text.proofs.Local.{LocalAs, IsLocal, local_got, local_stop, local_then, local_if, local_look}
+use Rattle.tuple_text.proofs.Local.{local_empty, local_test, passing, local_passing, local_choice}
 
 pub blanks_local : (free : Bool) → IsLocal (blanks free)
 blanks_local free [] = local_empty (blanks free) refl

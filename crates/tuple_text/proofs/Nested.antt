@@ -1,14 +1,17 @@
 -- Reading lists within lists keeps to the grammar.
-use Rattle.std.proofs.Common.{◌≡◌, ℕ, zero, suc, ◌==◌, nat_le, Bool, true, false, cond, List, [], ◌∷◌, ◌++◌, codes, None, Some, refl, ap, arith}
+use Rattle.std.proofs.Common.{◌≡◌, ℕ, zero, suc, ◌==◌, nat_le, Bool, true, false, cond, List, [], ◌∷◌, ◌++◌, codes}
+use Rattle.std.proofs.Common.{None, Some, refl, ap, arith}
 use Rattle.std.proofs.lemmas.Bool.{eqb-true, leb-true, leb-false}
 use Rattle.tuple_tree.specs.Items.{TreeItem, leaf, inner, Items, none, whole_length}
 use Rattle.tuple_text.specs.Reading.{got, stop, Reading, ◌>>=◌, named, deeper, no_room, kept, fitting, close}
 use Rattle.tuple_text.specs.declared.reader.Stop.TheVariants.{BadByte, TooDeep, TooManyFields}
-use Rattle.tuple_text.proofs.Right.{Limits, both, levels, no_limits, DecidesAt, RightTo, RightAs, Never, right_to, nothing_passed, look_at}
+use Rattle.tuple_text.proofs.Right.{Limits, both, levels, no_limits, DecidesAt, RightTo, RightAs, Never, right_to}
+use Rattle.tuple_text.proofs.Right.{nothing_passed, look_at}
 use Rattle.tuple_text.proofs.Blanks.{BeginsWord}
 use Rattle.tuple_text.proofs.Leaves.{IsText, BeginsText, mapped_right, named_right}
 use Rattle.tuple_text.proofs.Plain.{plain_leaf, plain_list, plain_item, plain_whole}
-use Rattle.tuple_text.proofs.Levels.{Within, OneIs, Fits, Overflows, weaker, each_weaker, each_leaf, each_levels, each_counted}
+use Rattle.tuple_text.proofs.Levels.{Within, OneIs, Fits, Overflows, weaker, each_weaker, each_leaf, each_levels}
+use Rattle.tuple_text.proofs.Levels.{each_counted}
 use Rattle.tuple_text.proofs.Lists.{IsOne, BeginsOne, IsList, BeginsList, IsKept, IsLong, list_right}
 
 module _ {L : Type 0} (leaf_text : L → List ℕ) (IsLeaf : L → Type 0) (begins : ℕ → Bool) (leaf_at : Reading L) (leaf_right : (bs : List ℕ) → RightAs (IsText leaf_text IsLeaf) (BeginsText leaf_text IsLeaf) bs (leaf_at bs))

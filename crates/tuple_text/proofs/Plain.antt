@@ -1,9 +1,11 @@
 -- Lists read without a limit of bytes, and the part of them that is kept.
-use Rattle.std.proofs.Common.{◌≡◌, ℕ, zero, suc, ◌<◌, ◌≤◌, ◌==◌, nat_le, Bool, true, false, cond, List, [], ◌∷◌, codes, Option, None, Some, option_map, refl, ap, sym, ◌∙◌, arith, if◌then◌else◌}
+use Rattle.std.proofs.Common.{◌≡◌, ℕ, zero, suc, ◌<◌, ◌≤◌, ◌==◌, nat_le, Bool, true, false, cond, List, [], ◌∷◌, codes}
+use Rattle.std.proofs.Common.{Option, None, Some, option_map, refl, ap, sym, ◌∙◌, arith, if◌then◌else◌}
 use Rattle.std.proofs.lemmas.Bool.{le-leb, lt-leb, leb-false}
 use Rattle.tuple_tree.specs.Items.{TreeItem, leaf, inner, Items, none, with_last, whole_length}
 use Rattle.tuple_tree.proofs.Growing.{length_in-with_last}
-use Rattle.tuple_text.specs.Reading.{Read, got, stop, Reading, ◌>>=◌, look, word, turn, full, items, no_room, kept, kept_with, leaf_item, list, item_at, items_at, close, whole}
+use Rattle.tuple_text.specs.Reading.{Read, got, stop, Reading, ◌>>=◌, look, word, turn, full, items, no_room, kept}
+use Rattle.tuple_text.specs.Reading.{kept_with, leaf_item, list, item_at, items_at, close, whole}
 use Rattle.tuple_text.specs.declared.reader.Stop.{Stop}
 use Rattle.tuple_text.specs.declared.reader.Stop.TheVariants.{TooDeep}
 

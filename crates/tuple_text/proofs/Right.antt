@@ -1,6 +1,7 @@
 -- A reader keeps to the grammar: the bytes of each value that it gives are a text of the value. If it stops, the
 -- bytes that it passed begin a text.
-use Rattle.std.proofs.Common.{◌≡◌, ℕ, ◌==◌, Bool, true, false, cond, List, [], ◌∷◌, ◌++◌, refl, ap, sym, subst, ◌∙◌, append_assoc}
+use Rattle.std.proofs.Common.{◌≡◌, ℕ, ◌==◌, Bool, true, false, cond, List, [], ◌∷◌, ◌++◌, refl, ap, sym, subst, ◌∙◌}
+use Rattle.std.proofs.Common.{append_assoc}
 use Rattle.std.proofs.lemmas.Bool.{eqb-true}
 use Rattle.tuple_text.specs.Reading.{Read, got, stop, Reading, ◌>>=◌, look, nothing}
 use Rattle.tuple_text.specs.declared.reader.Stop.{Stop}

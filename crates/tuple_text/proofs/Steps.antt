@@ -1,8 +1,12 @@
 -- Steps of the reader of lists.
-use Rattle.std.proofs.Common.{◌≡◌, ◌≢◌, ℕ, zero, suc, ◌+◌, ◌-◌, ◌≤◌, ◌==◌, Bool, true, false, ◌&&◌, cond, List, [], ◌∷◌, Option, Some, codes, option_map, refl, ap, sym, subst, ◌∙◌, arith, ◌⊎◌, inl, inr, if◌then◌else◌}
+use Rattle.std.proofs.Common.{◌≡◌, ◌≢◌, ℕ, zero, suc, ◌+◌, ◌-◌, ◌≤◌, ◌==◌, Bool, true, false, ◌&&◌, cond, List, [], ◌∷◌}
+use Rattle.std.proofs.Common.{Option, Some, codes, option_map, refl, ap, sym, subst, ◌∙◌, arith, ◌⊎◌, inl, inr}
+use Rattle.std.proofs.Common.{if◌then◌else◌}
 use Rattle.std.proofs.lemmas.Bool.{eqb-true, eq-eqb, ne_eqb}
 use Rattle.tuple_tree.specs.Items.{TreeItem, leaf, inner, Items, none}
-use Rattle.tuple_text.specs.Reading.{Read, got, stop, Reading, ◌>>=◌, ReadingStops, look, word, named, turn, full, further, items, opens, no_room, kept_with, leaf_item, list, item_at, items_at, datum, slot}
+use Rattle.tuple_text.specs.Reading.{Read, got, stop, Reading, ◌>>=◌, ReadingStops, look, word, named, turn, full}
+use Rattle.tuple_text.specs.Reading.{further, items, opens, no_room, kept_with, leaf_item, list, item_at, items_at}
+use Rattle.tuple_text.specs.Reading.{datum, slot}
 use Rattle.tuple_text.specs.Parts.{adding}
 use Rattle.tuple_text.specs.declared.reader.Stop.{Stop}
 use Rattle.tuple_text.specs.declared.reader.Stop.TheVariants.{BadByte, TooDeep, TooManyFields, TooLong, NoMemory}

@@ -1,5 +1,7 @@
 -- The written text is a text of its value, and the old bytes stay.
-use Rattle.std.proofs.Common.{◌≡◌, ℕ, zero, suc, ◌+◌, ◌≤◌, ◌<◌, ◌==◌, nat_lt, Bool, true, false, ◌||◌, if◌then◌else◌, List, [], ◌∷◌, ◌++◌, length, take, drop, get_or, Result, Ok, Err, refl, ap, sym, subst, ◌∙◌, append_assoc, append-nil, add-one, arith}
+use Rattle.std.proofs.Common.{◌≡◌, ℕ, zero, suc, ◌+◌, ◌≤◌, ◌<◌, ◌==◌, nat_lt, Bool, true, false, ◌||◌, if◌then◌else◌}
+use Rattle.std.proofs.Common.{List, [], ◌∷◌, ◌++◌, length, take, drop, get_or, Result, Ok, Err, refl, ap, sym, subst}
+use Rattle.std.proofs.Common.{◌∙◌, append_assoc, append-nil, add-one, arith}
 use Rattle.std.specs.List.{flat_map}
 use Rattle.std.proofs.lemmas.Bool.{eqb-true}
 use Rattle.std.proofs.lemmas.Grind.{flat_map-append}
@@ -8,7 +10,8 @@ use Rattle.std.proofs.Math.Seq.{drop-cons, drop-nil, get_or-take}
 use Rattle.tuple_tree.specs.Items.{TreeItem, leaf, inner, Items, none, item}
 use Rattle.tuple_text.specs.Texts.{ItemText, ItemsText, MoreText, escaped, hex_pair}
 use Rattle.tuple_tree.specs.Values.{TupleTree}
-use Rattle.tuple_text.specs.Written.{item_written, items_written, more_written, tuple_written, tuples_written, is_escaped, WritesText}
+use Rattle.tuple_text.specs.Written.{item_written, items_written, more_written, tuple_written, tuples_written}
+use Rattle.tuple_text.specs.Written.{is_escaped, WritesText}
 
 module _ {L : Type 0} (leaf_text : L → List ℕ) where
   mutual

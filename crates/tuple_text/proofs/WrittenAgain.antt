@@ -1,5 +1,7 @@
 -- A written text fits into a line, and is the argument of one.
-use Rattle.std.proofs.Common.{◌≡◌, ℕ, suc, ◌+◌, ◌*◌, ◌^◌, ◌<◌, ◌≤◌, ◌==◌, nat_lt, Bool, true, false, cond, List, [], ◌∷◌, ◌++◌, length, codes, pos, negsuc, FitsSigned, w64, refl, ap, sym, append-nil, arith, length-append}
+use Rattle.std.proofs.Common.{◌≡◌, ℕ, suc, ◌+◌, ◌*◌, ◌^◌, ◌<◌, ◌≤◌, ◌==◌, nat_lt, Bool, true, false, cond, List, []}
+use Rattle.std.proofs.Common.{◌∷◌, ◌++◌, length, codes, pos, negsuc, FitsSigned, w64, refl, ap, sym, append-nil, arith}
+use Rattle.std.proofs.Common.{length-append}
 use Rattle.std.specs.Int.{w128}
 use Rattle.std.proofs.lemmas.Int.{ints}
 use Rattle.std.proofs.lemmas.Fmt.{length-decimal-le, length-decimal-le_wide}
@@ -7,7 +9,8 @@ use Rattle.std.specs.Fmt.{decimal}
 use Rattle.std.specs.List.{flat_map}
 use Rattle.tuple_tree.specs.Items.{TreeItem, leaf, inner, Items, none, item, item_length, length_in}
 use Rattle.tuple_tree.specs.Limits.{IsItem, AreItems, IsWithin}
-use Rattle.tuple_tree.specs.Values.{Datum, number, text, bytes, truth, wide, Slot, actual, any, formal, datum_length, slot_length, IsDatum, IsSlot, IsTuple, IsTemplate, TupleTree, TemplateTree}
+use Rattle.tuple_tree.specs.Values.{Datum, number, text, bytes, truth, wide, Slot, actual, any, formal, datum_length}
+use Rattle.tuple_tree.specs.Values.{slot_length, IsDatum, IsSlot, IsTuple, IsTemplate, TupleTree, TemplateTree}
 use Rattle.tuple_tree.specs.declared.atoms.Kind.TheVariants as kinds
 use Rattle.tuple_codec.specs.Operations.{Operation, out, rdp}
 use Rattle.tuple_text.specs.Texts.{datum_text, slot_text, escaped, hex_pair}

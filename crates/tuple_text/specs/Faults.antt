@@ -16,9 +16,11 @@ use Rattle.tuple_text.specs.declared.faults.LineFault.TheVariants.{BadByte, TooD
 abbrev pub KeepsCount : {L : Type 0} → Items L → Type 0
 KeepsCount xs = (how_many xs ≤ 32) × AreItems (λ _. Unit {0}) xs
 
+-- The operation may pass the limits of items, levels and bytes.
 abbrev pub AnyOperation : Operation → Type 0
 AnyOperation o = Unit {0}
 
+-- Each tuple and template of the operation has at most 8 levels.
 abbrev pub KeepsLevels : Operation → Type 0
 KeepsLevels (out t) = levels_of t ≤ 8
 KeepsLevels (rdp p) = levels_of p ≤ 8
@@ -28,6 +30,7 @@ KeepsLevels (rd_all n p) = levels_of p ≤ 8
 KeepsLevels (in_all n p) = levels_of p ≤ 8
 KeepsLevels upgrade = Unit {0}
 
+-- Each list in the operation has at most 32 items.
 abbrev pub KeepsCounts : Operation → Type 0
 KeepsCounts (out t) = KeepsCount t
 KeepsCounts (rdp p) = KeepsCount p
@@ -37,6 +40,7 @@ KeepsCounts (rd_all n p) = KeepsCount p
 KeepsCounts (in_all n p) = KeepsCount p
 KeepsCounts upgrade = Unit {0}
 
+-- The operation passes neither the limit of levels nor that of items.
 abbrev pub KeepsBoth : Operation → Type 0
 KeepsBoth o = KeepsLevels o × KeepsCounts o
 
@@ -92,6 +96,7 @@ pub record IsBadAt (bs : List ℕ) (n : ℕ) : Type 0 where
   pub longest : n < length bs → n < 65536 → LineBegins AnyOperation (take (n + 1) bs) → ⊥
   pub unfinished : n ≡ length bs → (o : Operation) → LineText o bs → ⊥
 
+-- This fault is the first that decides; memory may run out at each line.
 abbrev pub Faults : LineFault → List ℕ → Type 0
 Faults (BadByte n) bs = IsBadAt bs n
 Faults TooDeep bs =

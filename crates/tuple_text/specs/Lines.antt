@@ -14,19 +14,24 @@ module _ {L : Type 0} (IsLeaf : L → Type 0) where
     EachLeaf none = Unit {0}
     EachLeaf (item x xs) = LeafIn x × EachLeaf xs
 
+    -- IsLeaf holds of each leaf in the item, at each level.
     pub LeafIn : TreeItem L → Type 0
     LeafIn (leaf x) = IsLeaf x
     LeafIn (inner xs) = EachLeaf xs
 
+-- The text is one of the tuple, and each value is a right one of its kind.
 abbrev pub TupleArgument : TupleTree → List ℕ → Type 0
 TupleArgument t bs = TupleText t bs × EachLeaf IsDatum t
 
+-- The text is one of the template, and each actual has a right value of its kind.
 abbrev pub TemplateArgument : TemplateTree → List ℕ → Type 0
 TemplateArgument p bs = TemplateText p bs × EachLeaf IsSlot p
 
+-- The text is that of the count, which is from 1 to 64.
 abbrev pub CountArgument : ℕ → List ℕ → Type 0
 CountArgument n bs = (bs ≡ decimal n) × (1 ≤ n) × (n ≤ 64)
 
+-- the name that begins an operation's line
 abbrev pub operation_name : Operation → List ℕ
 operation_name (out t) = codes "out"
 operation_name (rdp p) = codes "rdp"
@@ -52,6 +57,7 @@ ArgumentsText [] bs = AreBlanks bs
 ArgumentsText (argument ∷ more) bs =
     (gap front rest : List ℕ) × (bs ≡ gap ++ (front ++ rest)) × IsGap gap × argument front × ArgumentsText more rest
 
+-- The line is the operation's name and its arguments, with blanks at both ends or without.
 abbrev pub LineText : Operation → List ℕ → Type 0
 LineText o bs =
     (lead rest : List ℕ) × (bs ≡ lead ++ (operation_name o ++ rest)) × AreBlanks lead × ArgumentsText (arguments o) rest
@@ -62,10 +68,11 @@ pub record IsLine (o : Operation) (bs : List ℕ) : Type 0 where
   pub within : IsOperation o
   pub size : length bs ≤ 65536
 
--- A line of blanks alone, or whose first byte is a hash, has no operation and is skipped.
+-- The first byte of the line is a hash.
 abbrev pub IsComment : List ℕ → Type 0
 IsComment [] = ⊥
 IsComment (b ∷ bs) = b ≡ 35
 
+-- A line of blanks alone, or whose first byte is a hash, has no operation and is skipped.
 abbrev pub IsSkipped : List ℕ → Type 0
 IsSkipped bs = AreBlanks bs ⊎ IsComment bs

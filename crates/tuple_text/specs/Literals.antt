@@ -1,9 +1,13 @@
 -- Readers of the literals of texts and byte strings at the front of bytes.
-use Rattle.std.specs.Prelude.{ℕ, ◌+◌, ◌-◌, ◌*◌, ◌<◌, ◌==◌, nat_le, nat_lt, ◌≡◌, Bool, true, false, not, ◌&&◌, ◌||◌, if◌then◌else◌, List, [], ◌∷◌, ◌++◌, length, slice_index, Option, None, Some}
+use Rattle.std.specs.Prelude.{ℕ, ◌+◌, ◌-◌, ◌*◌, ◌<◌, ◌==◌, nat_le, nat_lt, ◌≡◌, Bool, true, false, not, ◌&&◌, ◌||◌}
+use Rattle.std.specs.Prelude.{if◌then◌else◌, List, [], ◌∷◌, ◌++◌, length, slice_index, Option, None, Some}
 use Rattle.tuple_text.specs.Read.{got, stop, Reading}
 use Rattle.tuple_text.specs.declared.reader.Stop.TheVariants.{BadByte}
 use Rattle.tuple_text.specs.declared.literals.Expected.{Expected}
-use Rattle.tuple_text.specs.declared.literals.Expected.TheVariants.{Character, Escape, FirstDigit, DigitBehindZero, DigitBehindOne, OneByte, TwoBytes, ThreeBytes, BytesBehindE0, BytesBehindEd, BytesBehindF0, BytesBehindF4}
+use Rattle.tuple_text.specs.declared.literals.Expected.TheVariants.{Character, Escape, FirstDigit, DigitBehindZero}
+use Rattle.tuple_text.specs.declared.literals.Expected.TheVariants.{DigitBehindOne, OneByte, TwoBytes, ThreeBytes}
+use Rattle.tuple_text.specs.declared.literals.Expected.TheVariants.{BytesBehindE0, BytesBehindEd, BytesBehindF0}
+use Rattle.tuple_text.specs.declared.literals.Expected.TheVariants.{BytesBehindF4}
 use Rattle.tuple_text.specs.declared.literals.Step.{Step}
 use Rattle.tuple_text.specs.declared.literals.Step.TheVariants.{Refused, Ends, Passes, Adds}
 

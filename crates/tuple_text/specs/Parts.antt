@@ -3,7 +3,9 @@ use Rattle.std.specs.Prelude.{◌≡◌, ℕ, Bool, codes, Result, Ok, Err, Opti
 use Rattle.tuple_tree.specs.Items.{TreeItem, inner, Items}
 use Rattle.tuple_tree.specs.Seen.{seen_datum}
 use Rattle.tuple_tree.specs.Values.{Datum, text, bytes, Slot, TupleTree, TemplateTree, datum_length, slot_length}
-use Rattle.tuple_text.specs.Reading.{◌>>=◌, got, stop, Reading, named, datum, slot, actual_slot, begins_datum, begins_slot, full, further, no_room, kept_with, leaf_item, item_at, items_at, close, ReadingReturns}
+use Rattle.tuple_text.specs.Reading.{◌>>=◌, got, stop, Reading, named, datum, slot, actual_slot, begins_datum}
+use Rattle.tuple_text.specs.Reading.{begins_slot, full, further, no_room, kept_with, leaf_item, item_at, items_at}
+use Rattle.tuple_text.specs.Reading.{close, ReadingReturns}
 use Rattle.tuple_text.specs.declared.literals.Literal.{Literal}
 use Rattle.tuple_text.specs.declared.literals.Literal.TheVariants.{Scalar, Text, Bytes}
 use Rattle.tuple_text.specs.declared.reader.Reader.{Reader}

@@ -1,15 +1,18 @@
 -- The text that the program writes: one blank between items and none at the parentheses.
-use Rattle.std.specs.Prelude.{◌≡◌, ℕ, ◌<◌, ◌≤◌, ◌==◌, nat_lt, Bool, ◌||◌, List, [], ◌∷◌, ◌++◌, length, take, codes, Result, Ok, Err}
+use Rattle.std.specs.Prelude.{◌≡◌, ℕ, ◌<◌, ◌≤◌, ◌==◌, nat_lt, Bool, ◌||◌, List, [], ◌∷◌, ◌++◌, length, take, codes}
+use Rattle.std.specs.Prelude.{Result, Ok, Err}
 use Rattle.std.specs.List.{flat_map}
 use Rattle.std.specs.Fmt.{decimal}
 use Rattle.tuple_tree.specs.Items.{TreeItem, leaf, inner, Items, none, item}
 use Rattle.tuple_tree.specs.Values.{TupleTree, TemplateTree}
-use Rattle.tuple_codec.specs.Operations.{Operation, out, rdp, inp, cas, rd_all, in_all, upgrade, Outcome, done, found, absent, swapped, all, full, refused}
+use Rattle.tuple_codec.specs.Operations.{Operation, out, rdp, inp, cas, rd_all, in_all, upgrade, Outcome, done, found}
+use Rattle.tuple_codec.specs.Operations.{absent, swapped, all, full, refused}
 use Rattle.tuple_codec.specs.OperationView.{outcome_of}
 use Rattle.tuple_codec.specs.declared.operations.Answer.{Answer}
 use Rattle.tuple_text.specs.Texts.{datum_text, slot_text, truth_text, escaped}
 
 module _ {L : Type 0} (leaf_text : L → List ℕ) where
+  -- a leaf's text, or a nested list in parentheses
   abbrev mutual
     pub item_written : TreeItem L → List ℕ
     item_written (leaf x) = leaf_text x
@@ -25,9 +28,11 @@ module _ {L : Type 0} (leaf_text : L → List ℕ) where
     more_written none = []
     more_written (item x xs) = 32 ∷ item_written x ++ more_written xs
 
+  -- the text of a whole list, with its parentheses
   abbrev pub whole_written : Items L → List ℕ
   whole_written xs = item_written (inner xs)
 
+-- the text of a tuple
 abbrev pub tuple_written : TupleTree → List ℕ
 tuple_written t = whole_written datum_text t
 

@@ -6,7 +6,8 @@ ghost use Rattle.tuple_tree.specs.Reading.{rest_of, byte_at};
 ghost use Rattle.tuple_tree.specs.Loose.{loose_slot_at};
 ghost use Rattle.tuple_text.specs.Texts.{slot_text};
 ghost use Rattle.tuple_text.specs.Written.{template_written, WritesText};
-ghost use Rattle.tuple_text.specs.Walks.{spelled_field_at, spelled_fields_at, field_written, fields_written, others_written, IsThere, text_of};
+ghost use Rattle.tuple_text.specs.Walks.{spelled_field_at, spelled_fields_at, field_written, fields_written};
+ghost use Rattle.tuple_text.specs.Walks.{others_written, IsThere, text_of};
 
 use crate::write::{append, put_atom, put_byte};
 use std::alloc::Allocator;

@@ -1,9 +1,11 @@
 //! The reader of text literals and byte string literals.
 
-ghost use Rattle.std.specs.Prelude.{◌≡◌, ◌+◌, ◌++◌, ◌∷◌, ◌<◌, ◌≤◌, ◌%◌, ℕ, [], None, true, false, length, slice_index, vec_len, vec_capacity, IfOk, IfErr, IfSome, IfNone, OnOk, IsTrue};
+ghost use Rattle.std.specs.Prelude.{◌≡◌, ◌+◌, ◌++◌, ◌∷◌, ◌<◌, ◌≤◌, ◌%◌, ℕ, [], None, true, false, length, slice_index};
+ghost use Rattle.std.specs.Prelude.{vec_len, vec_capacity, IfOk, IfErr, IfSome, IfNone, OnOk, IsTrue};
 ghost use Rattle.tuple_tree.specs.Seen.{seen_datum};
 ghost use Rattle.tuple_tree.specs.Values.{text};
-ghost use Rattle.tuple_text.specs.Literals.{is_hex, hex_value, led, step, is_plain, text_rest, PassesPlain, AreHex, NoHex, PassesPairs, digit_pairs};
+ghost use Rattle.tuple_text.specs.Literals.{is_hex, hex_value, led, step, is_plain, text_rest, PassesPlain, AreHex};
+ghost use Rattle.tuple_text.specs.Literals.{NoHex, PassesPairs, digit_pairs};
 ghost use Rattle.tuple_text.specs.Reading.{got, datum, quoted, byte_string};
 ghost use Rattle.tuple_text.specs.Parts.{MethodReads, datum_read};
 

@@ -1,10 +1,17 @@
 //! The reader of lines, a method for each part of the grammar.
 
-ghost use Rattle.std.specs.Prelude.{◌≡◌, ◌+◌, ◌-◌, ◌≤◌, ◌<◌, ◌^◌, codes, true, length, IfOk, IfErr, OnOk, IsTrue, ◌↔◌, Option, option_map};
+ghost use Rattle.std.specs.Prelude.{◌≡◌, ◌+◌, ◌-◌, ◌≤◌, ◌<◌, ◌^◌, codes, true, length, IfOk, IfErr, OnOk, IsTrue, ◌↔◌};
+ghost use Rattle.std.specs.Prelude.{Option, option_map};
 ghost use Rattle.tuple_codec.specs.OperationView.{operation_of};
 ghost use Rattle.tuple_text.specs.Texts.{AreBlanks};
-ghost use Rattle.tuple_text.specs.Reading.{fault_at, blanks, word, gap, finish, positive, datum, kind, named, behind_b, behind_t, slot_item, turn, follows, got, stop, opens, tuple, template, argument, ending, last, operation, line, out_line, cas_line, upgrade_line, one_line, all_line, verb_line, lone_template};
-ghost use Rattle.tuple_text.specs.Parts.{HasNoValueRoom, HasNoFieldRoom, datum_read, adding_atom, adding_slot, adding_actual, adding_tuple, adding_template, adding_value, adding_field, value_follows, field_follows, values_at, fields_at, close_tuple, close_template, MethodReads};
+ghost use Rattle.tuple_text.specs.Reading.{fault_at, blanks, word, gap, finish, positive, datum, kind, named, behind_b};
+ghost use Rattle.tuple_text.specs.Reading.{behind_t, slot_item, turn, follows, got, stop, opens, tuple, template};
+ghost use Rattle.tuple_text.specs.Reading.{argument, ending, last, operation, line, out_line, cas_line, upgrade_line};
+ghost use Rattle.tuple_text.specs.Reading.{one_line, all_line, verb_line, lone_template};
+ghost use Rattle.tuple_text.specs.Parts.{HasNoValueRoom, HasNoFieldRoom, datum_read, adding_atom, adding_slot};
+ghost use Rattle.tuple_text.specs.Parts.{adding_actual, adding_tuple, adding_template, adding_value, adding_field};
+ghost use Rattle.tuple_text.specs.Parts.{value_follows, field_follows, values_at, fields_at, close_tuple};
+ghost use Rattle.tuple_text.specs.Parts.{close_template, MethodReads};
 
 use crate::faults::LineFault;
 use crate::growing::{add_actual, add_atom, add_field, add_open, add_value};

@@ -1,6 +1,7 @@
 //! From values to text.
 
-ghost use Rattle.std.specs.Prelude.{◌≡◌, ◌+◌, ◌<◌, ◌≤◌, ◌++◌, ◌∷◌, [], false, length, slice_index, OnOk, OnErr, IsTrue, ℕ, List};
+ghost use Rattle.std.specs.Prelude.{◌≡◌, ◌+◌, ◌<◌, ◌≤◌, ◌++◌, ◌∷◌, [], false, length, slice_index, OnOk, OnErr, IsTrue};
+ghost use Rattle.std.specs.Prelude.{ℕ, List};
 ghost use Rattle.std.specs.List.{flat_map};
 ghost use Rattle.std.specs.Fmt.{signed_decimal};
 ghost use Rattle.tuple_tree.specs.Values.{TupleTree, TemplateTree};
@@ -8,9 +9,11 @@ ghost use Rattle.tuple_tree.specs.Seen.{seen_datum};
 ghost use Rattle.tuple_codec.specs.Operations.{Operation};
 ghost use Rattle.tuple_text.specs.Laws.{TuplesAreLines, TemplatesAreLines};
 ghost use Rattle.tuple_text.specs.Lines.{IsLine};
-ghost use Rattle.tuple_text.specs.Texts.{TupleText, TemplateText, datum_text, quoted_text, truth_text, escaped, hex_pair};
+ghost use Rattle.tuple_text.specs.Texts.{TupleText, TemplateText, datum_text, quoted_text, truth_text, escaped};
+ghost use Rattle.tuple_text.specs.Texts.{hex_pair};
 ghost use Rattle.tuple_text.specs.Texts as Texts;
-ghost use Rattle.tuple_text.specs.Written.{tuple_written, template_written, counted_written, answer_text, is_escaped, WritesText, PutsSome};
+ghost use Rattle.tuple_text.specs.Written.{tuple_written, template_written, counted_written, answer_text, is_escaped};
+ghost use Rattle.tuple_text.specs.Written.{WritesText, PutsSome};
 
 use crate::fields::put_list;
 use itoa::Buffer;

@@ -1,10 +1,14 @@
 -- The front of a template's spelling, before its first open field.
-use Rattle.std.proofs.Common.{◌≡◌, ℕ, ◌+◌, ◌-◌, ◌<◌, ◌≤◌, Bool, true, false, ◌||◌, cond, List, [], ◌∷◌, ◌++◌, length, take, Some, ◌↔◌, ap, sym, subst, refl, ◌∙◌, arith, append-nil, append_assoc, length-append}
+use Rattle.std.proofs.Common.{◌≡◌, ℕ, ◌+◌, ◌-◌, ◌<◌, ◌≤◌, Bool, true, false, ◌||◌, cond, List, [], ◌∷◌, ◌++◌, length}
+use Rattle.std.proofs.Common.{take, Some, ◌↔◌, ap, sym, subst, refl, ◌∙◌, arith, append-nil, append_assoc}
+use Rattle.std.proofs.Common.{length-append}
 use lib.Dec.{eqb}
 use Rattle.std.proofs.lemmas.List.{take_at}
 use Rattle.std.proofs.lemmas.Bool.{eq-eqb}
-use Rattle.tuple_tree.specs.Items.{TreeItem, leaf, inner, none, item, how_many, with_last, item_length, length_in, whole_length, item_has, has_leaf}
-use Rattle.tuple_tree.specs.Values.{Slot, actual, any, formal, slot_length, is_wide_slot, IsSlot, AreBytes, TemplateTree}
+use Rattle.tuple_tree.specs.Items.{TreeItem, leaf, inner, none, item, how_many, with_last, item_length, length_in}
+use Rattle.tuple_tree.specs.Items.{whole_length, item_has, has_leaf}
+use Rattle.tuple_tree.specs.Values.{Slot, actual, any, formal, slot_length, is_wide_slot, IsSlot, AreBytes}
+use Rattle.tuple_tree.specs.Values.{TemplateTree}
 use Rattle.tuple_tree.specs.Reading.{byte_at, slot_at, items_at}
 use Rattle.tuple_tree.specs.Judging.{judged}
 use Rattle.tuple_tree.specs.Loose.{loose_slot_at}

@@ -1,6 +1,8 @@
 -- Items are read out of the bytes that spell them, and what the bytes are with one more item.
-use Rattle.std.proofs.Common.{◌≡◌, ℕ, ◌+◌, Bool, false, ◌||◌, List, [], ◌∷◌, ◌++◌, ap, sym, subst, refl, ◌∙◌, arith, append-nil}
-use Rattle.tuple_tree.specs.Items.{TreeItem, inner, Items, none, with_last, how_many, item_levels, item_length, item_has, has_leaf}
+use Rattle.std.proofs.Common.{◌≡◌, ℕ, ◌+◌, Bool, false, ◌||◌, List, [], ◌∷◌, ◌++◌, ap, sym, subst, refl, ◌∙◌, arith}
+use Rattle.std.proofs.Common.{append-nil}
+use Rattle.tuple_tree.specs.Items.{TreeItem, inner, Items, none, with_last, how_many, item_levels, item_length}
+use Rattle.tuple_tree.specs.Items.{item_has, has_leaf}
 use Rattle.tuple_tree.specs.Limits.{IsItem, IsWithin}
 use Rattle.tuple_tree.specs.Extents.{IsLonger}
 use Rattle.tuple_tree.specs.declared.limits.Extent.{Extent}

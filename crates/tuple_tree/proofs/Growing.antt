@@ -1,6 +1,7 @@
 -- Items with one more at their end, and how they keep the limits.
 use Rattle.std.proofs.Common.{◌≡◌, ℕ, ◌+◌, ◌≤◌, ◌<◌, max, Bool, true, false, ◌||◌, refl, ap, ◌∙◌, arith}
-use Rattle.tuple_tree.specs.Items.{TreeItem, Items, none, item, how_many, with_last, item_levels, levels_in, levels_of, item_length, length_in, whole_length, item_has, has_leaf}
+use Rattle.tuple_tree.specs.Items.{TreeItem, Items, none, item, how_many, with_last, item_levels, levels_in, levels_of}
+use Rattle.tuple_tree.specs.Items.{item_length, length_in, whole_length, item_has, has_leaf}
 use Rattle.tuple_tree.specs.Limits.{IsItem, AreItems, IsWithin, RefusesItems, RefusesSize}
 use Rattle.tuple_tree.specs.declared.limits.Refusal.{Refusal}
 use Rattle.tuple_tree.specs.declared.limits.Refusal.TheVariants.{TooManyFields, TooDeep, TooLong, NoMemory}

@@ -1,5 +1,6 @@
 -- The leaves of tuples and templates at the front of bytes.
-use Rattle.std.proofs.Common.{◌≡◌, ℕ, suc, ℤ, Bool, ◌+◌, ◌^◌, ◌<◌, ◌≤◌, List, [], ◌∷◌, ◌++◌, length, Some, ap, refl, ◌∙◌, arith, length-append}
+use Rattle.std.proofs.Common.{◌≡◌, ℕ, suc, ℤ, Bool, ◌+◌, ◌^◌, ◌<◌, ◌≤◌, List, [], ◌∷◌, ◌++◌, length, Some, ap, refl}
+use Rattle.std.proofs.Common.{◌∙◌, arith, length-append}
 use Rattle.std.proofs.lemmas.Int.{to_z-of_z, of_z-to_z}
 use Rattle.std.specs.Int.{w16, w64, w128, to_be_bytes, cast_unsigned, cast_signed}
 use Rattle.std.specs.Str.{IsUtf8}
@@ -7,12 +8,16 @@ use borrow.Author.Gap.{read_sfits}
 use mir.ValLaws.{of_z_fits}
 use Rattle.byteorder.specs.Numbers.{length-bytes_high_first}
 use Rattle.tuple_tree.specs.Items.{TreeItem, leaf}
-use Rattle.tuple_tree.specs.Values.{Datum, number, text, bytes, truth, wide, Slot, actual, any, formal, datum_length, slot_length, IsDatum, IsSlot, AreBytes}
+use Rattle.tuple_tree.specs.Values.{Datum, number, text, bytes, truth, wide, Slot, actual, any, formal, datum_length}
+use Rattle.tuple_tree.specs.Values.{slot_length, IsDatum, IsSlot, AreBytes}
 use Rattle.tuple_tree.specs.declared.atoms.Kind.TheVariants as kinds
-use Rattle.tuple_tree.specs.Reading.{Reader, read_as, unknown, number_of, string_at, text_at, flag_at, datum_rows, datum_at, formal_rows, slot_at, item_with}
+use Rattle.tuple_tree.specs.Reading.{Reader, read_as, unknown, number_of, string_at, text_at, flag_at, datum_rows}
+use Rattle.tuple_tree.specs.Reading.{datum_at, formal_rows, slot_at, item_with}
 use Rattle.tuple_tree.specs.Spelling.{string, flag, wide_bytes, datum_spelling, slot_spelling}
-use Rattle.tuple_tree.proofs.Readers.{FoundBehind, bind_some, parts, moved, as_found, as_again, tag_found, RowsFound, ◌⨾◌, found_by_table, unknown_found}
-use Rattle.tuple_tree.proofs.Numbers.{number_found, number_again, string_found, string_again, text_found, text_again, flag_found, flag_again}
+use Rattle.tuple_tree.proofs.Readers.{FoundBehind, bind_some, parts, moved, as_found, as_again, tag_found, RowsFound}
+use Rattle.tuple_tree.proofs.Readers.{◌⨾◌, found_by_table, unknown_found}
+use Rattle.tuple_tree.proofs.Numbers.{number_found, number_again, string_found, string_again, text_found, text_again}
+use Rattle.tuple_tree.proofs.Numbers.{flag_found, flag_again}
 
 -- The laws of a reader of leaves, each of which has a tag in front.
 pub record ReadsLeaves {L : Type 0} (IsLeaf : L → Type 0) (length_of : L → ℕ) (spelling : L → List ℕ) (leaf_at : ℕ → Reader L) : Type 0 where

@@ -4,12 +4,15 @@ use Rattle.std.specs.Int.{w64, w128}
 use Rattle.std.specs.Int.RustNames.{FitsSigned}
 use Rattle.tuple_tree.specs.Items.{TreeItem, leaf, inner, Items, none, item}
 use Rattle.tuple_tree.specs.Limits.{IsItem, AreItems}
-use Rattle.tuple_tree.specs.Values.{Datum, number, text, bytes, truth, wide, Slot, actual, any, formal, AreBytes, IsDatum, IsSlot, datum_length, slot_length}
+use Rattle.tuple_tree.specs.Values.{Datum, number, text, bytes, truth, wide, Slot, actual, any, formal, AreBytes}
+use Rattle.tuple_tree.specs.Values.{IsDatum, IsSlot, datum_length, slot_length}
 use Rattle.tuple_tree.specs.declared.atoms.Kind.TheVariants as kinds
-use Rattle.tuple_tree.specs.Reading.{◌>>=◌, Reader, read_as, unknown, signed_at, wide_at, string_at, flag_at, datum_at, formal_rows, nothing, item_with}
+use Rattle.tuple_tree.specs.Reading.{◌>>=◌, Reader, read_as, unknown, signed_at, wide_at, string_at, flag_at, datum_at}
+use Rattle.tuple_tree.specs.Reading.{formal_rows, nothing, item_with}
 use Rattle.tuple_tree.specs.Spelling.{string, flag, datum_spelling, slot_spelling}
 use Rattle.tuple_tree.specs.Loose.{loose_rows, loose_at, loose_slot_at}
-use Rattle.tuple_tree.proofs.Readers.{FoundBehind, bind_some, parts, moved, tag_found, as_found, as_again, found_by_table, unknown_found, ◌⨾◌}
+use Rattle.tuple_tree.proofs.Readers.{FoundBehind, bind_some, parts, moved, tag_found, as_found, as_again}
+use Rattle.tuple_tree.proofs.Readers.{found_by_table, unknown_found, ◌⨾◌}
 use Rattle.tuple_tree.proofs.Numbers.{string_found, string_again, flag_found}
 use Rattle.tuple_tree.proofs.Leaves.{ReadsLeaves, datum_leaves, slot_leaves}
 

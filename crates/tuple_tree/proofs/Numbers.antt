@@ -1,5 +1,7 @@
 -- Numbers, strings and flags at the front of bytes.
-use Rattle.std.proofs.Common.{◌≡◌, inl, inr, ℕ, zero, suc, ◌+◌, ◌*◌, ◌^◌, ◌<◌, ◌≤◌, Bool, true, false, cond, if◌then◌else◌, List, [], ◌∷◌, ◌++◌, length, take, drop, Some, None, ap, sym, refl, ◌∙◌, arith, append_assoc, append-nil, length-append}
+use Rattle.std.proofs.Common.{◌≡◌, inl, inr, ℕ, zero, suc, ◌+◌, ◌*◌, ◌^◌, ◌<◌, ◌≤◌, Bool, true, false, cond}
+use Rattle.std.proofs.Common.{if◌then◌else◌, List, [], ◌∷◌, ◌++◌, length, take, drop, Some, None, ap, sym, refl, ◌∙◌}
+use Rattle.std.proofs.Common.{arith, append_assoc, append-nil, length-append}
 use Rattle.std.proofs.lemmas.List.{take-append-drop, length-take, length-take-le, take_at, drop_at}
 use Rattle.std.proofs.lemmas.Nat.{same_from_place}
 use Rattle.std.proofs.lemmas.Bool.{ltb-false, le-ltb, lt-ltb, eqb-true}
@@ -8,11 +10,13 @@ use Rattle.std.specs.Int.{w16, to_be_bytes}
 use Rattle.std.specs.Str.{IsUtf8, is_utf8}
 use lib.Dec.{ltb, eqb}
 use Rattle.byteorder.specs.Endian.{big_from, big_number, big_bytes}
-use Rattle.byteorder.specs.Numbers.{big_number-reads_back, big_from-lt, big_from-take, big_from-cons, length-bytes_high_first}
+use Rattle.byteorder.specs.Numbers.{big_number-reads_back, big_from-lt, big_from-take, big_from-cons}
+use Rattle.byteorder.specs.Numbers.{length-bytes_high_first}
 use Rattle.tuple_tree.specs.Values.{AreBytes}
 use Rattle.tuple_tree.specs.Reading.{◌>>=◌, byte_at, bytes_at, number_of, string_at, text_at, flag_of, flag_at}
 use Rattle.tuple_tree.specs.Spelling.{string, flag}
-use Rattle.tuple_tree.proofs.Readers.{Takes, Found, Again, bind_some, parts, guard_fails, guard_holds, choice, bytes_take, bytes_drop, byte_found, moved}
+use Rattle.tuple_tree.proofs.Readers.{Takes, Found, Again, bind_some, parts, guard_fails, guard_holds, choice}
+use Rattle.tuple_tree.proofs.Readers.{bytes_take, bytes_drop, byte_found, moved}
 use Rattle.tuple_tree.proofs.NumberBytes.{high_bytes}
 
 -- So many bytes are those that their number is made of.

@@ -1,5 +1,6 @@
 -- The items at the front of bytes, one after another.
-use Rattle.std.proofs.Common.{◌≡◌, ℕ, zero, suc, ◌-◌, ◌<◌, Bool, true, false, cond, List, [], Option, Some, None, is_some, IsTrue, ap, sym, subst, refl, ◌∙◌, arith, append-nil}
+use Rattle.std.proofs.Common.{◌≡◌, ℕ, zero, suc, ◌-◌, ◌<◌, Bool, true, false, cond, List, [], Option, Some, None}
+use Rattle.std.proofs.Common.{is_some, IsTrue, ap, sym, subst, refl, ◌∙◌, arith, append-nil}
 use lib.Dec.{ltb}
 use Rattle.tuple_tree.specs.Items.{TreeItem, Items, none, item, with_last, how_many}
 use Rattle.tuple_tree.specs.Reading.{◌>>=◌, Reader, rest_of, more, byte_at, item_at, items_at, items_with}

@@ -1,11 +1,13 @@
 -- Steps of reading.
-use Rattle.std.proofs.Common.{◌≡◌, ℕ, zero, suc, ◌+◌, ◌-◌, ◌<◌, ◌≤◌, List, Option, Some, None, Bool, true, false, ap, refl, sym, ◌∙◌, arith}
+use Rattle.std.proofs.Common.{◌≡◌, ℕ, zero, suc, ◌+◌, ◌-◌, ◌<◌, ◌≤◌, List, Option, Some, None, Bool, true, false, ap}
+use Rattle.std.proofs.Common.{refl, sym, ◌∙◌, arith}
 use Rattle.std.proofs.lemmas.Bool.{le-ltb, eqb-true}
 use Rattle.std.proofs.lemmas.Str.{is_utf8-from_IsUtf8, IsUtf8-from_is_utf8}
 use Rattle.std.specs.Str.{IsUtf8, is_utf8}
 use lib.Dec.{ltb, eqb}
 use Rattle.tuple_tree.specs.Items.{TreeItem, leaf, inner, Items, none, with_last}
-use Rattle.tuple_tree.specs.Reading.{◌>>=◌, Reader, read_as, more, byte_at, string_at, text_at, item_with, items_with, nothing, inner_at, item_at, items_at}
+use Rattle.tuple_tree.specs.Reading.{◌>>=◌, Reader, read_as, more, byte_at, string_at, text_at, item_with, items_with}
+use Rattle.tuple_tree.specs.Reading.{nothing, inner_at, item_at, items_at}
 
 pub text_there : (bs s rest : List ℕ) → string_at bs ≡ Some (s, rest) → IsUtf8 s → text_at bs ≡ Some (s, rest)
 unfolding text_at

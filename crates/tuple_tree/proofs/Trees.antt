@@ -1,13 +1,17 @@
 -- Tuples and templates at the front of bytes, by the law of their leaves.
-use Rattle.std.proofs.Common.{◌≡◌, inl, inr, ℕ, zero, suc, ◌+◌, ◌-◌, ◌<◌, ◌≤◌, false, cond, List, ◌∷◌, ◌++◌, length, Some, None, ap, sym, refl, ◌∙◌, arith, append_assoc, append-nil, length-append}
+use Rattle.std.proofs.Common.{◌≡◌, inl, inr, ℕ, zero, suc, ◌+◌, ◌-◌, ◌<◌, ◌≤◌, false, cond, List, ◌∷◌, ◌++◌, length}
+use Rattle.std.proofs.Common.{Some, None, ap, sym, refl, ◌∙◌, arith, append_assoc, append-nil, length-append}
 use Rattle.std.proofs.lemmas.Bool.{ltb-false, le-ltb}
 use lib.Dec.{eqb, ltb}
-use Rattle.tuple_tree.specs.Items.{TreeItem, leaf, inner, Items, none, item, how_many, with_last, item_levels, levels_in, item_length, length_in, whole_length}
+use Rattle.tuple_tree.specs.Items.{TreeItem, leaf, inner, Items, none, item, how_many, with_last, item_levels}
+use Rattle.tuple_tree.specs.Items.{levels_in, item_length, length_in, whole_length}
 use Rattle.tuple_tree.specs.Limits.{IsItem, AreItems, IsWithin}
 use Rattle.tuple_tree.proofs.Growing.{how_many-with_last, levels_in-with_last, AreItems-with_last}
-use Rattle.tuple_tree.specs.Reading.{◌>>=◌, Reader, read_as, more, byte_at, item_with, items_with, nothing, inner_at, item_at, items_at, framed}
+use Rattle.tuple_tree.specs.Reading.{◌>>=◌, Reader, read_as, more, byte_at, item_with, items_with, nothing, inner_at}
+use Rattle.tuple_tree.specs.Reading.{item_at, items_at, framed}
 use Rattle.tuple_tree.specs.Spelling.{item_spelling, items_spelling, whole_spelling}
-use Rattle.tuple_tree.proofs.Readers.{Found, FoundBehind, Again, bind_some, parts, guard_fails, choice, moved, as_found, behind_found, byte_found, at_tag, Grows, more_found, framed_found, framed_again}
+use Rattle.tuple_tree.proofs.Readers.{Found, FoundBehind, Again, bind_some, parts, guard_fails, choice, moved, as_found}
+use Rattle.tuple_tree.proofs.Readers.{behind_found, byte_found, at_tag, Grows, more_found, framed_found, framed_again}
 use Rattle.tuple_tree.proofs.Leaves.{ReadsLeaves}
 
 module _ {L : Type 0} (IsLeaf : L → Type 0) (length_of : L → ℕ) (spelling : L → List ℕ) (leaf_at : ℕ → Reader L) (reads : ReadsLeaves IsLeaf length_of spelling leaf_at) where

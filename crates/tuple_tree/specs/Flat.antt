@@ -5,7 +5,8 @@ use Rattle.tuple_tree.specs.Extents.{IsMeasured}
 use Rattle.tuple_tree.specs.Reading.{Reader, item_at, more}
 use Rattle.tuple_tree.specs.Spelling.{datum_spelling, slot_spelling, items_spelling}
 use Rattle.tuple_tree.specs.Fronts.{front_of}
-use Rattle.tuple_tree.specs.Values.{TupleTree, TemplateTree, datum_length, slot_length, is_wide, is_wide_slot, IsDatum, IsSlot}
+use Rattle.tuple_tree.specs.Values.{TupleTree, TemplateTree, datum_length, slot_length, is_wide, is_wide_slot, IsDatum}
+use Rattle.tuple_tree.specs.Values.{IsSlot}
 use Rattle.tuple_tree.specs.declared.limits.Extent.{Extent}
 
 -- the items that were read, and none if nothing was

@@ -4,13 +4,14 @@ use Rattle.tuple_tree.specs.Items.{TreeItem, leaf, inner, Items, none, item, how
 use Rattle.tuple_tree.specs.declared.limits.Refusal.{Refusal}
 use Rattle.tuple_tree.specs.declared.limits.Refusal.TheVariants.{TooManyFields, TooDeep, TooLong, NoMemory}
 
--- Each leaf is a right one, and each nested list has at most 32 items.
+-- The item is a right leaf, or a list of at most 32 such items.
 module _ {L : Type 0} (IsLeaf : L → Type 0) where
   abbrev mutual
     pub IsItem : TreeItem L → Type 0
     IsItem (leaf x) = IsLeaf x
     IsItem (inner xs) = (how_many xs ≤ 32) × AreItems xs
 
+    -- Each of the items is a right leaf, or a list of at most 32 such items.
     pub AreItems : Items L → Type 0
     AreItems none = Unit {0}
     AreItems (item x xs) = IsItem x × AreItems xs

@@ -1,7 +1,8 @@
 -- Readers of bytes that are known to spell a tuple or template: a text is read without a look at its characters.
 use Rattle.std.specs.Prelude.{ℕ, List, [], ◌∷◌}
 use Rattle.tuple_tree.specs.Values.{Datum, text, bytes, truth, Slot, actual}
-use Rattle.tuple_tree.specs.Reading.{Reader, TaggedReader, read_as, by_tag, unknown, signed_at, wide_at, string_at, flag_at, formal_rows}
+use Rattle.tuple_tree.specs.Reading.{Reader, TaggedReader, read_as, by_tag, unknown, signed_at, wide_at, string_at}
+use Rattle.tuple_tree.specs.Reading.{flag_at, formal_rows}
 
 abbrev pub loose_rows : List (TaggedReader Datum)
 loose_rows =

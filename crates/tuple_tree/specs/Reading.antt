@@ -1,18 +1,22 @@
 -- Readers of the tree at the front of bytes. They give it with the bytes after it, or None if none stands there.
 -- Models and the contracts of private functions use these; those of public functions use Spelling alone.
-use Rattle.std.specs.Prelude.{ℕ, zero, suc, Bool, true, false, ◌==◌, nat_lt, if◌then◌else◌, List, [], ◌∷◌, ◌++◌, length, take, drop, Option, Some, None}
+use Rattle.std.specs.Prelude.{ℕ, zero, suc, Bool, true, false, ◌==◌, nat_lt, if◌then◌else◌, List, [], ◌∷◌, ◌++◌, length}
+use Rattle.std.specs.Prelude.{take, drop, Option, Some, None}
 use Rattle.std.specs.Int.{w64, w128, cast_signed}
 use Rattle.std.specs.Str.{is_utf8}
 use Rattle.byteorder.specs.Endian.{big_number}
 use Rattle.tuple_tree.specs.Items.{TreeItem, leaf, inner, Items, none, with_last}
-use Rattle.tuple_tree.specs.Values.{Datum, number, text, bytes, truth, wide, Slot, actual, any, formal, TupleTree, TemplateTree}
+use Rattle.tuple_tree.specs.Values.{Datum, number, text, bytes, truth, wide, Slot, actual, any, formal, TupleTree}
+use Rattle.tuple_tree.specs.Values.{TemplateTree}
 use Rattle.tuple_tree.specs.declared.atoms.Kind.TheVariants as kinds
 
 infixl 10 ◌>>=◌
+-- The next step goes on from what the first gave; if that is None, it ends with None.
 abbrev pub ◌>>=◌ : {A B : Type 0} → Option A → (A → Option B) → Option B
 None >>= f = None
 (Some x) >>= f = f x
 
+-- a reader of a value at the front of bytes, which gives it with the bytes after it, or None
 abbrev pub Reader : Type 0 → Type 0
 Reader A = List ℕ → Option (A × List ℕ)
 
@@ -47,10 +51,12 @@ abbrev pub more : {X S : Type 0} → Reader X → (S → X → S) → ℕ → S 
 more at grow zero s bs = Some (s, bs)
 more at grow (suc n) s bs = at bs >>= λ x. more at grow n (grow s x.0) x.1
 
+-- one byte
 abbrev pub byte_at : Reader ℕ
 byte_at [] = None
 byte_at (b ∷ bs) = Some (b, bs)
 
+-- n bytes
 unfoldable pub bytes_at : ℕ → Reader (List ℕ)
 bytes_at n bs = if nat_lt (length bs) n then None else Some (take n bs, drop n bs)
 
@@ -58,15 +64,19 @@ bytes_at n bs = if nat_lt (length bs) n then None else Some (take n bs, drop n b
 unfoldable pub number_of : ℕ → Reader ℕ
 number_of n bs = if nat_lt (length bs) n then None else Some (big_number n bs, drop n bs)
 
+-- two bytes of length, and that many bytes
 unfoldable pub string_at : Reader (List ℕ)
 string_at bs = number_of 2 bs >>= λ n. bytes_at n.0 n.1
 
+-- two bytes of length, and that many bytes of UTF-8
 unfoldable pub text_at : Reader (List ℕ)
 text_at bs = string_at bs >>= λ s. if is_utf8 s.0 then Some s else None
 
+-- the truth value that a byte spells, with the bytes after it: 00 false, 01 true
 abbrev pub flag_of : ℕ → List ℕ → Option (Bool × List ℕ)
 flag_of b rest = if b == 0 then Some (false, rest) else (if b == 1 then Some (true, rest) else None)
 
+-- a truth value of one byte
 unfoldable pub flag_at : Reader Bool
 flag_at bs = byte_at bs >>= λ b. flag_of b.0 b.1
 
@@ -78,6 +88,7 @@ signed_at = read_as (λ n. number (cast_signed w64 n)) (number_of 8)
 abbrev pub wide_at : Reader Datum
 wide_at = read_as (λ n. wide (cast_signed w128 n)) (number_of 16)
 
+-- the readers of plain values, by their tags 01 to 04 and 06
 abbrev pub datum_rows : List (TaggedReader Datum)
 datum_rows =
     (1, signed_at)
@@ -91,6 +102,7 @@ datum_rows =
 unfoldable pub datum_at : ℕ → Reader Datum
 datum_at tag bs = by_tag datum_rows unknown tag bs
 
+-- the readers of any value and of formals, by their tags 10 to 16
 abbrev pub formal_rows : List (TaggedReader Slot)
 formal_rows =
     (0x10, alone any)
@@ -119,6 +131,7 @@ module _ {L : Type 0} (leaf_at : ℕ → Reader L) where
 unfoldable pub items_with : {L : Type 0} → Reader (TreeItem L) → Reader (Items L)
 items_with item_at bs = byte_at bs >>= λ n. if nat_lt 32 n.0 then None else more item_at with_last n.0 none n.1
 
+-- no item, as below the last level that is allowed
 unfoldable pub nothing : {L : Type 0} → Reader (TreeItem L)
 nothing bs = None
 
@@ -140,8 +153,10 @@ module _ {L : Type 0} (leaf_at : ℕ → Reader L) where
 unfoldable pub framed : {A : Type 0} → ℕ → Reader A → Reader A
 framed limit at bs = at (take limit bs) >>= λ x. Some (x.0, x.1 ++ drop limit bs)
 
+-- a tuple within the limits
 abbrev pub tuple_at : Reader TupleTree
 tuple_at = framed 1024 (items_at datum_at 7)
 
+-- a template within the limits
 abbrev pub template_at : Reader TemplateTree
 template_at = framed 1024 (items_at slot_at 7)

@@ -43,7 +43,7 @@ abbrev pub kind_of : TreeItem Datum → Kind
 kind_of (leaf x) = datum_kind x
 kind_of (inner t) = kinds.Tuple
 
--- the lengths of the encodings
+-- the length of the encoding of a plain value
 abbrev pub datum_length : Datum → ℕ
 datum_length (number n) = 9
 datum_length (text s) = 3 + length s
@@ -51,11 +51,13 @@ datum_length (bytes s) = 3 + length s
 datum_length (truth b) = 2
 datum_length (wide n) = 17
 
+-- the length of the encoding of a field that is no template
 abbrev pub slot_length : Slot → ℕ
 slot_length (actual x) = datum_length x
 slot_length any = 1
 slot_length (formal k) = 1
 
+-- Each of the numbers is below 256.
 abbrev pub AreBytes : List ℕ → Type 0
 AreBytes s = (i : ℕ) → slice_index s i < 256
 
@@ -72,16 +74,18 @@ abbrev pub IsUtf8IfText : Datum → Type 0
 IsUtf8IfText (text s) = IsUtf8 s
 IsUtf8IfText _ = Unit {0}
 
+-- An actual has a right value of its kind; any and a formal have none.
 abbrev pub IsSlot : Slot → Type 0
 IsSlot (actual x) = IsDatum x
 IsSlot any = Unit {0}
 IsSlot (formal k) = Unit {0}
 
--- whether a value is a wide number, and whether a field asks for one or for each
+-- whether a value is a wide number
 abbrev pub is_wide : Datum → Bool
 is_wide (wide n) = true
 is_wide _ = false
 
+-- whether a field is a wide number, or the formal of that kind
 abbrev pub is_wide_slot : Slot → Bool
 is_wide_slot (actual x) = is_wide x
 is_wide_slot (formal kinds.Wide) = true

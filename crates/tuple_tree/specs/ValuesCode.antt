@@ -3,7 +3,8 @@ use Rattle.std.specs.Prelude.{◌≡◌, ◌⊎◌, ℕ, zero, suc, ℤ, Bool, L
 use Rattle.std.specs.Coded.{Coded, code_by, coded_list, coded⊎, coded_ℤ, coded_ℕ, coded_bool}
 use Rattle.std.proofs.Common.{inl, inr}
 use Rattle.tuple_tree.specs.ItemsCode.{coded_items}
-use Rattle.tuple_tree.specs.Values.{Datum, number, text, bytes, truth, wide, Slot, actual, any, formal, TupleTree, TemplateTree}
+use Rattle.tuple_tree.specs.Values.{Datum, number, text, bytes, truth, wide, Slot, actual, any, formal, TupleTree}
+use Rattle.tuple_tree.specs.Values.{TemplateTree}
 use Rattle.tuple_tree.specs.declared.atoms.Kind.{Kind}
 use Rattle.tuple_tree.specs.declared.atoms.Kind.TheVariants as kinds
 

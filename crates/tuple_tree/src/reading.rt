@@ -3,7 +3,8 @@
 ghost use Rattle.std.specs.Prelude.{◌≡◌, ◌+◌, ◌≤◌, length, drop, Some};
 ghost use Rattle.tuple_tree.specs.Values.{number, wide};
 ghost use Rattle.tuple_tree.specs.Results.{Yields};
-ghost use Rattle.tuple_tree.specs.Reading.{byte_at, bytes_at, number_of, signed_at, wide_at, string_at, text_at, flag_at};
+ghost use Rattle.tuple_tree.specs.Reading.{byte_at, bytes_at, number_of, signed_at, wide_at, string_at, text_at};
+ghost use Rattle.tuple_tree.specs.Reading.{flag_at};
 
 use byteorder::{BigEndian, ByteOrder};
 use std::str;

@@ -1,7 +1,8 @@
 //! Templates: lists of fields, kept as the bytes that spell the fields.
 
 ghost use Rattle.std.specs.Prelude.{◌≡◌, ◌+◌, ◌≤◌, ◌++◌, OnOk, OnErr, IfErr, IfOk, IsTrue, ◌↔◌, false, length};
-ghost use Rattle.tuple_tree.specs.Items.{none, leaf, inner, how_many, with_last, item_levels, levels_of, item_length, whole_length, item_has, has_leaf};
+ghost use Rattle.tuple_tree.specs.Items.{none, leaf, inner, how_many, with_last, item_levels, levels_of, item_length};
+ghost use Rattle.tuple_tree.specs.Items.{whole_length, item_has, has_leaf};
 ghost use Rattle.tuple_tree.specs.Limits.{IsItem};
 ghost use Rattle.tuple_tree.specs.Pushes.{JudgesTemplate, AddsField};
 ghost use Rattle.tuple_tree.specs.Puts.{PutsText};

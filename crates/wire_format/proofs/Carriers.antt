@@ -1,5 +1,6 @@
 -- Laws of messages that carry frames, and of all messages.
-use Rattle.std.proofs.Common.{◌≡◌, inl, inr, ℕ, ◌≤◌, Bool, true, cond, List, [], ◌++◌, length, Option, Some, None, is_some, ap, sym, refl, ◌∙◌, arith}
+use Rattle.std.proofs.Common.{◌≡◌, inl, inr, ℕ, ◌≤◌, Bool, true, cond, List, [], ◌++◌, length, Option, Some, None}
+use Rattle.std.proofs.Common.{is_some, ap, sym, refl, ◌∙◌, arith}
 use Rattle.std.proofs.lemmas.Bool.{eqb-true, leb-true, le-leb, and_parts, and_from}
 use Rattle.std.specs.Bool.{then_some}
 use lib.Dec.{leb, eqb}
@@ -7,13 +8,24 @@ use Rattle.tuple_tree.specs.Values.{AreBytes}
 use Rattle.tuple_tree.specs.Reading.{◌>>=◌, Reader, read_as}
 use Rattle.tuple_tree.proofs.Readers.{Takes, Found, guard_holds, choice}
 use Rattle.tuple_codec.proofs.Grammar.{Reads}
-use Rattle.wire_format.specs.Messages.{MessageData, request, pre_prepare, prepare, commit, checkpoint, view_change, new_view, reply, fetch, meta, page, NewViewData, BodyData, FrameData}
-use Rattle.wire_format.specs.Spelling.{message_type, fields_spelling, piece, pieces_spelling, IsPlain, IsMessage, IsFrameOf, IsCarried, IsBatch, IsNewView, is_ordered_request, is_view_change, sender_before, SpellsBody, SpellsFrame}
-use Rattle.wire_format.specs.Reading.{passing, whole_value, frame_by, request_by, view_change_by, is_request, is_change, piece_at, requests_at, batch_text_at, batches_at, changes_at, new_view_at, pre_prepare_at, request_at, vote_at, checkpoint_at, view_change_at, reply_at, fetch_at, meta_at, page_at, message_at, message_by, body_of, frame_read}
+use Rattle.wire_format.specs.Messages.{MessageData, request, pre_prepare, prepare, commit, checkpoint, view_change}
+use Rattle.wire_format.specs.Messages.{new_view, reply, fetch, meta, page, NewViewData, BodyData, FrameData}
+use Rattle.wire_format.specs.Spelling.{message_type, fields_spelling, piece, pieces_spelling, IsPlain, IsMessage}
+use Rattle.wire_format.specs.Spelling.{IsFrameOf, IsCarried, IsBatch, IsNewView, is_ordered_request, is_view_change}
+use Rattle.wire_format.specs.Spelling.{sender_before, SpellsBody, SpellsFrame}
+use Rattle.wire_format.specs.Reading.{passing, whole_value, frame_by, request_by, view_change_by, is_request, is_change}
+use Rattle.wire_format.specs.Reading.{piece_at, requests_at, batch_text_at, batches_at, changes_at, new_view_at}
+use Rattle.wire_format.specs.Reading.{pre_prepare_at, request_at, vote_at, checkpoint_at, view_change_at, reply_at}
+use Rattle.wire_format.specs.Reading.{fetch_at, meta_at, page_at, message_at, message_by, body_of, frame_read}
 use Rattle.wire_format.proofs.Forms.{Format, both_of, several_of, ascending_of, passing_found, as_found, as_again}
 use Rattle.wire_format.proofs.Parts.{long, digest, count_from, count_to, IsPiece, piece_reads, piece_there}
-use Rattle.wire_format.proofs.Framing.{FoundBy, AgainBy, all_found, body_found, body_again, frame_found, frame_again, limit_bound}
-use Rattle.wire_format.proofs.Plain.{IsOfType, IsSort, made_found, made_again, request_found, request_again, prepare_found, prepare_again, commit_found, commit_again, checkpoint_found, checkpoint_again, view_change_found, view_change_again, reply_found, reply_again, fetch_found, fetch_again, meta_found, meta_again, page_found, page_again, request_by_found, request_by_again, change_by_found, change_by_again}
+use Rattle.wire_format.proofs.Framing.{FoundBy, AgainBy, all_found, body_found, body_again, frame_found, frame_again}
+use Rattle.wire_format.proofs.Framing.{limit_bound}
+use Rattle.wire_format.proofs.Plain.{IsOfType, IsSort, made_found, made_again, request_found, request_again}
+use Rattle.wire_format.proofs.Plain.{prepare_found, prepare_again, commit_found, commit_again, checkpoint_found}
+use Rattle.wire_format.proofs.Plain.{checkpoint_again, view_change_found, view_change_again, reply_found, reply_again}
+use Rattle.wire_format.proofs.Plain.{fetch_found, fetch_again, meta_found, meta_again, page_found, page_again}
+use Rattle.wire_format.proofs.Plain.{request_by_found, request_by_again, change_by_found, change_by_again}
 
 -- ---- messages that other messages carry
 

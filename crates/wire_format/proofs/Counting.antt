@@ -2,9 +2,11 @@
 use Rattle.std.proofs.Common.{◌≡◌, ℕ, ◌*◌, ◌≤◌, ◌<◌, ◌^◌, Bool, List, [], ◌∷◌, length, ap, refl, arith, length-append}
 use Rattle.std.specs.Int.{w16, to_be_bytes}
 use Rattle.wire_format.specs.Lists.{Each}
-use Rattle.wire_format.specs.Messages.{ViewChangeData, NewViewData, MessageData, view_change, new_view, BodyData, MacData, AuthenticatorData, macs, signature}
+use Rattle.wire_format.specs.Messages.{ViewChangeData, NewViewData, MessageData, view_change, new_view, BodyData}
+use Rattle.wire_format.specs.Messages.{MacData, AuthenticatorData, macs, signature}
 use Rattle.wire_format.specs.Lists.{each_spelling}
-use Rattle.wire_format.specs.Spelling.{is_ordered_request, is_view_change, IsCarried, IsViewChange, IsNewView, IsMessage, IsBody, IsMac, IsAuthenticator, mac_spelling, authenticator_spelling}
+use Rattle.wire_format.specs.Spelling.{is_ordered_request, is_view_change, IsCarried, IsViewChange, IsNewView}
+use Rattle.wire_format.specs.Spelling.{IsMessage, IsBody, IsMac, IsAuthenticator, mac_spelling, authenticator_spelling}
 use Rattle.wire_format.specs.Counts.{ViewChangeFits, NewViewFits, CountsFit}
 use Rattle.wire_format.proofs.Framing.{limit_bound}
 

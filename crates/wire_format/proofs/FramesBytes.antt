@@ -9,8 +9,16 @@ use Rattle.terms.specs.declared.order.Mode.TheVariants as modes
 use Rattle.terms.specs.declared.state.Level.{Level}
 use Rattle.terms.specs.declared.state.Level.TheVariants as levels
 use Rattle.wire_format.specs.Lists.{Each, each_spelling}
-use Rattle.wire_format.specs.Messages.{CheckpointEntryData, BatchEntryData, ViewChangeData, NewViewData, MessageData, request, pre_prepare, prepare, commit, checkpoint, view_change, new_view, reply, fetch, meta, page, MacData, AuthenticatorData, macs, signature, FrameData}
-use Rattle.wire_format.specs.Spelling.{mode_byte, level_byte, checkpoint_entry_spelling, batch_entry_spelling, piece, pieces_spelling, checkpoint_entries_spelling, batch_entries_spelling, view_change_spelling, batches_spelling, new_view_spelling, message_type, fields_spelling, body_spelling, mac_spelling, authenticator_spelling, frame_spelling, IsDigest, IsCheckpointEntry, IsBatchEntry, IsViewChange, IsPlain, IsMac, IsAuthenticator, IsFrameOf, is_ordered_request, is_view_change, IsCarried, IsBatch, IsNewView, IsMessage, SpellsFrame}
+use Rattle.wire_format.specs.Messages.{CheckpointEntryData, BatchEntryData, ViewChangeData, NewViewData, MessageData}
+use Rattle.wire_format.specs.Messages.{request, pre_prepare, prepare, commit, checkpoint, view_change, new_view, reply}
+use Rattle.wire_format.specs.Messages.{fetch, meta, page, MacData, AuthenticatorData, macs, signature, FrameData}
+use Rattle.wire_format.specs.Spelling.{mode_byte, level_byte, checkpoint_entry_spelling, batch_entry_spelling, piece}
+use Rattle.wire_format.specs.Spelling.{pieces_spelling, checkpoint_entries_spelling, batch_entries_spelling}
+use Rattle.wire_format.specs.Spelling.{view_change_spelling, batches_spelling, new_view_spelling, message_type}
+use Rattle.wire_format.specs.Spelling.{fields_spelling, body_spelling, mac_spelling, authenticator_spelling}
+use Rattle.wire_format.specs.Spelling.{frame_spelling, IsDigest, IsCheckpointEntry, IsBatchEntry, IsViewChange, IsPlain}
+use Rattle.wire_format.specs.Spelling.{IsMac, IsAuthenticator, IsFrameOf, is_ordered_request, is_view_change, IsCarried}
+use Rattle.wire_format.specs.Spelling.{IsBatch, IsNewView, IsMessage, SpellsFrame}
 use Rattle.tuple_tree.proofs.NumberBytes.{no_bytes, bytes_more}
 use Rattle.tuple_codec.proofs.SpelledBytes.{bytes_2, bytes_4, bytes_8, operation_bytes, outcome_bytes}
 

@@ -1,5 +1,6 @@
 -- Laws of authenticators, bodies and frames, from those of their messages.
-use Rattle.std.proofs.Common.{◌≡◌, ℕ, suc, nat_le, ◌^◌, ◌<◌, ◌≤◌, Bool, true, false, ◌&&◌, List, [], ◌∷◌, ◌++◌, length, slice_index, Option, Some, ap, sym, subst, refl, ◌∙◌, arith, append-nil, length-append}
+use Rattle.std.proofs.Common.{◌≡◌, ℕ, suc, nat_le, ◌^◌, ◌<◌, ◌≤◌, Bool, true, false, ◌&&◌, List, [], ◌∷◌, ◌++◌, length}
+use Rattle.std.proofs.Common.{slice_index, Option, Some, ap, sym, subst, refl, ◌∙◌, arith, append-nil, length-append}
 use Rattle.std.proofs.lemmas.Bool.{eqb-true, leb-true, le-leb, ltb-true, lt-ltb, and_parts, and_from}
 use Rattle.std.specs.Int.{w16, w32, to_be_bytes}
 use Rattle.std.specs.Bool.{then_some}
@@ -8,9 +9,12 @@ use Rattle.tuple_tree.specs.Values.{AreBytes}
 use Rattle.tuple_codec.specs.Spelling.{Spells}
 use Rattle.tuple_tree.specs.Reading.{◌>>=◌, Reader, read_as, byte_at, number_of}
 use Rattle.tuple_tree.proofs.Readers.{Found, Again, bind_some, parts, guard_holds}
-use Rattle.wire_format.specs.Messages.{MessageData, request, BodyData, MacData, AuthenticatorData, macs, signature, FrameData}
+use Rattle.wire_format.specs.Messages.{MessageData, request, BodyData, MacData, AuthenticatorData, macs, signature}
+use Rattle.wire_format.specs.Messages.{FrameData}
 use Rattle.wire_format.specs.Lists.{each_spelling}
-use Rattle.wire_format.specs.Spelling.{mac_spelling, message_type, fields_spelling, body_spelling, authenticator_spelling, frame_spelling, piece, mac_before, IsAuthenticator, is_signed, authenticator_is_signed, frame_limit, IsFrameOf}
+use Rattle.wire_format.specs.Spelling.{mac_spelling, message_type, fields_spelling, body_spelling}
+use Rattle.wire_format.specs.Spelling.{authenticator_spelling, frame_spelling, piece, mac_before, IsAuthenticator}
+use Rattle.wire_format.specs.Spelling.{is_signed, authenticator_is_signed, frame_limit, IsFrameOf}
 use Rattle.wire_format.specs.Reading.{whole_value, piece_at, macs_at, authenticator_of, body_by, frame_by}
 use Rattle.wire_format.proofs.Forms.{Format, ascending_of, all_some, passed_on}
 use Rattle.wire_format.proofs.Parts.{count_from, mac, macs_reads, number_2_reads, byte_reads, piece_reads, piece_there}

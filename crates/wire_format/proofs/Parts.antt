@@ -1,5 +1,7 @@
 -- Laws of the parts of messages.
-use Rattle.std.proofs.Common.{◌≡◌, inl, inr, ℕ, nat_le, ◌^◌, ◌<◌, ◌≤◌, Bool, false, ◌&&◌, cond, List, [], ◌∷◌, ◌++◌, length, take, drop, Some, None, ap, sym, subst, refl, ◌∙◌, arith, append_assoc, length-append}
+use Rattle.std.proofs.Common.{◌≡◌, inl, inr, ℕ, nat_le, ◌^◌, ◌<◌, ◌≤◌, Bool, false, ◌&&◌, cond, List, [], ◌∷◌, ◌++◌}
+use Rattle.std.proofs.Common.{length, take, drop, Some, None, ap, sym, subst, refl, ◌∙◌, arith, append_assoc}
+use Rattle.std.proofs.Common.{length-append}
 use Rattle.std.proofs.lemmas.List.{take-append-drop, length-take, take_at, drop_at}
 use Rattle.std.proofs.lemmas.Nat.{be_bytes_4}
 use Rattle.std.proofs.lemmas.Bool.{eqb-true, ltb-false, le-ltb, leb-true, le-leb}
@@ -9,7 +11,8 @@ use Rattle.byteorder.specs.Endian.{big_number}
 use Rattle.byteorder.specs.Numbers.{big_from-lt, big_from-take}
 use Rattle.tuple_tree.specs.Values.{AreBytes}
 use Rattle.tuple_tree.specs.Reading.{◌>>=◌, byte_at, bytes_at, number_of}
-use Rattle.tuple_tree.proofs.Readers.{Found, bind_some, parts, guard_fails, guard_holds, choice, bytes_take, bytes_drop, byte_found, moved}
+use Rattle.tuple_tree.proofs.Readers.{Found, bind_some, parts, guard_fails, guard_holds, choice, bytes_take, bytes_drop}
+use Rattle.tuple_tree.proofs.Readers.{byte_found, moved}
 use Rattle.tuple_tree.proofs.Numbers.{number_found, number_again}
 use Rattle.tuple_codec.proofs.Grammar.{Reads}
 use Rattle.terms.specs.declared.order.Mode.{Mode}
@@ -17,8 +20,13 @@ use Rattle.terms.specs.declared.order.Mode.TheVariants as modes
 use Rattle.terms.specs.declared.state.Level.{Level}
 use Rattle.terms.specs.declared.state.Level.TheVariants as levels
 use Rattle.wire_format.specs.Messages.{CheckpointEntryData, BatchEntryData, ViewChangeData, MacData}
-use Rattle.wire_format.specs.Spelling.{mode_byte, level_byte, piece, checkpoint_entry_spelling, batch_entry_spelling, view_change_spelling, mac_spelling, IsDigest, IsCheckpointEntry, IsBatchEntry, IsMac, IsViewChange, checkpoint_entry_before, batch_entry_before, named_before, mac_before}
-use Rattle.wire_format.specs.Reading.{digest_at, mode_of, mode_at, level_of, level_at, piece_at, checkpoint_entry_at, batch_entry_at, checkpoint_entries_at, batch_entries_at, view_change_at, mac_at, macs_at}
+use Rattle.wire_format.specs.Spelling.{mode_byte, level_byte, piece, checkpoint_entry_spelling, batch_entry_spelling}
+use Rattle.wire_format.specs.Spelling.{view_change_spelling, mac_spelling, IsDigest, IsCheckpointEntry, IsBatchEntry}
+use Rattle.wire_format.specs.Spelling.{IsMac, IsViewChange, checkpoint_entry_before, batch_entry_before, named_before}
+use Rattle.wire_format.specs.Spelling.{mac_before}
+use Rattle.wire_format.specs.Reading.{digest_at, mode_of, mode_at, level_of, level_at, piece_at, checkpoint_entry_at}
+use Rattle.wire_format.specs.Reading.{batch_entry_at, checkpoint_entries_at, batch_entries_at, view_change_at, mac_at}
+use Rattle.wire_format.specs.Reading.{macs_at}
 use Rattle.wire_format.proofs.Forms.{Format, both_of, passing_of, ascending_of, made_of}
 
 -- ---- numbers and bytes

@@ -1,5 +1,6 @@
 -- Laws of messages that carry no frames.
-use Rattle.std.proofs.Common.{◌≡◌, ℕ, nat_le, ◌^◌, ◌<◌, ◌≤◌, Bool, true, false, List, [], ◌∷◌, ◌++◌, length, Some, IsTrue, ap, sym, refl, ◌∙◌, arith, append_assoc, append-nil}
+use Rattle.std.proofs.Common.{◌≡◌, ℕ, nat_le, ◌^◌, ◌<◌, ◌≤◌, Bool, true, false, List, [], ◌∷◌, ◌++◌, length, Some}
+use Rattle.std.proofs.Common.{IsTrue, ap, sym, refl, ◌∙◌, arith, append_assoc, append-nil}
 use Rattle.std.proofs.lemmas.Bool.{eqb-true, leb-true, le-leb}
 use Rattle.std.specs.Bool.{then_some}
 use lib.Dec.{eqb}
@@ -16,10 +17,15 @@ use Rattle.terms.specs.declared.order.Mode.TheVariants as modes
 use Rattle.terms.specs.declared.state.Level.{Level}
 use Rattle.terms.specs.declared.state.Level.TheVariants as levels
 use Rattle.wire_format.specs.Lists.{Each, each_spelling}
-use Rattle.wire_format.specs.Messages.{ViewChangeData, MessageData, request, pre_prepare, prepare, commit, checkpoint, view_change, new_view, reply, fetch, meta, page}
-use Rattle.wire_format.specs.Spelling.{message_type, level_byte, fields_spelling, last_index, has_children, IsDigest, IsPlain, is_ordered_request, is_view_change}
-use Rattle.wire_format.specs.Reading.{passing, more_at, anyhow, whole_value, digest_at, request_at, vote_at, checkpoint_at, client_at, reply_at, place_at, fetch_at, digest_list_at, meta_at, page_at, request_by, view_change_by}
-use Rattle.wire_format.proofs.Forms.{Format, both_of, passing_of, passing_found, more_found, more_again, anyhow_grows, as_found, as_again}
+use Rattle.wire_format.specs.Messages.{ViewChangeData, MessageData, request, pre_prepare, prepare, commit, checkpoint}
+use Rattle.wire_format.specs.Messages.{view_change, new_view, reply, fetch, meta, page}
+use Rattle.wire_format.specs.Spelling.{message_type, level_byte, fields_spelling, last_index, has_children, IsDigest}
+use Rattle.wire_format.specs.Spelling.{IsPlain, is_ordered_request, is_view_change}
+use Rattle.wire_format.specs.Reading.{passing, more_at, anyhow, whole_value, digest_at, request_at, vote_at}
+use Rattle.wire_format.specs.Reading.{checkpoint_at, client_at, reply_at, place_at, fetch_at, digest_list_at, meta_at}
+use Rattle.wire_format.specs.Reading.{page_at, request_by, view_change_by}
+use Rattle.wire_format.proofs.Forms.{Format, both_of, passing_of, passing_found, more_found, more_again, anyhow_grows}
+use Rattle.wire_format.proofs.Forms.{as_found, as_again}
 use Rattle.wire_format.proofs.Parts.{long, word, digest, digest_reads, mode, level, change}
 use Rattle.wire_format.proofs.Framing.{FoundBy, AgainBy, all_found}
 

@@ -1,14 +1,20 @@
 -- The laws of the definitions on bytes.
-use Rattle.std.proofs.Common.{◌≡◌, ℕ, Bool, List, [], ◌∷◌, ◌++◌, length, take, map, flat_map, Option, Some, None, ap, sym, subst, refl, ◌∙◌, arith, append_assoc}
+use Rattle.std.proofs.Common.{◌≡◌, ℕ, Bool, List, [], ◌∷◌, ◌++◌, length, take, map, flat_map, Option, Some, None, ap}
+use Rattle.std.proofs.Common.{sym, subst, refl, ◌∙◌, arith, append_assoc}
 use Rattle.std.proofs.lemmas.List.{take_at}
 use Rattle.std.proofs.lemmas.Bool.{le-leb, leb-true, and_parts, and_from}
 use lib.Dec.{leb}
 use Rattle.tuple_tree.proofs.Readers.{parts}
 use Rattle.wire_format.specs.Lists.{Each, each_spelling}
-use Rattle.wire_format.specs.Messages.{MessageData, pre_prepare, new_view, MacData, AuthenticatorData, macs, signature, FrameData}
-use Rattle.wire_format.specs.Spelling.{body_spelling, authenticator_spelling, frame_spelling, piece, pieces_spelling, mac_spelling, mac_before, IsMessage, IsAuthenticator, IsCarried, IsBatch, is_ordered_request, is_view_change, is_signed, authenticator_is_signed, SpellsBody, SpellsFrame}
+use Rattle.wire_format.specs.Messages.{MessageData, pre_prepare, new_view, MacData, AuthenticatorData, macs, signature}
+use Rattle.wire_format.specs.Messages.{FrameData}
+use Rattle.wire_format.specs.Spelling.{body_spelling, authenticator_spelling, frame_spelling, piece, pieces_spelling}
+use Rattle.wire_format.specs.Spelling.{mac_spelling, mac_before, IsMessage, IsAuthenticator, IsCarried, IsBatch}
+use Rattle.wire_format.specs.Spelling.{is_ordered_request, is_view_change, is_signed, authenticator_is_signed}
+use Rattle.wire_format.specs.Spelling.{SpellsBody, SpellsFrame}
 use Rattle.wire_format.specs.Reading.{whole_value, requests_at, piece_at, macs_at, message_by}
-use Rattle.wire_format.specs.Words.{requests_of, requests_of_all, ReadsBodies, ReadsRequests, ReadsBatches, CarriesFrames, CarriesAll, HasOneFrame, HasOneBody}
+use Rattle.wire_format.specs.Words.{requests_of, requests_of_all, ReadsBodies, ReadsRequests, ReadsBatches}
+use Rattle.wire_format.specs.Words.{CarriesFrames, CarriesAll, HasOneFrame, HasOneBody}
 use Rattle.wire_format.proofs.Forms.{ascending_of}
 use Rattle.wire_format.proofs.Parts.{piece_there, macs_reads, count_from, mac}
 use Rattle.wire_format.proofs.Framing.{text_bound, all_found, all_again}

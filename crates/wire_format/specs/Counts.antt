@@ -2,7 +2,8 @@
 -- send.
 use Rattle.std.specs.Prelude.{◌<◌, ◌^◌, length}
 use Rattle.wire_format.specs.Lists.{Each}
-use Rattle.wire_format.specs.Messages.{ViewChangeData, NewViewData, MessageData, request, pre_prepare, prepare, commit, checkpoint, view_change, new_view, reply, fetch, meta, page}
+use Rattle.wire_format.specs.Messages.{ViewChangeData, NewViewData, MessageData, request, pre_prepare, prepare, commit}
+use Rattle.wire_format.specs.Messages.{checkpoint, view_change, new_view, reply, fetch, meta, page}
 
 pub record ViewChangeFits (c : ViewChangeData) : Type 0 where
   pub checkpoints : length c.checkpoints < 2 ^ 8

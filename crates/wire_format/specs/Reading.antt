@@ -1,6 +1,7 @@
 -- Readers of the value at the front of bytes. They give it with the bytes after it, or None if no value stands there.
 -- The contracts of private functions use these readers; those of public functions use Spelling alone.
-use Rattle.std.specs.Prelude.{ℕ, zero, suc, Bool, true, false, ◌&&◌, ◌||◌, ◌==◌, nat_lt, nat_le, is_some, if◌then◌else◌, List, [], ◌∷◌, ◌++◌, length, slice_index, Option, Some, None}
+use Rattle.std.specs.Prelude.{ℕ, zero, suc, Bool, true, false, ◌&&◌, ◌||◌, ◌==◌, nat_lt, nat_le, is_some, if◌then◌else◌}
+use Rattle.std.specs.Prelude.{List, [], ◌∷◌, ◌++◌, length, slice_index, Option, Some, None}
 use Rattle.std.specs.Bool.{then_some}
 use Rattle.terms.specs.declared.parties.TheConstants.{FIRST_CLIENT}
 use Rattle.tuple_tree.specs.Reading.{◌>>=◌, Reader, read_as, byte_at, bytes_at, number_of}
@@ -10,8 +11,12 @@ use Rattle.terms.specs.declared.order.Mode.TheVariants as modes
 use Rattle.terms.specs.declared.state.Level.{Level}
 use Rattle.terms.specs.declared.state.Level.TheVariants as levels
 use Rattle.wire_format.specs.Faults.{limit_at}
-use Rattle.wire_format.specs.Messages.{CheckpointEntryData, BatchEntryData, ViewChangeData, MessageData, request, pre_prepare, prepare, commit, checkpoint, view_change, new_view, reply, fetch, meta, page, BodyData, MacData, AuthenticatorData, macs, signature, FrameData}
-use Rattle.wire_format.specs.Spelling.{pieces_spelling, last_index, has_children, checkpoint_entry_before, batch_entry_before, named_before, mac_before, sender_before, is_signed, is_ordered_request, frame_limit}
+use Rattle.wire_format.specs.Messages.{CheckpointEntryData, BatchEntryData, ViewChangeData, MessageData, request}
+use Rattle.wire_format.specs.Messages.{pre_prepare, prepare, commit, checkpoint, view_change, new_view, reply, fetch}
+use Rattle.wire_format.specs.Messages.{meta, page, BodyData, MacData, AuthenticatorData, macs, signature, FrameData}
+use Rattle.wire_format.specs.Spelling.{pieces_spelling, last_index, has_children, checkpoint_entry_before}
+use Rattle.wire_format.specs.Spelling.{batch_entry_before, named_before, mac_before, sender_before, is_signed}
+use Rattle.wire_format.specs.Spelling.{is_ordered_request, frame_limit}
 
 -- ---- forms
 
@@ -54,20 +59,25 @@ whole_value (Some x) = at_end x.0 x.1
 
 -- ---- parts
 
+-- a digest of 32 bytes
 unfoldable pub digest_at : Reader (List ℕ)
 digest_at bs = bytes_at 32 bs
 
+-- the mode that a byte spells: 00 ordered, 01 read-only
 abbrev pub mode_of : ℕ → Option Mode
 mode_of b = if b == 0 then Some modes.Ordered else (if b == 1 then Some modes.ReadOnly else None)
 
+-- a mode of one byte
 unfoldable pub mode_at : Reader Mode
 mode_at bs = byte_at bs >>= λ b. mode_of b.0 >>= λ m. Some (m, b.1)
 
+-- the level that a byte spells: 00 the root, 01 an inner part, 02 a page
 abbrev pub level_of : ℕ → Option Level
 level_of b =
     if b == 0 then Some levels.Root
     else (if b == 1 then Some levels.Inner else (if b == 2 then Some levels.Page else None))
 
+-- a level of one byte
 unfoldable pub level_at : Reader Level
 level_at bs = byte_at bs >>= λ b. level_of b.0 >>= λ l. Some (l, b.1)
 
@@ -75,23 +85,28 @@ level_at bs = byte_at bs >>= λ b. level_of b.0 >>= λ l. Some (l, b.1)
 unfoldable pub piece_at : Reader (List ℕ)
 piece_at bs = number_of 4 bs >>= λ n. bytes_at n.0 n.1
 
+-- a checkpoint as a view change lists it: number and digest
 unfoldable pub checkpoint_entry_at : Reader CheckpointEntryData
 checkpoint_entry_at bs =
     read_as (λ p. record { number = p.0; digest = p.1 }) (both (number_of 8) digest_at) bs
 
+-- a batch as a view change lists it: number, digest and view
 unfoldable pub batch_entry_at : Reader BatchEntryData
 batch_entry_at bs =
     read_as (λ p. record { number = p.0; digest = p.1.0; view = p.1.1 })
     (both (number_of 8) (both digest_at (number_of 8))) bs
 
+-- a count of 0 to 3, and so many checkpoints, ascending by number
 unfoldable pub checkpoint_entries_at : Reader (List CheckpointEntryData)
 checkpoint_entries_at bs =
     counted_at (passing (λ n. nat_le n 3) byte_at) checkpoint_entry_at
     (comes_after checkpoint_entry_before) bs
 
+-- a count of two bytes, and so many batch entries, ascending in the given order
 unfoldable pub batch_entries_at : (BatchEntryData → BatchEntryData → Bool) → Reader (List BatchEntryData)
 batch_entries_at before bs = counted_at (number_of 2) batch_entry_at (comes_after before) bs
 
+-- the fields of a view change: view, low mark, checkpoints, prepared and pre-prepared batches
 unfoldable pub view_change_at : Reader ViewChangeData
 view_change_at bs =
     read_as
@@ -105,9 +120,11 @@ view_change_at bs =
     (both (number_of 8) (both (number_of 8) (both checkpoint_entries_at
     (both (batch_entries_at batch_entry_before) (batch_entries_at named_before))))) bs
 
+-- a receiver, and the MAC for it
 unfoldable pub mac_at : Reader MacData
 mac_at bs = read_as (λ p. record { receiver = p.0; mac = p.1 }) (both (number_of 2) digest_at) bs
 
+-- a count of 1 to 10, and so many MACs, their receivers ascending
 unfoldable pub macs_at : Reader (List MacData)
 macs_at bs =
     counted_at (passing (λ n. nat_le 1 n && nat_le n 10) byte_at) mac_at (comes_after mac_before) bs
@@ -121,11 +138,13 @@ authenticator_of true (b ∷ bs) =
 
 -- ---- frames, given the reader of the message of a type
 
+-- a body, whole: type, sender, and the message's fields
 abbrev pub body_by : (ℕ → List ℕ → Option MessageData) → List ℕ → Option BodyData
 body_by message bs =
     byte_at bs >>= λ t. number_of 2 t.1 >>= λ s. message t.0 s.1
     >>= λ m. Some (record { sender = s.0; message = m })
 
+-- a frame within its limit, whole: a body after its length, and the authenticator that its message needs
 abbrev pub frame_by : (ℕ → List ℕ → Option MessageData) → List ℕ → Option FrameData
 frame_by message bs =
     piece_at bs >>= λ text. body_by message text.0
@@ -135,6 +154,7 @@ frame_by message bs =
 
 -- ---- messages that carry no frames
 
+-- the fields of a request: timestamp, mode and operation
 unfoldable pub request_at : Reader MessageData
 request_at bs =
     read_as (λ p. request p.0 p.1.0 p.1.1) (both (number_of 8) (both mode_at operation_at)) bs
@@ -143,18 +163,23 @@ request_at bs =
 unfoldable pub vote_at : Reader (ℕ × (ℕ × List ℕ))
 vote_at bs = both (number_of 8) (both (number_of 8) digest_at) bs
 
+-- the fields of a prepare: view, number and digest
 abbrev pub prepare_at : Reader MessageData
 prepare_at bs = read_as (λ p. prepare p.0 p.1.0 p.1.1) vote_at bs
 
+-- the fields of a commit: view, number and digest
 abbrev pub commit_at : Reader MessageData
 commit_at bs = read_as (λ p. commit p.0 p.1.0 p.1.1) vote_at bs
 
+-- the fields of a checkpoint: number and root
 unfoldable pub checkpoint_at : Reader MessageData
 checkpoint_at bs = read_as (λ p. checkpoint p.0 p.1) (both (number_of 8) digest_at) bs
 
+-- the party number of a client
 unfoldable pub client_at : Reader ℕ
 client_at bs = passing (λ n. nat_le FIRST_CLIENT n) (number_of 2) bs
 
+-- the fields of a reply: client, timestamp, kind, number and answer
 unfoldable pub reply_at : Reader MessageData
 reply_at bs =
     read_as (λ p. reply p.0 p.1.0 p.1.1.0 p.1.1.1.0 p.1.1.1.1)
@@ -166,17 +191,21 @@ place_at bs =
     passing (λ p. nat_le p.1.1 (last_index p.1.0))
     (both (number_of 8) (both level_at (number_of 2))) bs
 
+-- the fields of a fetch: number, level and index
 unfoldable pub fetch_at : Reader MessageData
 fetch_at bs = read_as (λ p. fetch p.0 p.1.0 p.1.1) place_at bs
 
+-- n digests, one after another
 unfoldable pub digest_list_at : ℕ → Reader (List (List ℕ))
 digest_list_at n bs = more_at digest_at anyhow n [] bs
 
+-- the fields of a meta: number, level, index and the digests of the 32 children; a page has none
 unfoldable pub meta_at : Reader MessageData
 meta_at bs =
     read_as (λ p. meta p.0.0 p.0.1.0 p.0.1.1 p.1)
     (both (passing (λ p. has_children p.1.0) place_at) (digest_list_at 32)) bs
 
+-- the fields of a page: number, index and text, up to the last byte
 unfoldable pub page_at : Reader MessageData
 page_at bs =
     both (number_of 8) (passing (λ n. nat_le n 1023) (number_of 2)) bs
@@ -184,16 +213,20 @@ page_at bs =
 
 -- ---- messages that other messages carry
 
+-- the fields of an ordered request, whole, if the type is 41
 abbrev pub request_by : ℕ → List ℕ → Option MessageData
 request_by type bs =
     if type == 0x41 then whole_value (passing is_ordered_request request_at bs) else None
 
+-- the fields of a view change, whole, if the type is 46
 abbrev pub view_change_by : ℕ → List ℕ → Option MessageData
 view_change_by type bs = if type == 0x46 then whole_value (read_as view_change view_change_at bs) else None
 
+-- whether the bytes are the frame of an ordered request
 unfoldable pub is_request : List ℕ → Bool
 is_request bs = is_some (frame_by request_by bs)
 
+-- whether the bytes are the frame of a view change
 unfoldable pub is_change : List ℕ → Bool
 is_change bs = is_some (frame_by view_change_by bs)
 
@@ -209,6 +242,7 @@ request_frames_at n bs = more_at request_frame_at anyhow n [] bs
 abbrev pub change_frame_at : Reader (List ℕ)
 change_frame_at = passing is_change piece_at
 
+-- a count from least to 16, and so many requests
 unfoldable pub requests_at : ℕ → Reader (List (List ℕ))
 requests_at least bs =
     counted_at (passing (λ n. nat_le least n && nat_le n 16) byte_at) request_frame_at anyhow bs
@@ -217,14 +251,17 @@ requests_at least bs =
 unfoldable pub batch_text_at : ℕ → Reader (List ℕ)
 batch_text_at least bs = read_as pieces_spelling (requests_at least) bs
 
+-- a count of 0 to 32, and the texts of so many batches of 0 to 16 requests
 unfoldable pub batches_at : Reader (List (List ℕ))
 batches_at bs = counted_at (passing (λ n. nat_le n 32) byte_at) (batch_text_at 0) anyhow bs
 
+-- a count of 1 to 10, and so many view changes, their senders ascending
 unfoldable pub changes_at : Reader (List (List ℕ))
 changes_at bs =
     counted_at (passing (λ n. nat_le 1 n && nat_le n 10) byte_at) change_frame_at
     (comes_after sender_before) bs
 
+-- the fields of a new view: view, view changes, start, root and batches
 unfoldable pub new_view_at : Reader MessageData
 new_view_at bs =
     read_as
@@ -237,6 +274,7 @@ new_view_at bs =
     }))
     (both (number_of 8) (both changes_at (both (number_of 8) (both digest_at batches_at)))) bs
 
+-- the fields of a pre-prepare: view, number and a batch of 1 to 16 requests
 unfoldable pub pre_prepare_at : Reader MessageData
 pre_prepare_at bs =
     read_as (λ p. pre_prepare p.0 p.1.0 p.1.1)
@@ -244,6 +282,7 @@ pre_prepare_at bs =
 
 -- ---- all messages
 
+-- the fields of a message of this type, 41 to 4b
 unfoldable pub message_at : ℕ → Reader MessageData
 message_at type bs =
     if type == 0x41 then request_at bs
@@ -257,6 +296,7 @@ message_at type bs =
     else (if type == 0x49 then fetch_at bs
     else (if type == 0x4a then meta_at bs else (if type == 0x4b then page_at bs else None))))))))))
 
+-- the fields of a message of this type, whole
 unfoldable pub message_by : ℕ → List ℕ → Option MessageData
 message_by type bs = whole_value (message_at type bs)
 

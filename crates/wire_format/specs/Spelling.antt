@@ -1,5 +1,6 @@
 -- The bytes of bodies, authenticators and frames. Numbers are big-endian. Each value has one spelling.
-use Rattle.std.specs.Prelude.{◌≡◌, ℕ, ◌<◌, ◌≤◌, ◌^◌, Bool, true, false, ◌||◌, ◌&&◌, nat_lt, ◌==◌, IsTrue, List, [], ◌∷◌, ◌++◌, length, drop, slice_index}
+use Rattle.std.specs.Prelude.{◌≡◌, ℕ, ◌<◌, ◌≤◌, ◌^◌, Bool, true, false, ◌||◌, ◌&&◌, nat_lt, ◌==◌, IsTrue, List, [], ◌∷◌}
+use Rattle.std.specs.Prelude.{◌++◌, length, drop, slice_index}
 use Rattle.std.specs.Int.{w16, w32, w64, to_be_bytes}
 use Rattle.byteorder.specs.Endian.{big_number}
 use Rattle.tuple_tree.specs.Values.{AreBytes}
@@ -11,22 +12,29 @@ use Rattle.terms.specs.declared.order.Mode.TheVariants as modes
 use Rattle.terms.specs.declared.state.Level.{Level}
 use Rattle.terms.specs.declared.state.Level.TheVariants as levels
 use Rattle.wire_format.specs.Lists.{Each, each_spelling, ascends}
-use Rattle.wire_format.specs.Messages.{CheckpointEntryData, BatchEntryData, ViewChangeData, NewViewData, MessageData, request, pre_prepare, prepare, commit, checkpoint, view_change, new_view, reply, fetch, meta, page, BodyData, MacData, AuthenticatorData, macs, signature, FrameData}
+use Rattle.wire_format.specs.Messages.{CheckpointEntryData, BatchEntryData, ViewChangeData, NewViewData, MessageData}
+use Rattle.wire_format.specs.Messages.{request, pre_prepare, prepare, commit, checkpoint, view_change, new_view, reply}
+use Rattle.wire_format.specs.Messages.{fetch, meta, page, BodyData, MacData, AuthenticatorData, macs, signature}
+use Rattle.wire_format.specs.Messages.{FrameData}
 
 -- ---- the bytes
 
+-- the byte of a mode: 00 ordered, 01 read-only
 abbrev pub mode_byte : Mode → ℕ
 mode_byte modes.Ordered = 0
 mode_byte modes.ReadOnly = 1
 
+-- the byte of a level: 00 the root, 01 an inner part, 02 a page
 abbrev pub level_byte : Level → ℕ
 level_byte levels.Root = 0
 level_byte levels.Inner = 1
 level_byte levels.Page = 2
 
+-- a number and a digest
 abbrev pub checkpoint_entry_spelling : CheckpointEntryData → List ℕ
 checkpoint_entry_spelling m = to_be_bytes w64 m.number ++ m.digest
 
+-- a number, a digest and a view
 abbrev pub batch_entry_spelling : BatchEntryData → List ℕ
 batch_entry_spelling c = to_be_bytes w64 c.number ++ (c.digest ++ to_be_bytes w64 c.view)
 
@@ -38,12 +46,15 @@ piece bs = to_be_bytes w32 (length bs) ++ bs
 abbrev pub pieces_spelling : List (List ℕ) → List ℕ
 pieces_spelling frames = length frames ∷ each_spelling piece frames
 
+-- a count byte, and each checkpoint
 abbrev pub checkpoint_entries_spelling : List CheckpointEntryData → List ℕ
 checkpoint_entries_spelling ms = length ms ∷ each_spelling checkpoint_entry_spelling ms
 
+-- a count of two bytes, and each batch entry
 abbrev pub batch_entries_spelling : List BatchEntryData → List ℕ
 batch_entries_spelling cs = to_be_bytes w16 (length cs) ++ each_spelling batch_entry_spelling cs
 
+-- the fields of a view change: view, low mark, checkpoints, prepared and pre-prepared batches
 abbrev pub view_change_spelling : ViewChangeData → List ℕ
 view_change_spelling c =
     to_be_bytes w64 c.view
@@ -55,6 +66,7 @@ view_change_spelling c =
 abbrev pub batches_spelling : List (List ℕ) → List ℕ
 batches_spelling batches = length batches ∷ each_spelling (λ b. b) batches
 
+-- the fields of a new view: view, view changes, start, root and batches
 abbrev pub new_view_spelling : NewViewData → List ℕ
 new_view_spelling n =
     to_be_bytes w64 n.view
@@ -65,6 +77,7 @@ new_view_spelling n =
 abbrev pub vote_spelling : ℕ → ℕ → List ℕ → List ℕ
 vote_spelling view number digest = to_be_bytes w64 view ++ (to_be_bytes w64 number ++ digest)
 
+-- the type of a message: 41 to 4b
 abbrev pub message_type : MessageData → ℕ
 message_type (request timestamp mode operation) = 0x41
 message_type (pre_prepare view number batch) = 0x42
@@ -101,12 +114,15 @@ fields_spelling (meta number level index digests) =
 fields_spelling (page number index text) =
     to_be_bytes w64 number ++ (to_be_bytes w16 index ++ text)
 
+-- a type, a sender and the fields
 abbrev pub body_spelling : BodyData → List ℕ
 body_spelling b = message_type b.message ∷ (to_be_bytes w16 b.sender ++ fields_spelling b.message)
 
+-- a receiver, and the MAC for it
 abbrev pub mac_spelling : MacData → List ℕ
 mac_spelling m = to_be_bytes w16 m.receiver ++ m.mac
 
+-- 00 before a count and the MACs, 01 before a signature
 abbrev pub authenticator_spelling : AuthenticatorData → List ℕ
 authenticator_spelling (macs ms) = 0 ∷ length ms ∷ each_spelling mac_spelling ms
 authenticator_spelling (signature s) = 1 ∷ s
@@ -126,6 +142,7 @@ last_index levels.Root = 0
 last_index levels.Inner = 31
 last_index levels.Page = 1023
 
+-- whether a part of this level has children: a page has none
 abbrev pub has_children : Level → Bool
 has_children levels.Root = true
 has_children levels.Inner = true
@@ -137,9 +154,11 @@ IsCheckpointEntry m = (m.number < 2 ^ 64) × IsDigest m.digest
 abbrev pub IsBatchEntry : BatchEntryData → Type 0
 IsBatchEntry c = (c.number < 2 ^ 64) × (IsDigest c.digest × (c.view < 2 ^ 64))
 
+-- the order of checkpoints in a view change: by number
 abbrev pub checkpoint_entry_before : CheckpointEntryData → CheckpointEntryData → Bool
 checkpoint_entry_before a b = nat_lt a.number b.number
 
+-- the order of prepared batches in a view change: by number
 abbrev pub batch_entry_before : BatchEntryData → BatchEntryData → Bool
 batch_entry_before a b = nat_lt a.number b.number
 
@@ -188,6 +207,7 @@ IsPlain (page number index text) = (number < 2 ^ 64) × (index ≤ 1023) × AreB
 abbrev pub IsMac : MacData → Type 0
 IsMac m = (m.receiver < 2 ^ 16) × IsDigest m.mac
 
+-- the order of MACs in an authenticator: by receiver
 abbrev pub mac_before : MacData → MacData → Bool
 mac_before a b = nat_lt a.receiver b.receiver
 
@@ -220,6 +240,7 @@ pub record IsFrameOf (IsMessage : MessageData → Type 0) (f : FrameData) : Type
   pub proved : authenticator_is_signed f.authenticator ≡ is_signed f.body.message
   pub short : length (frame_spelling f) ≤ frame_limit f.body.message
 
+-- whether the message is an ordered request, as batches have them
 abbrev pub is_ordered_request : MessageData → Bool
 is_ordered_request (request timestamp modes.Ordered operation) = true
 is_ordered_request _ = false
@@ -246,6 +267,7 @@ pub record IsBatch (least : ℕ) (text : List ℕ) : Type 0 where
 abbrev pub sender_in : List ℕ → ℕ
 sender_in bs = big_number 2 (drop 5 bs)
 
+-- the order of view changes in a new view: by sender
 abbrev pub sender_before : List ℕ → List ℕ → Bool
 sender_before a b = nat_lt (sender_in a) (sender_in b)
 

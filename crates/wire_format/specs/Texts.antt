@@ -8,8 +8,11 @@ use Rattle.wire_format.specs.declared.messages.Message.{Message}
 use Rattle.wire_format.specs.declared.messages.Body.{Body}
 use Rattle.wire_format.specs.declared.frames.Authenticator.{Authenticator}
 use Rattle.wire_format.specs.declared.frames.Frame.{Frame}
-use Rattle.wire_format.specs.Views.{checkpoint_entry_data, batch_entry_data, view_change_data, new_view_data, message_data, body_data, authenticator_data, frame_data}
-use Rattle.wire_format.specs.Spelling.{checkpoint_entry_spelling, batch_entry_spelling, checkpoint_entries_spelling, batch_entries_spelling, view_change_spelling, new_view_spelling, fields_spelling, body_spelling, authenticator_spelling, frame_spelling}
+use Rattle.wire_format.specs.Views.{checkpoint_entry_data, batch_entry_data, view_change_data, new_view_data}
+use Rattle.wire_format.specs.Views.{message_data, body_data, authenticator_data, frame_data}
+use Rattle.wire_format.specs.Spelling.{checkpoint_entry_spelling, batch_entry_spelling, checkpoint_entries_spelling}
+use Rattle.wire_format.specs.Spelling.{batch_entries_spelling, view_change_spelling, new_view_spelling, fields_spelling}
+use Rattle.wire_format.specs.Spelling.{body_spelling, authenticator_spelling, frame_spelling}
 
 abbrev pub checkpoint_entry_text : CheckpointEntry → List ℕ
 checkpoint_entry_text entry = checkpoint_entry_spelling (checkpoint_entry_data entry)

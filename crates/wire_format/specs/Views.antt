@@ -15,7 +15,10 @@ use Rattle.wire_format.specs.declared.frames.ReceiverMac.{ReceiverMac}
 use Rattle.wire_format.specs.declared.frames.Authenticator.{Authenticator}
 use Rattle.wire_format.specs.declared.frames.Authenticator.TheVariants as authenticators
 use Rattle.wire_format.specs.declared.frames.Frame.{Frame}
-use Rattle.wire_format.specs.Messages.{CheckpointEntryData, BatchEntryData, ViewChangeData, NewViewData, MessageData, request, pre_prepare, prepare, commit, checkpoint, view_change, new_view, reply, fetch, meta, page, BodyData, MacData, AuthenticatorData, macs, signature, FrameData}
+use Rattle.wire_format.specs.Messages.{CheckpointEntryData, BatchEntryData, ViewChangeData, NewViewData, MessageData}
+use Rattle.wire_format.specs.Messages.{request, pre_prepare, prepare, commit, checkpoint, view_change, new_view, reply}
+use Rattle.wire_format.specs.Messages.{fetch, meta, page, BodyData, MacData, AuthenticatorData, macs, signature}
+use Rattle.wire_format.specs.Messages.{FrameData}
 
 abbrev pub checkpoint_entry_data : CheckpointEntry → CheckpointEntryData
 checkpoint_entry_data m = record { number = m.number.0; digest = m.digest }

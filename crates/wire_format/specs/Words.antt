@@ -1,12 +1,15 @@
 -- Definitions on bytes for laws about messages. Bytes are lists of numbers here, and a list with a number over 255
 -- spells nothing.
-use Rattle.std.specs.Prelude.{◌≡◌, ◌↔◌, ℕ, ◌≤◌, nat_lt, if◌then◌else◌, List, [], ◌∷◌, ◌++◌, length, map, flat_map, Option, Some, None}
+use Rattle.std.specs.Prelude.{◌≡◌, ◌↔◌, ℕ, ◌≤◌, nat_lt, if◌then◌else◌, List, [], ◌∷◌, ◌++◌, length, map, flat_map}
+use Rattle.std.specs.Prelude.{Option, Some, None}
 use Rattle.std.specs.List.{list_all}
 use Rattle.tuple_tree.specs.Values.{AreBytes}
 use Rattle.tuple_tree.specs.Reading.{◌>>=◌}
 use Rattle.wire_format.specs.Lists.{Each}
-use Rattle.wire_format.specs.Messages.{MessageData, pre_prepare, new_view, BodyData, AuthenticatorData, macs, signature, FrameData}
-use Rattle.wire_format.specs.Spelling.{pieces_spelling, IsCarried, IsBatch, IsMessage, is_ordered_request, SpellsBody, SpellsFrame}
+use Rattle.wire_format.specs.Messages.{MessageData, pre_prepare, new_view, BodyData, AuthenticatorData, macs, signature}
+use Rattle.wire_format.specs.Messages.{FrameData}
+use Rattle.wire_format.specs.Spelling.{pieces_spelling, IsCarried, IsBatch, IsMessage, is_ordered_request, SpellsBody}
+use Rattle.wire_format.specs.Spelling.{SpellsFrame}
 use Rattle.wire_format.specs.Reading.{whole_value, requests_at, body_of, frame_read}
 
 -- the frame that the bytes spell
@@ -30,6 +33,7 @@ requests_of text = or_none (whole_value (requests_at 0 text))
     or_none None = []
     or_none (Some frames) = frames
 
+-- the request frames of all these batches, in their order
 abbrev pub requests_of_all : List (List ℕ) → List (List ℕ)
 requests_of_all [] = []
 requests_of_all (batch ∷ batches) = requests_of batch ++ requests_of_all batches

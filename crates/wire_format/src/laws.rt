@@ -1,6 +1,7 @@
 //! Laws of the grammar.
 
-ghost use Rattle.wire_format.specs.Words.{ReadsFrames, ReadsBodies, ReadsSaid, ReadsRequests, ReadsBatches, CarriesFrames, CarriesAll, HasOneFrame, HasOneBody};
+ghost use Rattle.wire_format.specs.Words.{ReadsFrames, ReadsBodies, ReadsSaid, ReadsRequests, ReadsBatches};
+ghost use Rattle.wire_format.specs.Words.{CarriesFrames, CarriesAll, HasOneFrame, HasOneBody};
 
 /// No spelling of a frame begins another one, and bytes spell at most one body or frame.
 pub fn one_spelling()

@@ -2,11 +2,13 @@
 
 ghost use Rattle.std.specs.Prelude.{◌<◌, ◌^◌, length, map};
 ghost use Rattle.wire_format.specs.Lists.{Each};
-ghost use Rattle.wire_format.specs.Views.{checkpoint_entry_data, batch_entry_data, batch_text, view_change_data, new_view_data, texts_of};
+ghost use Rattle.wire_format.specs.Views.{checkpoint_entry_data, batch_entry_data, batch_text, view_change_data};
+ghost use Rattle.wire_format.specs.Views.{new_view_data, texts_of};
 ghost use Rattle.wire_format.specs.Spelling.{pieces_spelling, batches_spelling};
 ghost use Rattle.wire_format.specs.Counts.{ViewChangeFits, NewViewFits};
 ghost use Rattle.wire_format.specs.Appends.{Appends};
-ghost use Rattle.wire_format.specs.Texts.{checkpoint_entry_text, batch_entry_text, checkpoint_entries_text, batch_entries_text, view_change_text, new_view_text};
+ghost use Rattle.wire_format.specs.Texts.{checkpoint_entry_text, batch_entry_text, checkpoint_entries_text};
+ghost use Rattle.wire_format.specs.Texts.{batch_entries_text, view_change_text, new_view_text};
 
 use crate::messages::{Batch, BatchEntry, CheckpointEntry, NewView, ViewChange};
 use crate::put::{put_piece, put_u16, put_u64};

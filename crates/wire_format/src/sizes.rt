@@ -5,7 +5,8 @@ ghost use Rattle.std.specs.Prelude.{◌≡◌, map};
 ghost use Rattle.wire_format.specs.Lists.{each_spelling};
 ghost use Rattle.wire_format.specs.Views.{batch_text, texts_of, macs_of};
 ghost use Rattle.wire_format.specs.Spelling.{pieces_spelling, batches_spelling, authenticator_spelling};
-ghost use Rattle.wire_format.specs.Texts.{checkpoint_entries_text, batch_entries_text, view_change_text, new_view_text, fields_text, body_text, authenticator_text, capped_length};
+ghost use Rattle.wire_format.specs.Texts.{checkpoint_entries_text, batch_entries_text, view_change_text, new_view_text};
+ghost use Rattle.wire_format.specs.Texts.{fields_text, body_text, authenticator_text, capped_length};
 
 use crate::frames::{Authenticator, ReceiverMac};
 use crate::messages::{Batch, BatchEntry, Body, CheckpointEntry, Message, NewView, ViewChange};

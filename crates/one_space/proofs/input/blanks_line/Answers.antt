@@ -1,7 +1,8 @@
 use Rattle.std.proofs.Common.{sym, subst, ◌∙◌}
 use Rattle.one_space.specs.NextLines.{NextLineFails}
 use Rattle.one_space.specs.declared.input.NoLine.TheVariants as no
-use Rattle.one_space.proofs.BlankLemmas.{drops_more, part_refused_known, end_at_known, end_last_known, EndJudged, OfBlanks}
+use Rattle.one_space.proofs.BlankLemmas.{drops_more, part_refused_known, end_at_known, end_last_known, EndJudged}
+use Rattle.one_space.proofs.BlankLemmas.{OfBlanks}
 use Rattle.one_space.proofs.input.blanks_line.Goals as goal
 
 pub returns-in-LineFeed : goal.returns-in-LineFeed

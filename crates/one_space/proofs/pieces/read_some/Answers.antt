@@ -1,4 +1,5 @@
-use Rattle.std.proofs.Common.{◌+◌, ◌≤◌, arith, eqb-true, leb-true, length, take, nat_lt, nat_le, IfSome, subst, sym, ◌∙◌, length-take-le}
+use Rattle.std.proofs.Common.{◌+◌, ◌≤◌, arith, eqb-true, leb-true, length, take, nat_lt, nat_le, IfSome, subst, sym}
+use Rattle.std.proofs.Common.{◌∙◌, length-take-le}
 use Rattle.std.specs.Io.BufRead.{FillKeeps}
 use Rattle.std.proofs.BufReadLemmas.{Consumes_shown}
 use Rattle.one_space.specs.Pieces.{TakesPiece}

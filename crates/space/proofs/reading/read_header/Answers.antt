@@ -2,7 +2,8 @@ use Rattle.std.proofs.Common.{sym, arith}
 use Rattle.space.specs.Pages.{version_byte}
 use Rattle.space.proofs.Fronts.{header_found, header_numbers}
 use Rattle.space.proofs.reading.read_header.Goals as goal
-use Rattle.space.proofs.reading.read_header.Goals.{else-number-lt-NUMBERS_END-via-then-number-lt-NUMBERS_END+else-next-number, else-number-lt-NUMBERS_END-via-else-number-lt-NUMBERS_END}
+use Rattle.space.proofs.reading.read_header.Goals.{else-number-lt-NUMBERS_END-via-then-number-lt-NUMBERS_END+else-next-number}
+use Rattle.space.proofs.reading.read_header.Goals.{else-number-lt-NUMBERS_END-via-else-number-lt-NUMBERS_END}
 
 pub returns-then-next-number-clause-found : goal.returns-then-next-number-clause-found
 returns-then-next-number-clause-found c = record {

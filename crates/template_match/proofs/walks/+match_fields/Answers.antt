@@ -1,5 +1,6 @@
 use Rattle.std.proofs.Common.{sym, ◌∙◌, arith}
-use Rattle.template_match.proofs.TwoWalking.{both_goes_on, both_fails, both_ends, nested_is, no_nested, without_levels, without_count, over_count}
+use Rattle.template_match.proofs.TwoWalking.{both_goes_on, both_fails, both_ends, nested_is, no_nested, without_levels}
+use Rattle.template_match.proofs.TwoWalking.{without_count, over_count}
 use Rattle.template_match.proofs.walks.+match_fields.Goals as goal
 
 pub match_fields-returns-in_default : goal.match_fields-returns-in_default

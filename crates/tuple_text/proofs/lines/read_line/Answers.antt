@@ -2,7 +2,8 @@ use Rattle.std.proofs.Common.{◌≡◌, ◌∙◌, ap, sym, subst, rules, arith
 use Rattle.tuple_codec.specs.OperationView.{operation_of}
 use Rattle.tuple_text.specs.Faults.{Faults}
 use Rattle.tuple_text.specs.Reading.{line, got, fault_at}
-use Rattle.tuple_text.proofs.Judging.{front, front_is, read_is_line, too_big, line_reads_only, line_not_skipped, stops_faults, stops_memory}
+use Rattle.tuple_text.proofs.Judging.{front, front_is, read_is_line, too_big, line_reads_only, line_not_skipped}
+use Rattle.tuple_text.proofs.Judging.{stops_faults, stops_memory}
 use Rattle.tuple_text.proofs.lines.read_line.Goals as goal
 
 pub returns-then-is_skipped-clause-only : goal.returns-then-is_skipped-clause-only

@@ -1,7 +1,8 @@
 use Rattle.std.proofs.Common.{◌≡◌, ◌∙◌, refl, ap, sym, subst, arith, ◌-◌, ◌<◌, ◌≤◌, min, length}
 use Rattle.tuple_text.specs.Faults.{Faults, behind}
 use Rattle.tuple_text.specs.Reading.{lone_template, got, fault_at}
-use Rattle.tuple_text.proofs.Alone.{as_line, text_front, text_front_is, text_is_line, text_too_big, text_reads_only, text_faults, text_memory}
+use Rattle.tuple_text.proofs.Alone.{as_line, text_front, text_front_is, text_is_line, text_too_big, text_reads_only}
+use Rattle.tuple_text.proofs.Alone.{text_faults, text_memory}
 use Rattle.tuple_text.proofs.lines.read_template.Goals as goal
 
 pub same-template : goal.same-template

@@ -2,7 +2,8 @@ use Rattle.std.proofs.Common.{◌≡◌, [], ◌∷◌, ◌++◌, length, drop, 
 use Rattle.std.specs.Fmt.{decimal}
 use Rattle.std.proofs.lemmas.Result.{err_from_is_err_and}
 use Rattle.tuple_text.specs.Written.{tuple_written, tuples_written}
-use Rattle.tuple_text.proofs.Writing.{SoFar, so_far, one_more, error_behind, error_second, nothing_left, tuples_first, drop_all}
+use Rattle.tuple_text.proofs.Writing.{SoFar, so_far, one_more, error_behind, error_second, nothing_left, tuples_first}
+use Rattle.tuple_text.proofs.Writing.{drop_all}
 use Rattle.tuple_text.proofs.write.put_tuples.Goals as goal
 
 pub returns-in_err-append : goal.returns-in_err-append

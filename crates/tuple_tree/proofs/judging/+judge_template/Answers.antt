@@ -2,7 +2,8 @@ use Rattle.std.proofs.Common.{◌≡◌, ◌+◌, ◌-◌, max, Some, ap, sym, �
 use Rattle.tuple_tree.specs.Values.{is_wide_slot}
 use Rattle.tuple_tree.specs.Reading.{◌>>=◌, slot_at}
 use Rattle.tuple_tree.specs.Judging.{items_judged}
-use Rattle.tuple_tree.proofs.Telling.{combine, goes_on, one_fails, ends, no_tag, leaf_told, then_nested, without_levels, nested_told, no_count, many, few}
+use Rattle.tuple_tree.proofs.Telling.{combine, goes_on, one_fails, ends, no_tag, leaf_told, then_nested, without_levels}
+use Rattle.tuple_tree.proofs.Telling.{nested_told, no_count, many, few}
 use Rattle.tuple_tree.proofs.judging.+judge_template.Goals as goal
 
 pub judge_fields-returns-in_default-clause-gives : goal.judge_fields-returns-in_default-clause-gives

@@ -5,7 +5,8 @@ use Rattle.std.proofs.lemmas.List.{get_or_default}
 use Rattle.space.specs.Ages.{births_without}
 use Rattle.space.proofs.Ages.{without-at, without-none, absent, rising_numbers}
 use Rattle.space.proofs.birth_list.BirthList.remove.Goals as goal
-use Rattle.space.proofs.birth_list.BirthList.remove.Goals.{then-place-births-via-then-place-births, then-place-births-via-else-place-births+then-births-place}
+use Rattle.space.proofs.birth_list.BirthList.remove.Goals.{then-place-births-via-then-place-births}
+use Rattle.space.proofs.birth_list.BirthList.remove.Goals.{then-place-births-via-else-place-births+then-births-place}
 
 pub returns-then-place-births : goal.returns-then-place-births
 returns-then-place-births c rising =

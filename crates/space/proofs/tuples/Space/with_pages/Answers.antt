@@ -5,7 +5,8 @@ use Rattle.space.specs.Applying.{most_tuples}
 use Rattle.space.specs.Counted.{IsIndexed}
 use Rattle.space.specs.Pages.{entries_text, on_page}
 use Rattle.space.specs.Reading.{IsPage, ArePagesRead, ArePagesOf}
-use Rattle.space.proofs.Restoring.{ArePagesRead-none, ArePagesRead-more, IsPage-of_state, same_entries, IsCounted-read, ArePagesOf-read}
+use Rattle.space.proofs.Restoring.{ArePagesRead-none, ArePagesRead-more, IsPage-of_state, same_entries, IsCounted-read}
+use Rattle.space.proofs.Restoring.{ArePagesOf-read}
 use Rattle.space.proofs.tuples.Space.with_pages.Goals as goal
 
 pub loop-page-init : goal.loop-page-init

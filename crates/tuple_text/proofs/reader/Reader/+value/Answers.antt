@@ -3,7 +3,8 @@ use Rattle.std.proofs.lemmas.Result.{err_from_is_err_and}
 use Rattle.tuple_tree.specs.Values.{datum_length}
 use Rattle.tuple_text.specs.Reading.{◌>>=◌, got, begins_datum, datum, item_at, no_room, kept_with}
 use Rattle.tuple_text.specs.Parts.{tuple_with}
-use Rattle.tuple_text.proofs.Steps.{stops_through, stops_as, at_plain, at_ninth, at_list, at_items, opened, closed, items_start, further_stops, one_stops, one_more, ends, datum_empty}
+use Rattle.tuple_text.proofs.Steps.{stops_through, stops_as, at_plain, at_ninth, at_list, at_items, opened, closed}
+use Rattle.tuple_text.proofs.Steps.{items_start, further_stops, one_stops, one_more, ends, datum_empty}
 use Rattle.tuple_text.proofs.reader.Reader.+value.Goals as goal
 
 pub add_next_value-returns-then-not-opens : goal.add_next_value-returns-then-not-opens

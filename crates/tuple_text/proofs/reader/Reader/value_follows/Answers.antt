@@ -3,7 +3,8 @@ use Rattle.std.proofs.lemmas.Result.{err_from_is_err_and}
 use Rattle.tuple_text.specs.Reading.{no_room, begins_datum}
 use Rattle.tuple_text.proofs.Steps.{turn_stops, has_turned, none_further}
 use Rattle.tuple_text.proofs.reader.Reader.value_follows.Goals as goal
-use Rattle.tuple_text.proofs.reader.Reader.value_follows.Goals.{else-follows-via-then-follows+else-count-eq-MAX_FIELDS, else-follows-via-else-follows}
+use Rattle.tuple_text.proofs.reader.Reader.value_follows.Goals.{else-follows-via-then-follows+else-count-eq-MAX_FIELDS}
+use Rattle.tuple_text.proofs.reader.Reader.value_follows.Goals.{else-follows-via-else-follows}
 
 pub returns-in_err-follows : goal.returns-in_err-follows
 returns-in_err-follows c =
