@@ -7,6 +7,8 @@ mod arena;
 #[cfg(test)]
 mod candidates;
 #[cfg(test)]
+mod get;
+#[cfg(test)]
 mod inner_faults;
 #[cfg(test)]
 mod items;

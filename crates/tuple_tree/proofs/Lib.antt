@@ -1,3 +1,4 @@
+pub mod Getting
 pub mod Growing
 pub mod Readers
 pub mod Numbers

@@ -13,8 +13,8 @@
 //! would pass and changes nothing; `push_atom` adds a value from where it lies, and `push_open` a formal or a field
 //! that each value matches. `copy_in` gives an equal one under another allocator; `same` holds exactly of equal ones,
 //! under two allocators. `len`, `depth`, `encoded_len`, `into_value` are exact. `has_wide` tells exactly whether a wide
-//! number, or in a template its formal, is at some level. `values` and `fields` see the items one after another, where
-//! they lie, and take no memory.
+//! number, or in a template its formal, is at some level. `values` and `fields` see the items one after another, and
+//! `get` sees the one at a place. They see them where they lie, and take no memory.
 //!
 //! `bytes` are the spellings of the items, and `put_tuple` and `put_template` append the spelling of the whole.
 //! `fixed_bytes` are those of a template before its first open field, and `is_fixed` tells exactly whether there is

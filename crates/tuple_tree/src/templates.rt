@@ -1,21 +1,21 @@
 //! Templates: lists of fields, kept as the bytes that spell the fields.
 
-ghost use Rattle.std.specs.Prelude.{◌≡◌, ◌+◌, ◌≤◌, ◌++◌, OnOk, OnErr, IfErr, IfOk, IsTrue, ◌↔◌, false, length};
+ghost use Rattle.std.specs.Prelude.{◌≡◌, ◌+◌, ◌≤◌, ◌++◌, OnOk, OnErr, IfErr, IfOk, IsTrue, ◌↔◌, false, length, slice_get};
 ghost use Rattle.tuple_tree.specs.Items.{none, leaf, inner, how_many, with_last, item_levels, levels_of, item_length};
-ghost use Rattle.tuple_tree.specs.Items.{whole_length, item_has, has_leaf};
+ghost use Rattle.tuple_tree.specs.Items.{as_list, whole_length, item_has, has_leaf};
 ghost use Rattle.tuple_tree.specs.Limits.{IsItem};
 ghost use Rattle.tuple_tree.specs.Pushes.{JudgesTemplate, AddsField};
 ghost use Rattle.tuple_tree.specs.Puts.{PutsText};
 ghost use Rattle.tuple_tree.specs.Fronts.{is_open, front_of};
 ghost use Rattle.tuple_tree.specs.Results.{Yields};
 ghost use Rattle.tuple_tree.specs.Reading.{slot_at, items_at};
-ghost use Rattle.tuple_tree.specs.Seen.{seen_datum, open_slot};
+ghost use Rattle.tuple_tree.specs.Seen.{seen_datum, seen_field, open_slot};
 ghost use Rattle.tuple_tree.specs.Spelling.{slot_spelling, items_spelling, template_spelling};
 ghost use Rattle.tuple_tree.specs.Values.{actual, slot_length, is_wide_slot, IsSlot, IsUtf8IfText, IsTemplate};
 ghost use Rattle.tuple_tree.specs.TemplateView.{field_of};
 
 use crate::atoms::{Atom, Kind, note_bytes};
-use crate::fields::Fields;
+use crate::fields::{FieldRef, Fields};
 use crate::fronts::{longer_front, spelled_front};
 use crate::judging::judge_template;
 use crate::limits::{Extent, Refusal, Refused};
@@ -171,6 +171,19 @@ impl<A: Allocator> Template<A> {
             count: self.count,
             levels: 7,
         }
+    }
+
+    /// The field at this place, from 0 on, where it lies, or `None` if there are no more than so many. Takes no memory.
+    // What stands before it is passed field by field: a template has at most 32.
+    pub fn get(&self, i: usize) -> Option<FieldRef<'_>>
+        ensures value { Yields seen_field result (slice_get (as_list self.now) i) }
+        ensures valid { IsTemplate self.now }
+    {
+        let mut fields = self.fields();
+        for _passed in 0..i {
+            fields.next()?;
+        }
+        fields.next()
     }
 
     /// The spellings of the fields, one after another.

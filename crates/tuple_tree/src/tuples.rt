@@ -1,14 +1,14 @@
 //! Tuples: lists of values, kept as the bytes that spell the values.
 
-ghost use Rattle.std.specs.Prelude.{◌≡◌, ◌+◌, ◌≤◌, ◌++◌, OnOk, OnErr, IfErr, IfOk, IsTrue, ◌↔◌, length};
+ghost use Rattle.std.specs.Prelude.{◌≡◌, ◌+◌, ◌≤◌, ◌++◌, OnOk, OnErr, IfErr, IfOk, IsTrue, ◌↔◌, length, slice_get};
 ghost use Rattle.tuple_tree.specs.Items.{none, leaf, inner, how_many, with_last, item_levels, levels_of, item_length};
-ghost use Rattle.tuple_tree.specs.Items.{whole_length, item_has, has_leaf};
+ghost use Rattle.tuple_tree.specs.Items.{as_list, whole_length, item_has, has_leaf};
 ghost use Rattle.tuple_tree.specs.Limits.{IsItem};
 ghost use Rattle.tuple_tree.specs.Pushes.{JudgesTuple, AddsValue};
 ghost use Rattle.tuple_tree.specs.Puts.{PutsText};
 ghost use Rattle.tuple_tree.specs.Results.{Yields};
 ghost use Rattle.tuple_tree.specs.Reading.{datum_at, items_at};
-ghost use Rattle.tuple_tree.specs.Seen.{seen_datum};
+ghost use Rattle.tuple_tree.specs.Seen.{seen_datum, seen_value};
 ghost use Rattle.tuple_tree.specs.Spelling.{datum_spelling, items_spelling, tuple_spelling};
 ghost use Rattle.tuple_tree.specs.Values.{datum_length, is_wide, IsDatum, IsUtf8IfText, IsTuple};
 ghost use Rattle.tuple_tree.specs.TupleView.{value_of};
@@ -18,7 +18,7 @@ use crate::judging::judge_tuple;
 use crate::limits::{Extent, Refusal, Refused};
 use crate::put::{put_atom, put_byte, put_bytes, put_nested};
 use crate::reading::read_byte;
-use crate::values::{AtomRef, Values};
+use crate::values::{AtomRef, ValueRef, Values};
 use std::alloc::Allocator;
 use std::marker::Model;
 use terms::NoMemory;
@@ -156,6 +156,19 @@ impl<A: Allocator> Tuple<A> {
             count: self.count,
             levels: 7,
         }
+    }
+
+    /// The value at this place, from 0 on, where it lies, or `None` if there are no more than so many. Takes no memory.
+    // What stands before it is passed value by value: a tuple has at most 32.
+    pub fn get(&self, i: usize) -> Option<ValueRef<'_>>
+        ensures value { Yields seen_value result (slice_get (as_list self.now) i) }
+        ensures valid { IsTuple self.now }
+    {
+        let mut values = self.values();
+        for _passed in 0..i {
+            values.next()?;
+        }
+        values.next()
     }
 
     /// The spellings of the values, one after another.
