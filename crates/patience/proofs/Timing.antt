@@ -1,7 +1,7 @@
 -- What a timer's beginning and its end make of a patience.
 use Rattle.std.proofs.Common.{◌≡◌, ℕ, suc, ◌+◌, ◌*◌, ◌/◌, ◌%◌, ◌^◌, min, max, Bool, true, false, List, ◌∷◌, Option, Some, None, is_some, refl, sym, ap, subst, ◌∙◌, arith}
 use Rattle.patience.specs.Standings.{wait_of, may_sign}
-use Rattle.patience.specs.Moments.{Moment, began, timed_out, spared, moved, last_number, watched, costly, shortest, IsRunning, begins, runs, waits_not, runs_not, gives, spares, moves}
+use Rattle.patience.specs.Moments.{Moment, began, timed_out, spared, followed, moved, last_number, watched, costly, shortest, IsRunning, begins, runs, waits_not, runs_not, gives, spares, follows, moves}
 use Rattle.patience.specs.PatienceView.{PatienceData, Fits, MayBegin, MayEnd}
 use Rattle.patience.specs.declared.patience.TheConstants.{LONGEST}
 use Rattle.patience.specs.declared.standing.Standing.{Standing}
@@ -60,11 +60,27 @@ module _ (p old : PatienceData) (is : p ≡ old) (past : List Moment) (given : F
       running : IsRunning past number
       running = (same ∙ fits.number, ap is_some watches)
 
-      pub it_moved : (new : ℕ) → new ≡ max (p.lasts / 2) (shortest p.costly) → (wait_of standing ≡ Some wait → ⊥)
+      pub it_followed : (new : ℕ) → new ≡ min (2 * p.lasts) LONGEST → (wait_of standing ≡ Some wait → ⊥)
+          → is_some standing.view ≡ true
           → MayEnd old.needed past number standing false (record p { watched = None; lasts = new })
-      it_moved new is other = with_needed _ _ (
+      it_followed new is other later = with_needed _ _ (
+        followed ∷ past,
+        follows running (λ e. other (e ∙ watches)) later,
+        record {
+          links = fits.links;
+          number = fits.number;
+          watches = refl;
+          lasts = is ∙ ap (λ n. min (2 * n) LONGEST) fits.lasts;
+          counts = fits.counts;
+        },
+      )
+
+      pub it_moved : (new : ℕ) → new ≡ max (p.lasts / 2) (shortest p.costly) → (wait_of standing ≡ Some wait → ⊥)
+          → standing.view ≡ None
+          → MayEnd old.needed past number standing false (record p { watched = None; lasts = new })
+      it_moved new is other none = with_needed _ _ (
         moved ∷ past,
-        moves running (λ e. other (e ∙ watches)),
+        moves running (λ e. other (e ∙ watches)) none,
         record {
           links = fits.links;
           number = fits.number;

@@ -1,5 +1,5 @@
 -- The timers of a replica, by all that happened to them: a list of moments, the newest first.
-use Rattle.std.specs.Prelude.{◌≡◌, ℕ, suc, ◌*◌, ◌/◌, ◌%◌, ◌^◌, min, max, nat_le, Bool, true, false, List, [], ◌∷◌, Option, Some, None, IsSome}
+use Rattle.std.specs.Prelude.{◌≡◌, ℕ, suc, ◌*◌, ◌/◌, ◌%◌, ◌^◌, min, max, nat_le, Bool, true, false, List, [], ◌∷◌, Option, Some, None, is_some, IsSome}
 use Rattle.patience.specs.Standings.{wait_of, may_sign}
 use Rattle.patience.specs.declared.patience.TheConstants.{FIRST, LONGEST, DOUBLES_AFTER}
 use Rattle.patience.specs.declared.patience.Timer.{Timer}
@@ -7,12 +7,13 @@ use Rattle.patience.specs.declared.standing.Standing.{Standing}
 use Rattle.patience.specs.declared.standing.Wait.{Wait}
 
 -- A timer began, which watches this. Or it was over: then the replica got a timeout, which may cost it a signature, if
--- it still waited for that; or it was spared, since too few others were linked; or it waited for that no more. Or the
--- replica was told how many others are linked.
+-- it still waited for that; or it was spared, since too few others were linked; or it had followed others to a later
+-- view, for which it then waited; or it waited for neither. Or the replica was told how many others are linked.
 pub data Moment : Type 0 where
   began : (wait : Wait) → Moment
   timed_out : (may_sign : Bool) → Moment
   spared : Moment
+  followed : Moment
   moved : Moment
   linked : (count : ℕ) → Moment
 
@@ -47,10 +48,12 @@ costly (_ ∷ past) = costly past
 abbrev pub shortest : ℕ → ℕ
 shortest n = min (FIRST * 2 ^ (n / DOUBLES_AFTER)) LONGEST
 
--- How many milliseconds the next timer lasts. It doubles with each timeout, and halves if something moved.
+-- How many milliseconds the next timer lasts. It doubles with each timeout and if the replica followed others, since
+-- then a view went by in which nothing moved. It halves if something moved.
 abbrev pub lasts : List Moment → ℕ
 lasts [] = FIRST
 lasts (timed_out may_sign ∷ past) = min (2 * lasts past) LONGEST
+lasts (followed ∷ past) = min (2 * lasts past) LONGEST
 lasts (moved ∷ past) = max (lasts past / 2) (shortest (costly past))
 lasts (_ ∷ past) = lasts past
 
@@ -75,5 +78,7 @@ pub data Ends (needed : ℕ) (past : List Moment) (number : ℕ) (standing : Sta
       → Ends needed past number standing true (timed_out (may_sign standing) ∷ past)
   spares : IsRunning past number → wait_of standing ≡ watched past → is_linked needed past ≡ false
       → Ends needed past number standing false (spared ∷ past)
-  moves : IsRunning past number → (wait_of standing ≡ watched past → ⊥)
+  follows : IsRunning past number → (wait_of standing ≡ watched past → ⊥) → is_some standing.view ≡ true
+      → Ends needed past number standing false (followed ∷ past)
+  moves : IsRunning past number → (wait_of standing ≡ watched past → ⊥) → standing.view ≡ None
       → Ends needed past number standing false (moved ∷ past)

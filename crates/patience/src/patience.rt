@@ -1,6 +1,6 @@
 //! Timers.
 
-ghost use Rattle.std.specs.Prelude.{◌≡◌, ◌≤◌, List, [], ◌∷◌};
+ghost use Rattle.std.specs.Prelude.{◌≡◌, ◌≤◌, ◌*◌, min, List, [], ◌∷◌};
 ghost use Rattle.patience.specs.Moments.{shortest};
 
 use crate::standing::{Standing, Wait};
@@ -111,18 +111,30 @@ impl Patience {
         }
         self.watched = None;
         if !standing.waits_for(wait) {
-            self.lasts = (self.lasts / 2).max(shortest_after(self.costly));
+            self.lasts = if standing.view.is_some() {
+                twice(self.lasts)
+            } else {
+                (self.lasts / 2).max(shortest_after(self.costly))
+            };
             return false;
         }
         if !self.is_linked {
             return false;
         }
-        self.lasts = (2 * self.lasts).min(LONGEST);
+        self.lasts = twice(self.lasts);
         if standing.may_sign() {
             self.costly = self.costly.saturating_add(1);
         }
         true
     }
+}
+
+// Twice as many milliseconds, as far as a timer lasts.
+fn twice(milliseconds: u32) -> u32
+    requires { milliseconds ≤ LONGEST }
+    ensures { result ≡ min (2 * milliseconds) LONGEST }
+{
+    (2 * milliseconds).min(LONGEST)
 }
 
 // The fewest milliseconds of a timer after so many timeouts that may cost a signature.

@@ -1,5 +1,5 @@
 use Rattle.std.proofs.Common.{◌≡◌, ◌/◌, max, true, false, ap, sym, ◌∙◌}
-use Rattle.patience.proofs.Timing.{none_runs, another_runs, it_moved, it_is_spared, it_costs, it_is_free}
+use Rattle.patience.proofs.Timing.{none_runs, another_runs, it_followed, it_moved, it_is_spared, it_costs, it_is_free}
 use Rattle.patience.proofs.patience.Patience.ends.Goals as goal
 
 pub returns-in_default-clause-fits : goal.returns-in_default-clause-fits
