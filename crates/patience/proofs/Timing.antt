@@ -12,9 +12,9 @@ none_is_some : (o : Option Wait) → o ≡ None → is_some o ≡ true → ⊥
 none_is_some None e h = cc
 none_is_some (Some wait) e h = cc
 
-not_some : (o : Option Wait) → is_some o ≡ false → o ≡ None
+not_some : {A : Type 0} (o : Option A) → is_some o ≡ false → o ≡ None
 not_some None e = refl
-not_some (Some wait) e = cc
+not_some (Some x) e = cc
 
 -- p: the patience by its fields, which callers see as old
 module _ (p old : PatienceData) (is : p ≡ old) (past : List Moment) (given : Fits old past) (standing : Standing) where
@@ -76,11 +76,11 @@ module _ (p old : PatienceData) (is : p ≡ old) (past : List Moment) (given : F
       )
 
       pub it_moved : (new : ℕ) → new ≡ max (p.lasts / 2) (shortest p.costly) → (wait_of standing ≡ Some wait → ⊥)
-          → standing.view ≡ None
+          → is_some standing.view ≡ false
           → MayEnd old.needed past number standing false (record p { watched = None; lasts = new })
       it_moved new is other none = with_needed _ _ (
         moved ∷ past,
-        moves running (λ e. other (e ∙ watches)) none,
+        moves running (λ e. other (e ∙ watches)) (not_some standing.view none),
         record {
           links = fits.links;
           number = fits.number;

@@ -111,11 +111,11 @@ impl Patience {
         }
         self.watched = None;
         if !standing.waits_for(wait) {
-            self.lasts = if standing.view.is_some() {
-                twice(self.lasts)
-            } else {
-                (self.lasts / 2).max(shortest_after(self.costly))
-            };
+            if standing.view.is_some() {
+                self.lasts = twice(self.lasts);
+                return false;
+            }
+            self.lasts = (self.lasts / 2).max(shortest_after(self.costly));
             return false;
         }
         if !self.is_linked {
