@@ -110,31 +110,37 @@ static REQUEST: [Step; 12] = [
 ];
 
 // A part before a request, and a view before a part. Only the same part is asked for again.
-static ORDER: [Step; 10] = [
+static ORDER: [Step; 11] = [
     Step::Begins(Stands::FirstWithRequest, 2_000),
     Step::GivesNothing(Stands::One),
     Step::Begins(Stands::First, 2_000),
     Step::GivesNothing(Stands::Second),
     Step::Begins(Stands::Second, 2_000),
     Step::GivesNothing(Stands::Inactive),
-    Step::Begins(Stands::FirstWithRequest, 4_000),
+    Step::Begins(Stands::FirstWithRequest, 2_000),
     Step::Gives(Stands::First),
-    Step::Begins(Stands::Inactive, 8_000),
+    Step::Begins(Stands::Inactive, 4_000),
     Step::Gives(Stands::Inactive),
+    Step::Begins(Stands::Inactive, 8_000),
 ];
 
-// One that follows others to a later view gives that view its own time, and twice as much. Two views go by; the third
-// timer is over in a view that has begun.
-static FOLLOWS: [Step; 9] = [
+// Each view has its own time: twice as much if the replica follows others, as much again if it enters a view, and half
+// as much once a request was executed there. The timers that ended early give nothing.
+static FOLLOWS: [Step; 14] = [
     Step::Begins(Stands::One, 2_000),
-    Step::Gives(Stands::One),
     Step::Begins(Stands::Inactive, 4_000),
-    Step::GivesNothing(Stands::Later),
+    Step::NoneBegins(Stands::Inactive),
+    Step::Stale(1),
     Step::Begins(Stands::Later, 8_000),
-    Step::Gives(Stands::Later),
-    Step::Begins(Stands::Inactive, 16_000),
-    Step::GivesNothing(Stands::One),
+    Step::Stale(2),
     Step::Begins(Stands::One, 8_000),
+    Step::NoneBegins(Stands::Two),
+    Step::Gives(Stands::One),
+    Step::Begins(Stands::Inactive, 16_000),
+    Step::Begins(Stands::One, 16_000),
+    Step::GivesNothing(Stands::Two),
+    Step::NoneBegins(Stands::Idle),
+    Step::Begins(Stands::Two, 8_000),
 ];
 
 // Linked to one other of the two that are needed: no timeout, and no longer timer.
