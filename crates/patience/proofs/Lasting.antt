@@ -1,7 +1,7 @@
 -- How long so many timeouts take.
 use Rattle.std.proofs.Common.{ℕ, zero, suc, subst, zero-add, suc-add, ◌+◌, ◌-◌, ◌*◌, ◌/◌, ◌^◌, ◌≤◌, true, false, List, [], ◌∷◌, arith}
 use Rattle.std.proofs.Math.Nat.{le-min, min-le_right, le-max_right}
-use Rattle.patience.specs.Moments.{Moment, began, timed_out, spared, moved, linked, costly, shortest, lasts}
+use Rattle.patience.specs.Moments.{Moment, began, timed_out, spared, followed, entered, moved, linked, costly, shortest, lasts}
 use Rattle.patience.specs.Laws.{waited, TimeoutsTakeTime}
 use Rattle.patience.specs.declared.patience.TheConstants.{FIRST, LONGEST, DOUBLES_AFTER}
 use Rattle.patience.proofs.Shortest.{next_shortest}
@@ -20,6 +20,9 @@ lasts_long (timed_out true ∷ past) =
 lasts_long (timed_out false ∷ past) =
     le-min (omega (arith, lasts_long past)) (min-le_right (FIRST * 2 ^ (costly past / DOUBLES_AFTER)) LONGEST)
 lasts_long (spared ∷ past) = lasts_long past
+lasts_long (followed ∷ past) =
+    le-min (omega (arith, lasts_long past)) (min-le_right (FIRST * 2 ^ (costly past / DOUBLES_AFTER)) LONGEST)
+lasts_long (entered ∷ past) = lasts_long past
 lasts_long (moved ∷ past) = le-max_right (lasts past / 2) (shortest (costly past))
 lasts_long (linked count ∷ past) = lasts_long past
 
@@ -29,6 +32,8 @@ waited_long (began wait ∷ past) = waited_long past
 waited_long (timed_out true ∷ past) = omega (arith, waited_long past, lasts_long past)
 waited_long (timed_out false ∷ past) = omega (arith, waited_long past)
 waited_long (spared ∷ past) = waited_long past
+waited_long (followed ∷ past) = waited_long past
+waited_long (entered ∷ past) = waited_long past
 waited_long (moved ∷ past) = waited_long past
 waited_long (linked count ∷ past) = waited_long past
 

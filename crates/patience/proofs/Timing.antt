@@ -1,36 +1,89 @@
 -- What a timer's beginning and its end make of a patience.
-use Rattle.std.proofs.Common.{◌≡◌, ℕ, suc, ◌+◌, ◌*◌, ◌/◌, ◌%◌, ◌^◌, min, max, Bool, true, false, List, ◌∷◌, Option, Some, None, is_some, refl, sym, ap, subst, ◌∙◌, arith}
+use Rattle.std.proofs.Common.{◌≡◌, ℕ, suc, ◌+◌, ◌*◌, ◌/◌, ◌%◌, ◌^◌, min, max, Bool, true, false, List, ◌∷◌, Option, Some, None, is_some, refl, sym, ap, subst, ◌∙◌, inl, inr, arith}
 use Rattle.patience.specs.Standings.{wait_of, may_sign}
-use Rattle.patience.specs.Moments.{Moment, began, timed_out, spared, moved, last_number, watched, costly, shortest, IsRunning, begins, runs, waits_not, runs_not, gives, spares, moves}
-use Rattle.patience.specs.PatienceView.{PatienceData, Fits, MayBegin, MayEnd}
+use Rattle.patience.specs.Moments.{Moment, began, timed_out, spared, followed, entered, moved, last_number, watched, costly, shortest, IsRunning, Starts, begins, runs, waits_not, follows, enters, stays, runs_not, gives, spares, moves}
+use Rattle.patience.specs.PatienceView.{PatienceData, Fits, MayEndEarly, MayBegin, MayEnd}
 use Rattle.patience.specs.declared.patience.TheConstants.{LONGEST}
 use Rattle.patience.specs.declared.standing.Standing.{Standing}
 use Rattle.patience.specs.declared.standing.Wait.{Wait}
+use Rattle.patience.specs.declared.standing.Wait.TheVariants.{View as ViewWait}
+use Rattle.patience.specs.declared.patience.Timer.{Timer}
+use Rattle.terms.specs.declared.order.View.{View}
 use Rattle.patience.proofs.Shortest.{counted}
 
 none_is_some : (o : Option Wait) → o ≡ None → is_some o ≡ true → ⊥
 none_is_some None e h = cc
 none_is_some (Some wait) e h = cc
 
-not_some : (o : Option Wait) → is_some o ≡ false → o ≡ None
+not_some : {A : Type 0} (o : Option A) → is_some o ≡ false → o ≡ None
 not_some None e = refl
-not_some (Some wait) e = cc
+not_some (Some x) e = cc
+
+some_same : {a b : Wait} → Some a ≡ Some b → a ≡ b
+some_same e = cc
+
+-- what the start of a timer makes of a patience
+abbrev pub MayStart : List Moment → Standing → Option Timer → PatienceData → Type 0
+MayStart past standing timer new = (now : List Moment) × Starts past standing timer now × Fits new now
+
+-- A timer may begin behind one that ended early.
+pub begins_behind : (past : List Moment) (standing : Standing) (timer : Option Timer) (mid new : PatienceData)
+    → MayEndEarly past standing mid → ((left : List Moment) → Fits mid left → MayStart left standing timer new)
+    → MayBegin past standing timer new
+begins_behind past standing timer mid new turned starts =
+    let started = starts turned.0 turned.2 in
+    (started.0, (turned.0, turned.1, started.1), started.2)
 
 -- p: the patience by its fields, which callers see as old
 module _ (p old : PatienceData) (is : p ≡ old) (past : List Moment) (given : Fits old past) (standing : Standing) where
   fits : Fits p past
   fits = subst (λ q. Fits q past) (sym is) given
 
+  -- ---- a timer ends early
+
+  pub none_ends : p.watched ≡ None → MayEndEarly past standing old
+  none_ends e = (past, stays (λ some. absurd (none_is_some (watched past) (sym fits.watches ∙ e) some)), given)
+
+  module _ (wait : Wait) (runs_so : p.watched ≡ Some wait) where
+    pub it_stays : wait_of standing ≡ Some wait → MayEndEarly past standing old
+    it_stays e = (past, stays (λ some. inl (e ∙ sym runs_so ∙ fits.watches)), given)
+
+    pub it_goes_on : is_some standing.view ≡ false → ((v : View) → wait ≡ ViewWait v → ⊥) → MayEndEarly past standing old
+    it_goes_on active other =
+        (past, stays (λ some. inr (active, λ v e. other v (some_same (sym runs_so ∙ fits.watches ∙ e)))), given)
+
+    pub it_follows : (new : ℕ) → new ≡ min (2 * p.lasts) LONGEST → (wait_of standing ≡ Some wait → ⊥)
+        → is_some standing.view ≡ true → MayEndEarly past standing (record p { watched = None; lasts = new })
+    it_follows new is other left = (
+      followed ∷ past,
+      follows (ap is_some (sym fits.watches ∙ runs_so)) (λ e. other (e ∙ sym fits.watches ∙ runs_so)) left,
+      record {
+        links = fits.links;
+        number = fits.number;
+        watches = refl;
+        lasts = is ∙ ap (λ n. min (2 * n) LONGEST) fits.lasts;
+        counts = fits.counts;
+      },
+    )
+
+    pub it_enters : (v : View) → wait ≡ ViewWait v → is_some standing.view ≡ false
+        → MayEndEarly past standing (record p { watched = None })
+    it_enters v e active = (
+      entered ∷ past,
+      enters v (sym fits.watches ∙ runs_so ∙ ap Some e) active,
+      record { links = fits.links; number = fits.number; watches = refl; lasts = fits.lasts; counts = fits.counts },
+    )
+
   -- ---- a timer begins, or none does
 
-  pub one_runs : is_some p.watched ≡ true → MayBegin past standing None old
+  pub one_runs : is_some p.watched ≡ true → MayStart past standing None old
   one_runs e = (past, runs (ap is_some (sym fits.watches) ∙ e), given)
 
-  pub none_wanted : wait_of standing ≡ None → MayBegin past standing None old
+  pub none_wanted : wait_of standing ≡ None → MayStart past standing None old
   none_wanted e = (past, waits_not e, given)
 
   pub one_begins : (wait : Wait) → is_some p.watched ≡ false → wait_of standing ≡ Some wait
-      → MayBegin past standing (Some (record { number = (p.number + 1) % 2 ^ 64; milliseconds = p.lasts }))
+      → MayStart past standing (Some (record { number = (p.number + 1) % 2 ^ 64; milliseconds = p.lasts }))
       (record p { number = (p.number + 1) % 2 ^ 64; watched = Some wait })
   one_begins wait none e =
       let number : (p.number + 1) % 2 ^ 64 ≡ suc (last_number past) % 2 ^ 64 = omega (arith, fits.number) in (

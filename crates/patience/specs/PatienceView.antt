@@ -1,6 +1,6 @@
 -- What callers see of a replica's patience.
 use Rattle.std.specs.Prelude.{◌≡◌, ℕ, min, Bool, List, Option}
-use Rattle.patience.specs.Moments.{Moment, last_number, watched, is_linked, costly, lasts, Begins, Ends}
+use Rattle.patience.specs.Moments.{Moment, last_number, watched, is_linked, costly, lasts, EndsEarly, Begins, Ends}
 use Rattle.patience.specs.declared.patience.Timer.{Timer}
 use Rattle.patience.specs.declared.standing.Standing.{Standing}
 use Rattle.patience.specs.declared.standing.Wait.{Wait}
@@ -21,6 +21,10 @@ pub record Fits (p : PatienceData) (past : List Moment) : Type 0 where
   pub watches : p.watched ≡ watched past
   pub lasts : p.lasts ≡ lasts past
   pub counts : p.costly ≡ min (costly past) 255
+
+-- The timer that runs ends early, or goes on.
+abbrev pub MayEndEarly : List Moment → Standing → PatienceData → Type 0
+MayEndEarly past standing new = (left : List Moment) × EndsEarly past standing left × Fits new left
 
 -- A timer begins now, or none does.
 abbrev pub MayBegin : List Moment → Standing → Option Timer → PatienceData → Type 0

@@ -8,6 +8,11 @@
 //! a timeout only if it still waits for the same when the timer is over. Then the next timer lasts twice as long. If it
 //! waits for something else, or for nothing, the next one lasts half as long. The first lasts two seconds.
 //!
+//! Each view has its own time. If the replica follows others out of its view, or to a later one, the timer ends early, and
+//! the next one lasts twice as long, as it does at those who had a timeout. If it enters the view that it waited for, the
+//! timer ends early too. The next one lasts as long, until a request is executed in that view (Castro and Liskov, TOCS
+//! 2002, on liveness).
+//!
 //! No view begins without a quorum. So a replica that is linked to fewer than 2f others gets no timeout: it would sign
 //! view changes that nobody gets, and then follow the others by transfers alone.
 //!

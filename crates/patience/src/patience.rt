@@ -1,6 +1,6 @@
 //! Timers.
 
-ghost use Rattle.std.specs.Prelude.{◌≡◌, ◌≤◌, List, [], ◌∷◌};
+ghost use Rattle.std.specs.Prelude.{◌≡◌, ◌≤◌, ◌*◌, min, List, [], ◌∷◌};
 ghost use Rattle.patience.specs.Moments.{shortest};
 
 use crate::standing::{Standing, Wait};
@@ -55,7 +55,7 @@ impl Model for Patience {
 
 impl Patience {
     ghost use Rattle.patience.specs.Moments.{Moment, linked};
-    ghost use Rattle.patience.specs.PatienceView.{Fits, MayBegin, MayEnd};
+    ghost use Rattle.patience.specs.PatienceView.{Fits, MayEndEarly, MayBegin, MayEnd};
 
     /// That of a replica that gets timeouts only while so many others are linked. Until it is told of links, they are.
     pub fn new(needed: u8) -> Patience
@@ -80,11 +80,12 @@ impl Patience {
         self.is_linked = count >= self.needed;
     }
 
-    /// The timer that begins now, if one does.
+    /// The timer that begins now, if one does. It takes the place of one that runs if the replica came to another view.
     pub fn begins(&mut self, standing: &Standing) -> Option<Timer>
         ensures fits { (past : List Moment) → Fits self.old past → MayBegin past standing.now result self.new }
         ensures needed { self.new.needed ≡ self.old.needed }
     {
+        self.end_early(standing);
         if self.watched.is_some() {
             return None;
         }
@@ -95,6 +96,27 @@ impl Patience {
             number: self.number,
             milliseconds: self.lasts,
         })
+    }
+
+    // Ends the timer that runs, before it is over, if the replica came to another view.
+    fn end_early(&mut self, standing: &Standing)
+        ensures fits { (past : List Moment) → Fits self.old past → MayEndEarly past standing.now self.new }
+        ensures needed { self.new.needed ≡ self.old.needed }
+    {
+        let Some(wait) = self.watched else {
+            return;
+        };
+        if standing.waits_for(wait) {
+            return;
+        }
+        if standing.view.is_some() {
+            self.watched = None;
+            self.lasts = twice(self.lasts);
+            return;
+        }
+        if let Wait::View(_) = wait {
+            self.watched = None;
+        }
     }
 
     /// Takes note that the timer of this number is over. Gives whether the replica gets a timeout.
@@ -117,12 +139,20 @@ impl Patience {
         if !self.is_linked {
             return false;
         }
-        self.lasts = (2 * self.lasts).min(LONGEST);
+        self.lasts = twice(self.lasts);
         if standing.may_sign() {
             self.costly = self.costly.saturating_add(1);
         }
         true
     }
+}
+
+// Twice as many milliseconds, as far as a timer lasts.
+fn twice(milliseconds: u32) -> u32
+    requires { milliseconds ≤ LONGEST }
+    ensures { result ≡ min (2 * milliseconds) LONGEST }
+{
+    (2 * milliseconds).min(LONGEST)
 }
 
 // The fewest milliseconds of a timer after so many timeouts that may cost a signature.

@@ -1,13 +1,13 @@
 //! What a replica waits for.
 
 use state_transfer::Place;
-use terms::{Number, Timestamp};
+use terms::{Number, Timestamp, View};
 
 /// What a replica waits for. The execution of a request is told by its client's number and its timestamp.
 #[derive(Clone, Copy, PartialEq, Eq, Drop)]
 pub enum Wait {
-    /// The replica is inactive: no later view has begun.
-    View,
+    /// The replica is inactive: it sent a view change for this view, which has not begun.
+    View(View),
     /// The open transfer awaits this part of the state of this number.
     Part(Number, Place),
     /// This request, which has waited longest.
@@ -17,8 +17,8 @@ pub enum Wait {
 /// How a replica stands between two events.
 #[derive(Clone, Copy, Drop)]
 pub struct Standing {
-    /// Whether it has left its view and no later one has begun.
-    pub is_inactive: bool,
+    /// The view that it sent its last view change for, if it is inactive: no view since the one that it left has begun.
+    pub view: Option<View>,
     /// The part that its open transfer awaits: the number of the state, and the place.
     pub part: Option<(Number, Place)>,
     /// The request that has waited longest: its client's number, and its timestamp.
@@ -33,8 +33,8 @@ impl Standing {
     pub fn wait(&self) -> Option<Wait>
         ensures { result ≡ wait_of self.now }
     {
-        if self.is_inactive {
-            return Some(Wait::View);
+        if let Some(view) = self.view {
+            return Some(Wait::View(view));
         }
         if let Some((number, place)) = self.part {
             return Some(Wait::Part(number, place));
@@ -54,6 +54,6 @@ impl Standing {
     pub fn may_sign(&self) -> bool
         ensures { result ≡ may_sign self.now }
     {
-        self.is_inactive || self.request.is_some()
+        self.view.is_some() || self.request.is_some()
     }
 }

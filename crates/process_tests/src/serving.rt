@@ -38,7 +38,7 @@ impl Machine for Echo {
 
     fn standing(&self) -> Standing {
         Standing {
-            is_inactive: false,
+            view: None,
             part: None,
             request: self.request(),
         }

@@ -2,14 +2,15 @@
 
 use patience::{Patience, Standing, Timer};
 use state_transfer::Place;
-use terms::{Level, Number, Timestamp};
+use terms::{Level, Number, Timestamp, View};
 
-// How a replica stands: it waits for nothing; it is inactive; it waits for the first page of state 16, or the second one,
-// without or with a request; for the request 1 of client 0; or for its request 2.
+// How a replica stands: it waits for nothing; it is inactive and waits for view 1, or for view 2; it waits for the first
+// page of state 16, or the second one, without or with a request; for the request 1 of client 0; or for its request 2.
 #[derive(Clone, Copy, PartialEq, Eq)]
 enum Stands {
     Idle,
     Inactive,
+    Later,
     First,
     Second,
     FirstWithRequest,
@@ -28,8 +29,13 @@ fn standing(stands: Stands) -> Standing {
         Stands::Two => Some((0, Timestamp(2))),
         _ => None,
     };
+    let view = match stands {
+        Stands::Inactive => Some(View(1)),
+        Stands::Later => Some(View(2)),
+        _ => None,
+    };
     Standing {
-        is_inactive: stands == Stands::Inactive,
+        view,
         part,
         request,
     }
@@ -104,7 +110,7 @@ static REQUEST: [Step; 12] = [
 ];
 
 // A part before a request, and a view before a part. Only the same part is asked for again.
-static ORDER: [Step; 10] = [
+static ORDER: [Step; 11] = [
     Step::Begins(Stands::FirstWithRequest, 2_000),
     Step::GivesNothing(Stands::One),
     Step::Begins(Stands::First, 2_000),
@@ -115,6 +121,26 @@ static ORDER: [Step; 10] = [
     Step::Gives(Stands::First),
     Step::Begins(Stands::Inactive, 4_000),
     Step::Gives(Stands::Inactive),
+    Step::Begins(Stands::Inactive, 8_000),
+];
+
+// Each view has its own time: twice as much if the replica follows others, as much again if it enters a view, and half
+// as much once a request was executed there. The timers that ended early give nothing.
+static FOLLOWS: [Step; 14] = [
+    Step::Begins(Stands::One, 2_000),
+    Step::Begins(Stands::Inactive, 4_000),
+    Step::NoneBegins(Stands::Inactive),
+    Step::Stale(1),
+    Step::Begins(Stands::Later, 8_000),
+    Step::Stale(2),
+    Step::Begins(Stands::One, 8_000),
+    Step::NoneBegins(Stands::Two),
+    Step::Gives(Stands::One),
+    Step::Begins(Stands::Inactive, 16_000),
+    Step::Begins(Stands::One, 16_000),
+    Step::GivesNothing(Stands::Two),
+    Step::NoneBegins(Stands::Idle),
+    Step::Begins(Stands::Two, 8_000),
 ];
 
 // Linked to one other of the two that are needed: no timeout, and no longer timer.
@@ -136,6 +162,7 @@ fn rows_go_as_they_say(rt: HostRuntime) {
     assert!(rt; goes(&REQUEST), "a request");
     assert!(rt; goes(&ORDER), "a part, a view");
     assert!(rt; goes(&LINKS), "few links");
+    assert!(rt; goes(&FOLLOWS), "a view after a view");
 }
 
 // The timers of a replica that is inactive all the while.

@@ -8,7 +8,7 @@ use Rattle.terms.specs.declared.state.Level.{Level}
 use Rattle.state_transfer.specs.declared.place.Place.{Place}
 use Rattle.state_transfer.specs.Transfer.{TransferData}
 use Rattle.patience.specs.declared.standing.Standing.{Standing}
-use Rattle.patience.specs.Stands.{Stands, awaited, oldest, part_of, request_of}
+use Rattle.patience.specs.Stands.{Stands, aimed_at, awaited, oldest, part_of, request_of}
 use Rattle.protocol.specs.System.Configuration.{Configuration}
 use Rattle.protocol.specs.System.Reads.{without_reads}
 use Rattle.protocol.specs.System.Trace.{Entry}
@@ -88,6 +88,11 @@ not_active a b = go (nat_le b a) refl
     go true h = let most = leb-true b a h in sym (le-ltb a b most)
     go false h = let less = leb-false b a h in sym (lt-ltb a b less)
 
+aimed : (c : Configuration) (history : List Entry) (active : Bool) (aims : ℕ) → target history ≡ aims
+    → not active ≡ nat_lt (view c history) (target history) → then_some (not active) aims ≡ aimed_at c history
+aimed c history active aims same left =
+    ap (then_some (not active)) (sym same) ∙ ap (λ (b : Bool). then_some b (target history)) left
+
 -- ---- both parts
 
 both_stand : (c : Configuration) (r : BothPartsData) (history : List Entry) (standing : Standing)
@@ -95,11 +100,13 @@ both_stand : (c : Configuration) (r : BothPartsData) (history : List Entry) (sta
 both_stand c r history standing runs are =
     let held = runs.holds.of_desk in
     let log = runs.holds.of_log.fits in
+    let left : not r.orderer.log.active ≡ nat_lt (view c history) (target history) =
+    ap not (sym log.active ∙ ap (nat_le (target history)) (sym log.view)) ∙ not_active (view c history) (target history) in
+    let aims = are.view ∙ aimed c history r.orderer.log.active r.orderer.target runs.changes.target left in
     record {
       point = held.point;
       reaches = proceeds_leaves c (me_of r) history [] held.point held.point held.proceeds;
-      inactive = are.inactive ∙ ap not (sym log.active ∙ ap (nat_le (target history)) (sym log.view))
-          ∙ not_active (view c history) (target history);
+      view = aims;
       part = part_is c (me_of r) r.desk.executed.state.number r.desk history standing.part held.opened are.part
           ∙ ap (λ (p : Point). awaited history p) (sym held.is);
       request = ap (option_map request_of) are.request ∙ request_is c r.desk.waiting.requests

@@ -11,7 +11,7 @@ impl BothParts {
         ensures { AreStanding self.now result }
     {
         Standing {
-            is_inactive: !self.orderer.is_active(),
+            view: (!self.orderer.is_active()).then_some(self.orderer.target()),
             part: self.desk.asked(),
             request: self.desk.oldest_waiting(),
         }

@@ -29,7 +29,7 @@ impl Machine for Replica {
             Some(standing) => standing,
             // One that has stopped waits for nothing.
             None => Standing {
-                is_inactive: false,
+                view: None,
                 part: None,
                 request: None,
             },

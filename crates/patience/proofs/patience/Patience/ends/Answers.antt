@@ -23,11 +23,11 @@ returns-then-not-self-clause-fits c past fits =
 
 pub returns-then-may_sign-clause-fits : goal.returns-then-may_sign-clause-fits
 returns-then-may_sign-clause-fits c past fits =
-    it_costs _ _ c.self.view_is past fits c.args.standing.now c.args.number c.in-Some.wait c.if-number-self.false c.in-Some.is _ _ c.min-self-inside.ensures
+    it_costs _ _ c.self.view_is past fits c.args.standing.now c.args.number c.in-Some.wait c.if-number-self.false c.in-Some.is _ _ c.twice-self-inside.ensures
     (c.waits_for.ensures.0 c.if-not-waits_for.false) c.if-not-self.false (sym c.may_sign.ensures ∙ c.if-may_sign.true)
     c.saturating_add-self-inside.ensures
 
 pub returns-else-may_sign-clause-fits : goal.returns-else-may_sign-clause-fits
 returns-else-may_sign-clause-fits c past fits =
-    it_is_free _ _ c.self.view_is past fits c.args.standing.now c.args.number c.in-Some.wait c.if-number-self.false c.in-Some.is _ c.min-self-inside.ensures
+    it_is_free _ _ c.self.view_is past fits c.args.standing.now c.args.number c.in-Some.wait c.if-number-self.false c.in-Some.is _ c.twice-self-inside.ensures
     (c.waits_for.ensures.0 c.if-not-waits_for.false) c.if-not-self.false (sym c.may_sign.ensures ∙ c.if-may_sign.false)
