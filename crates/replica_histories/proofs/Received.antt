@@ -2,9 +2,9 @@
 use Rattle.std.proofs.Common.{◌≡◌, ◌≢◌, ℕ, zero, suc, ◌≤◌, ◌<◌, ◌⊎◌, inl, inr, Bool, true, false, cond, ◌&&◌, not, List, [], ◌∷◌, length, replicate, max, Option, Some, None, slice_set, refl, sym, ap, ◌∙◌, subst, arith, eqb-true, eq-eqb}
 use Rattle.std.specs.Prelude.{◌==◌, nat_lt}
 use Rattle.std.specs.Option.{option_map_or}
-use Rattle.std.proofs.lemmas.Bool.{eqb-false, lt-ltb, ltb-true, ltb-false}
+use Rattle.std.proofs.lemmas.Bool.{and_parts, eqb-false, lt-ltb, ltb-true, ltb-false}
 use Rattle.wire_format.specs.Messages.{ViewChangeData}
-use Rattle.protocol.specs.System.Configuration.{Configuration}
+use Rattle.protocol.specs.System.Configuration.{Configuration, is_number}
 use Rattle.protocol.specs.System.Trace.{Entry, Once}
 use Rattle.protocol.specs.System.Trace.Entry.{Got, Sent}
 use Rattle.protocol.specs.Replica.Selection.{is_within, signed_change}
@@ -15,6 +15,7 @@ use Rattle.protocol.proofs.Words.Options.{some_injective}
 use Rattle.view_change.specs.declared.change_fault.ChangeFault.{ChangeFault}
 use Rattle.view_change.specs.declared.change_fault.ChangeFault.TheVariants.{WrongView, OutOfBounds, Duplicate}
 use Rattle.view_change.specs.ReceivedData.{HeldData, held_of, with_held}
+use Rattle.view_change.proofs.Judging.{within_view}
 use Rattle.replica_histories.specs.Received.{held_view, ReceivedBegin, ReceivedStays, SentBringNone, UnsignedBringNone, RefusedBringNone, ReceivedTakes, ReceivedOwn}
 
 -- ---- places
@@ -82,12 +83,15 @@ received_stays c me past e held same f =
     taken x other (inl b) latest = let stays = same x.0 other in let newer = brings_newer c x past e b in absurd (omega (arith, stays, newer, latest))
     taken x other (inr once) latest = f.taken x other once (sym (same x.0 other) ∙ latest)
 
--- the replica refuses it if one of three tests fails
-refused_by : (a b d : Bool) (fault : ChangeFault) → cond (not a) (Some WrongView) (cond (not b) (Some OutOfBounds) (cond (not d) (Some Duplicate) None)) ≡ Some fault → ((a && b) ≡ false) ⊎ (d ≡ false)
-refused_by false b d fault h = inl refl
-refused_by true false d fault h = inl refl
-refused_by true true false fault h = inr refl
-refused_by true true true fault h = absurd cc
+-- the replica refuses it if one of its tests fails: the view is above, it is below 2^48, as each within the bounds is, the
+-- view change is within them, and it is newer
+refused_by : (a n b d : Bool) (fault : ChangeFault) → (b ≡ true → n ≡ true) → cond (not (a && n)) (Some WrongView) (cond (not b) (Some OutOfBounds) (cond (not d) (Some Duplicate) None)) ≡ Some fault
+    → ((a && b) ≡ false) ⊎ (d ≡ false)
+refused_by false n b d fault number h = inl refl
+refused_by true n false d fault number h = inl refl
+refused_by true n true false fault number h = inr refl
+refused_by true false true true fault number h = absurd (let bad = number refl in cc)
+refused_by true true true true fault number h = absurd cc
 
 -- and takes it if all three pass
 taken_by : (a b d : Bool) → cond (not a) (Some WrongView) (cond (not b) (Some OutOfBounds) (cond (not d) (Some Duplicate) None)) ≡ None → (a ≡ true) × (b ≡ true) × (d ≡ true)
@@ -126,7 +130,7 @@ refused_bring_none c me s bytes past held x fault signed refused other f =
     omega arith
   where
     by : ((nat_lt (view c past) x.1.view && is_within c x.1) ≡ false) ⊎ (option_map_or (λ (h : HeldData). nat_lt h.change.view x.1.view) (held_of held x.0) true ≡ false)
-    by = refused_by (nat_lt (view c past) x.1.view) (is_within c x.1) (option_map_or (λ (h : HeldData). nat_lt h.change.view x.1.view) (held_of held x.0) true) fault refused
+    by = refused_by (nat_lt (view c past) x.1.view) (is_number x.1.view) (is_within c x.1) (option_map_or (λ (h : HeldData). nat_lt h.change.view x.1.view) (held_of held x.0) true) fault (within_view c x.1) refused
 
     none : (a b : Bool) → (a && b) ≡ false → cond (a && b) x.1.view 0 ≡ 0
     none a b h = rw h refl
@@ -156,7 +160,9 @@ received_takes c me s bytes past held vc signed taken l f = record { latest = la
     h = record { sender = s; change = vc; frame = bytes }
 
     tests : (nat_lt (view c past) vc.view ≡ true) × (is_within c vc ≡ true) × (option_map_or (λ (x : HeldData). nat_lt x.change.view vc.view) (held_of held s) true ≡ true)
-    tests = taken_by (nat_lt (view c past) vc.view) (is_within c vc) (option_map_or (λ (x : HeldData). nat_lt x.change.view vc.view) (held_of held s) true) taken
+    tests =
+        let passed = taken_by (nat_lt (view c past) vc.view && is_number vc.view) (is_within c vc) (option_map_or (λ (x : HeldData). nat_lt x.change.view vc.view) (held_of held s) true) taken in
+        ((and_parts (nat_lt (view c past) vc.view) (is_number vc.view) passed.0).0, passed.1, passed.2)
 
     latest : (r : ℕ) → r ≢ me → latest_change c (Got me bytes ∷ past) r ≡ held_view (with_held h held) r
     latest r other = go (s == r) refl

@@ -1,3 +1,4 @@
+pub mod Determining
 pub mod Finding
 pub mod Seeking
 pub mod Starting

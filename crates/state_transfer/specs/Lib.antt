@@ -1,3 +1,4 @@
+pub mod Determining
 pub mod Differences
 pub mod Keeping
 pub mod Places

@@ -3,6 +3,7 @@
 ghost use Rattle.std.specs.Prelude.{◌≡◌, ◌≢◌, ◌↔◌, ◌<◌, Some, None, IfOk, IfErr, IfNone, IfSome, IsTrue, OnOk, OnErr, length, option_copied, slice_index_or};
 ghost use Rattle.sha2.specs.Sha256.{sha256};
 ghost use Rattle.partition_tree.specs.Digests.{digest_of_children, root_of};
+ghost use Rattle.state_transfer.specs.Determining.{AreThePagesOf};
 ghost use Rattle.state_transfer.specs.Places.{IsPlace, page_place};
 ghost use Rattle.state_transfer.specs.Seeking.{IsFirstMissing};
 ghost use Rattle.state_transfer.specs.Taking.{IsAskedLast, DigestIsKnown, IsMetaAsked, RefusesMeta, RefusesPage};
@@ -108,10 +109,12 @@ impl Transfer {
         &self.held
     }
 
-    /// The pages of the wanted state if the held pages have its root, or `None` while a place is missing.
+    /// The pages of the wanted state if the held pages have its root, or `None` while a place is missing. No other pages
+    /// have this root, unless texts over these and over those collide.
     pub fn finish(&self) -> Option<&Tree>
         ensures pages { IfSome result (λ pages. pages.now ≡ self.now.held) }
         ensures root { IfSome result (λ pages. root_of pages.now ≡ self.now.root) }
+        ensures only { IfSome result (λ pages. AreThePagesOf self.now.root pages.now) }
         ensures missing { IfNone result (root_of self.now.held ≢ self.now.root) }
     {
         if self.held.root() != self.root {

@@ -11,7 +11,7 @@ use Rattle.wire_format.specs.Lists.{Each, ascends, leads}
 use Rattle.wire_format.specs.Messages.{ViewChangeData}
 use Rattle.wire_format.specs.Spelling.{IsCarried, is_view_change, sender_before, sender_in}
 use Rattle.protocol.specs.System.Trace.{Has}
-use Rattle.protocol.specs.System.Configuration.{Configuration}
+use Rattle.protocol.specs.System.Configuration.{Configuration, is_number}
 use Rattle.protocol.specs.Replica.Selection.{ascending, is_within, signed_change}
 use Rattle.view_change.specs.declared.change_fault.ChangeFault.TheVariants.{WrongView, OutOfBounds, Duplicate}
 use Rattle.view_change.specs.ReceivedData.{HeldData, held_for, held_of, pairs_for, frames_for, view_change_refusal, with_held, IsHeldAt, AreHeldFrom, IsHeldSet, IsJoined}
@@ -60,7 +60,7 @@ has_place r bytes x are signed = let l = (signed_is (judging_configuration r) by
 
 -- a view change without a fault is within its bounds
 pub taken_within : (c : Configuration) (view : ℕ) (held : List (Option HeldData)) (x : ℕ × ViewChangeData) → view_change_refusal c view held x ≡ None → is_within c x.1 ≡ true
-taken_within c view held x = go (nat_lt view x.1.view) (is_within c x.1) (option_map_or (λ h. nat_lt h.change.view x.1.view) (held_of held x.0) true)
+taken_within c view held x = go (nat_lt view x.1.view && is_number x.1.view) (is_within c x.1) (option_map_or (λ h. nat_lt h.change.view x.1.view) (held_of held x.0) true)
   where
     go : (a b d : Bool) → cond (not a) (Some WrongView) (cond (not b) (Some OutOfBounds) (cond (not d) (Some Duplicate) None)) ≡ None → b ≡ true
     go false b d h = absurd cc

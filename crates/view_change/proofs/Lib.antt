@@ -5,7 +5,7 @@ mod Supporting
 mod Deciding
 mod Gaps
 mod Holding
-mod Judging
+pub mod Judging
 pub mod Larger
 mod Mapped
 pub mod Opening

@@ -6,7 +6,7 @@ use Rattle.wire_format.specs.Words.{frame_of}
 use Rattle.wire_format.specs.Spelling.{is_signed}
 use Rattle.authenticator.specs.Membership.{sends}
 use Rattle.signing.specs.AuthenticBody.{has_signature, is_signed_frame, signed_body}
-use Rattle.protocol.specs.System.Configuration.{Configuration, primary, signers}
+use Rattle.protocol.specs.System.Configuration.{Configuration, is_number, primary, signers}
 use Rattle.protocol.specs.Replica.Certificates.{is_later}
 use Rattle.protocol.specs.Replica.Selection.{change_in, changes_of, count_in, is_quorum, is_within, list_of, may_select, signed_change}
 use Rattle.view_change.specs.declared.fault.NewViewFault.{NewViewFault}
@@ -120,10 +120,10 @@ refused_same : (c d : Configuration) → AreAlikeConfigurations c d → (view ta
 unfolding by_tests enough_in
 refused_same c d alike view target sender new =
     let changes = of_changes c d alike new in
-    ap (λ b. by_tests b (is_later view target new) (length (changes_of c new) == length new.changes) (enough_in c (changes_of c new)) (may_select c new)) (sent_same c d alike sender new.view)
-    ∙ ap (λ (set : List (ℕ × ViewChangeData)). by_tests (sender == primary d new.view) (is_later view target new) (length set == length new.changes) (enough_in c set) (may_select c new)) changes
-    ∙ ap (λ b. by_tests (sender == primary d new.view) (is_later view target new) (length (changes_of d new) == length new.changes) b (may_select c new)) (enough_same c d alike (changes_of d new))
-    ∙ ap (by_tests (sender == primary d new.view) (is_later view target new) (length (changes_of d new) == length new.changes) (enough_in d (changes_of d new))) (selected_same c d alike new)
+    ap (λ b. by_tests b (is_later view target new && is_number new.view) (length (changes_of c new) == length new.changes) (enough_in c (changes_of c new)) (may_select c new)) (sent_same c d alike sender new.view)
+    ∙ ap (λ (set : List (ℕ × ViewChangeData)). by_tests (sender == primary d new.view) (is_later view target new && is_number new.view) (length set == length new.changes) (enough_in c set) (may_select c new)) changes
+    ∙ ap (λ b. by_tests (sender == primary d new.view) (is_later view target new && is_number new.view) (length (changes_of d new) == length new.changes) b (may_select c new)) (enough_same c d alike (changes_of d new))
+    ∙ ap (by_tests (sender == primary d new.view) (is_later view target new && is_number new.view) (length (changes_of d new) == length new.changes) (enough_in d (changes_of d new))) (selected_same c d alike new)
 
 pub sizes_decide : SizesDecide
 sizes_decide c d alike = record {

@@ -3,7 +3,7 @@
 use Rattle.std.specs.Prelude.{◌≡◌, ℕ, suc, ◌+◌, ◌*◌, ◌≤◌, ◌<◌, true, not, List, [], ◌∷◌, length, map, nat_lt, ◌==◌, ◌&&◌, if◌then◌else◌, Option, Some, None, option_and_then, slice_get, slice_set, ⊤}
 use Rattle.std.specs.Bool.{then_some}
 use Rattle.std.specs.Option.{option_map_or}
-use Rattle.protocol.specs.System.Configuration.{Configuration}
+use Rattle.protocol.specs.System.Configuration.{Configuration, is_number}
 use Rattle.protocol.specs.System.Trace.{Has}
 use Rattle.protocol.specs.Replica.Selection.{ascending, is_within, list_of, signed_change}
 use Rattle.wire_format.specs.Lists.{Each, ascends}
@@ -26,10 +26,11 @@ held_of held sender = option_and_then (λ o. o) (slice_get held sender)
 -- ---- which view changes a replica takes
 
 -- The first refusal that applies to a view change of the sender, at a replica that is active in the view or was last:
--- its view is not above that view; it is out of its bounds; or it is not newer than the sender's last.
+-- its view is not above that view, or is 2^48 or more; it is out of its bounds; or it is not newer than the sender's
+-- last.
 abbrev pub view_change_refusal : Configuration → ℕ → List (Option HeldData) → ℕ × ViewChangeData → Option ChangeFault
 view_change_refusal c view held x =
-    if not (nat_lt view x.1.view) then Some WrongView else
+    if not (nat_lt view x.1.view && is_number x.1.view) then Some WrongView else
     if not (is_within c x.1) then Some OutOfBounds else
     if not (option_map_or (λ h. nat_lt h.change.view x.1.view) (held_of held x.0) true) then Some Duplicate else None
 

@@ -9,10 +9,10 @@ pub enum ChangeFault {
     /// It is no view change, or its sender did not sign it.
     #[error("the signature is wrong")]
     BadSignature,
-    /// Its view is not above the last in which the replica was active.
+    /// Its view is not above the last in which the replica was active, or is 2^48 or more.
     #[error("the view is over")]
     WrongView,
-    /// A view or number in it is out of its bounds.
+    /// A view in its entries or a number is out of its bounds.
     #[error("the view change is out of its bounds")]
     OutOfBounds,
     /// Its view is not above that of the sender's last.

@@ -11,7 +11,7 @@ ghost use Rattle.view_change.specs.Refusing as spec;
 ghost use Rattle.view_change.specs.Selecting as selecting;
 ghost use Rattle.view_change.specs.Sets.{all_present, changes_by_sender, signed_changes, sized};
 
-use crate::bounds::{END, are_for, is_ascending};
+use crate::bounds::{END, are_for, is_ascending, is_number};
 use crate::changes::{Change, Rule, Sizes};
 use crate::choosing::stands;
 use crate::fault::NewViewFault;
@@ -156,8 +156,8 @@ fn is_later(view: View, target: View, new: View) -> bool
 /// Checks a new view that a replica received from the sender. The new view's own signature is verified already. The
 /// replica's last new view is of `view`, and its last view change is for `target`, else 0.
 ///
-/// It is Ok exactly if the new view is from the primary of its view, its view is above `view` and at least `target`,
-/// and the rules hold of its view changes, its start and its batches.
+/// It is Ok exactly if the new view is from the primary of its view, its view is above `view`, at least `target` and
+/// below 2^48, and the rules hold of its view changes, its start and its batches.
 ///
 /// # Errors
 ///
@@ -179,7 +179,7 @@ pub fn check_new_view(
     if !is_from_primary(received.sizes(), sender, new.view) {
         return Err(NewViewFault::UnknownSender);
     }
-    if !is_later(view, target, new.view) {
+    if !is_later(view, target, new.view) || !is_number(new.view.0) {
         return Err(NewViewFault::WrongView);
     }
     match refusal_by_rules(alloc, received, new)? {

@@ -9,7 +9,7 @@ pub enum NewViewFault {
     /// It is not from the primary of its view.
     #[error("the new view is not from its primary")]
     UnknownSender,
-    /// Its view is not above the current one, or below that of a view change that was sent.
+    /// Its view is not above the current one, or below that of a view change that was sent, or 2^48 or more.
     #[error("the new view is of another view")]
     WrongView,
     /// It carries bytes that are no view change, or a view change that its sender did not sign.

@@ -12,7 +12,7 @@ ghost use Rattle.view_change.specs.Selecting.{are_for};
 ghost use Rattle.view_change.specs.Sets.{change_pair, changes_by_sender, sized};
 ghost use Rattle.wire_format.specs.Views.{texts_of, view_change_data};
 
-use crate::bounds::is_within;
+use crate::bounds::{is_number, is_within};
 use crate::carried::open_change;
 use crate::change_fault::ChangeFault;
 use crate::changes::{Change, SignedChange, Sizes};
@@ -187,7 +187,8 @@ impl Received {
         ensures { result ≡ spec.view_change_refusal (judging_configuration self.now) view.0 self.now.held
             (change_pair change.now) }
     {
-        if change.change.view.0 <= view.0 {
+        let new = change.change.view;
+        if new.0 <= view.0 || !is_number(new.0) {
             return Some(ChangeFault::WrongView);
         }
         if !is_within(&change.change, self.sizes) {

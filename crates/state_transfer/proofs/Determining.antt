@@ -1,12 +1,12 @@
 -- Equal roots have equal pages, if no digests collide.
-use Rattle.std.proofs.Common.{◌≡◌, ℕ, zero, suc, ◌+◌, ◌-◌, ◌*◌, ◌/◌, ◌%◌, ◌≤◌, ◌<◌, ◌⊎◌, inl, inr, List, [], ◌∷◌, ◌++◌, length, map, take, drop, get_or, refl, sym, ap, ap₂, ◌∙◌, subst, arith}
+use Rattle.std.proofs.Common.{◌≡◌, ℕ, zero, suc, ◌+◌, ◌*◌, ◌/◌, ◌%◌, ◌≤◌, ◌<◌, ◌⊎◌, inl, inr, List, [], ◌∷◌, ◌++◌, length, map, take, drop, get_or, refl, sym, ap, ap₂, ◌∙◌, subst, arith}
 use Rattle.std.specs.List.{concat, range_with_len}
 use Rattle.std.proofs.lemmas.Bool.{cases_order}
 use Rattle.std.proofs.lemmas.List.{same_lists, get_or_default, length-take, length-drop, get_or-take, get_or-drop}
 use Rattle.sha2.specs.Sha256.{sha256}
 use Rattle.sha2.proofs.Facts256.{length-sha256}
 use Rattle.partition_tree.specs.Digests.{page_digests, inner_digests, root_of}
-use Rattle.state_transfer.specs.Determining.{IsHashed, DoNotCollide}
+use Rattle.state_transfer.specs.Determining.{DoNotCollide}
 use Rattle.state_transfer.specs.Determining.IsHashed.{page, inner, top}
 
 -- two lists that begin with equally many elements
@@ -86,7 +86,7 @@ module _ (pages others : List (List ℕ)) (all : length pages ≡ 1024) (alike :
       let n : length pages ≡ length others = all ∙ sym alike in
       let i : 32 * j + r < 1024 = omega arith in
       let digests = list_digests (take 32 (drop (32 * j) pages)) (take 32 (drop (32 * j) others)) (length_part pages others j n)
-          (ap concat (sym (part_is pages j)) ∙ same_part j l ∙ ap concat (part_is others j)) r in
+      (ap concat (sym (part_is pages j)) ∙ same_part j l ∙ ap concat (part_is others j)) r in
       apart (get_or pages (32 * j + r) []) (get_or others (32 * j + r) []) (page (32 * j + r) i) (page (32 * j + r) i)
       (ap sha256 (sym (page_of_part pages j r m)) ∙ digests ∙ ap sha256 (page_of_part others j r m))
 
@@ -102,4 +102,4 @@ module _ (pages others : List (List ℕ)) (all : length pages ≡ 1024) (alike :
       let n : length pages ≡ length others = all ∙ sym alike in
       same_lists pages others n
       (λ k d l. let i : k < 1024 = omega arith in let m : k < length others = omega arith in
-        get_or_default pages k d [] l ∙ same_page k i ∙ get_or_default others k [] d m)
+      get_or_default pages k d [] l ∙ same_page k i ∙ get_or_default others k [] d m)
