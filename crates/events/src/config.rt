@@ -86,6 +86,14 @@ impl Config {
         self.faults
     }
 
+    /// How many replicas may be faulty, by the name of its key in the text of a configuration.
+    pub fn f(&self) -> u8
+        ensures value { result ≡ self.now.faults }
+        ensures valid { IsConfiguration self.now }
+    {
+        self.faults()
+    }
+
     /// How many replicas there are, 4 to 10.
     pub fn replicas(&self) -> u8
         ensures value { result ≡ replicas self.now }
@@ -114,6 +122,30 @@ impl Config {
         ensures valid { IsConfiguration self.now }
     {
         self.period
+    }
+
+    /// The number of batches from one checkpoint to the next, by the name of its key in the text of a configuration.
+    pub fn checkpoint(&self) -> u8
+        ensures value { result ≡ self.now.period }
+        ensures valid { IsConfiguration self.now }
+    {
+        self.period()
+    }
+
+    /// The numbers of the replicas that are named as faulty, in the order in which they were named.
+    pub fn faulty_replicas(&self) -> &[u16]
+        ensures value { result.now ≡ self.now.faulty_replicas }
+        ensures valid { IsConfiguration self.now }
+    {
+        &self.faulty_replicas
+    }
+
+    /// The numbers of the clients that are named as faulty, from 0 on, in the order in which they were named.
+    pub fn faulty_clients(&self) -> &[u16]
+        ensures value { result.now ≡ self.now.faulty_clients }
+        ensures valid { IsConfiguration self.now }
+    {
+        &self.faulty_clients
     }
 
     /// Whether the number is that of a replica that is not named as faulty.

@@ -1,7 +1,7 @@
 //! Which configurations there are, and the entries and outputs of a step.
 
 use crate::answers::holds;
-use events::{Config, Entry, EntryKind};
+use events::{BadConfig, Config, Entry, EntryKind, JournalLimit};
 use std::alloc::Global;
 use terms::{NoMemory, Party, ReplicaId};
 
@@ -53,12 +53,22 @@ fn tells_parties(config: &Config) -> bool {
         && !config.is_correct_client(258)
 }
 
+// Each key of a configuration's text has a reader of its name.
+fn tells_keys(config: &Config) -> bool {
+    config.f() == 1
+        && config.clients() == 2
+        && config.seed() == &[0; 32]
+        && config.checkpoint() == 16
+        && config.faulty_replicas() == [3].as_slice()
+        && config.faulty_clients() == [1].as_slice()
+}
+
 fn others_are_correct(alloc: Global) -> Result<bool, NoMemory> {
     let replicas = Vec::from_slice(alloc, &[3])?;
     let clients = Vec::from_slice(alloc, &[1])?;
     match Config::new(1, 2, [0; 32], 16, replicas, clients) {
         Ok(config) => {
-            let is_right = tells_parties(&config);
+            let is_right = tells_parties(&config) && tells_keys(&config);
             drop(config);
             Ok(is_right)
         }
@@ -69,6 +79,29 @@ fn others_are_correct(alloc: Global) -> Result<bool, NoMemory> {
 #[test]
 fn the_others_are_correct(rt: HostRuntime) {
     holds(&rt, others_are_correct(rt.alloc()));
+}
+
+// How many entries, and whether a journal may have so many.
+static LIMITS: [(u32, bool); 5] = [
+    (0, false),
+    (1, true),
+    (65_536, true),
+    (65_537, false),
+    (u32::MAX, false),
+];
+
+fn limits(entries: u32) -> Option<u32> {
+    match JournalLimit::new(entries) {
+        Ok(limit) => Some(limit.entries),
+        Err(BadConfig) => None,
+    }
+}
+
+#[test]
+fn journals_are_limited(rt: HostRuntime) {
+    for &(entries, is_limit) in &LIMITS {
+        assert!(rt; limits(entries) == if is_limit { Some(entries) } else { None });
+    }
 }
 
 fn is_tick(entry: &Entry) -> bool {
