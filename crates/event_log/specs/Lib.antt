@@ -1,0 +1,5 @@
+pub mod Events
+pub mod Finding
+pub mod Groups
+pub mod Logs
+pub mod Standing
