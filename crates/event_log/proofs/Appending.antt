@@ -1,10 +1,10 @@
 -- What a write at the end of a file, and a cut, leave of it.
-use Rattle.std.proofs.Common.{◌≡◌, ℕ, ◌+◌, ◌-◌, ◌≤◌, ◌<◌, List, [], ◌++◌, length, take, drop, get_or, refl, sym, ◌∙◌, ap, subst, arith, get_or-take, length-append, length-take, append_assoc}
+use Rattle.std.proofs.Common.{◌≡◌, ℕ, ◌+◌, ◌-◌, ◌≤◌, ◌<◌, List, [], ◌++◌, length, take, drop, get_or, refl, sym, ◌∙◌, ap, subst, arith, get_or-take, length-append, length-take}
 use Rattle.std.proofs.Common.{inl, inr}
-use Rattle.std.proofs.lemmas.List.{append-nil, drop_all, get_or_append_left, get_or-append_right, take-append-drop, ext_get_or, append_cancel_left}
+use Rattle.std.proofs.lemmas.List.{append-nil, drop_all, get_or_append_left, get_or-append_right, take-append-drop, ext_get_or}
 use Rattle.std.proofs.lemmas.Bool.{cases_lt}
-use Rattle.sqlite_disk.specs.Disk.{Holds, Torn, Cut, Follows, Only}
-use Rattle.event_log.specs.Logs.{log_bytes, BeginsWith, Keeps, Reads}
+use Rattle.sqlite_disk.specs.Disk.{Holds, Torn, Cut, Follows}
+use Rattle.event_log.specs.Logs.{log_bytes, BeginsWith, Keeps}
 use Rattle.event_log.specs.declared.owner.Owner.{Owner}
 
 -- a file that is as long at least and has the same bytes

@@ -1,11 +1,10 @@
 -- What private functions say of groups.
-use Rattle.std.proofs.Common.{◌≡◌, ℕ, ◌+◌, ◌<◌, ◌≤◌, ◌^◌, Bool, false, nat_eq, List, [], ◌∷◌, ◌++◌, length, take, drop, refl, sym, ◌∙◌, ap, arith, append_assoc, length-append, inl, inr}
+use Rattle.std.proofs.Common.{◌≡◌, ℕ, ◌+◌, ◌<◌, ◌≤◌, ◌^◌, Bool, false, nat_eq, List, [], ◌∷◌, ◌++◌, length, refl, sym, ◌∙◌, ap, arith, append_assoc, length-append, inl, inr}
 use Rattle.std.proofs.lemmas.Bool.{cases_lt, eqb-false}
-use Rattle.std.specs.Int.{w32, w64, to_be_bytes}
 use Rattle.std.proofs.lemmas.List.{append-nil, length_push}
 use Rattle.event_log.specs.Events.{event_bytes, events_bytes, HasNoEvent, IsFirstEvent}
 use Rattle.event_log.specs.Groups.{AreEvents, AreEventsBefore, AreNoEvents}
-use Rattle.event_log.proofs.Framing.{one_event, event_len, head_short, tail_short, events_push, event_spread}
+use Rattle.event_log.proofs.Framing.{one_event, event_len, head_short, tail_short, events_push}
 
 -- ---- counting
 
@@ -39,7 +38,7 @@ all_counted bytes rest count before nothing =
       whole = before.whole ∙ ap (λ (l : List ℕ). events_bytes before.events ++ l) nothing ∙ append-nil (events_bytes before.events);
     }
 
-split_events : (done events : List (List ℕ)) (rest : List ℕ) → length (events_bytes events) < 2 ^ 32 → events_bytes done ++ rest ≡ events_bytes events → HasNoEvent rest → rest ≡ []
+pub split_events : (done events : List (List ℕ)) (rest : List ℕ) → length (events_bytes events) < 2 ^ 32 → events_bytes done ++ rest ≡ events_bytes events → HasNoEvent rest → rest ≡ []
 split_events [] [] rest short e none = e
 split_events [] (event ∷ events) rest short e none =
     absurd (none event (events_bytes events) (record { short = head_short event events (2 ^ 32) short; whole = e }))

@@ -1,5 +1,5 @@
 -- Where a sound group begins, and where none does.
-use Rattle.std.proofs.Common.{◌≡◌, ℕ, ◌+◌, ◌-◌, ◌<◌, ◌≤◌, ◌^◌, Bool, true, false, Option, Some, None, MatchOption, List, [], ◌∷◌, ◌++◌, length, take, drop, get_or, refl, sym, ◌∙◌, ap, subst, arith, append_assoc, length-append, length-take, get_or-take}
+use Rattle.std.proofs.Common.{◌≡◌, ℕ, ◌+◌, ◌-◌, ◌<◌, ◌≤◌, Bool, true, false, Option, Some, None, MatchOption, List, [], ◌++◌, length, take, drop, get_or, refl, sym, ◌∙◌, ap, subst, arith, append_assoc, length-append, get_or-take}
 use Rattle.std.proofs.Common.{inl, inr}
 use Rattle.std.specs.Int.{w32, w64, to_be_bytes}
 use Rattle.std.proofs.lemmas.List.{take_at, drop_at, take-append-drop, length-take-le, length-drop, get_or-drop, get_or_append_left, append_cancel_left, ext_get_or}
@@ -8,7 +8,7 @@ use Rattle.memchr.specs.Find.{OccursAt, FindsNeedle, Nowhere}
 use Rattle.sqlite_disk.specs.Disk.{Holds}
 use Rattle.sqlite_disk.specs.Digest.{digest}
 use Rattle.event_log.specs.Events.{events_bytes}
-use Rattle.event_log.specs.Groups.{body_bytes, framed_bytes, group_bytes, IsGroup, BeginsWithGroup, IsGroupOf, IsNoGroup, SaysText, SaysNone}
+use Rattle.event_log.specs.Groups.{body_bytes, framed_bytes, group_bytes, BeginsWithGroup, IsGroupOf, IsNoGroup, SaysText, SaysNone}
 use Rattle.event_log.specs.Finding.{FindsGroup, FindsNextGroup, FitsNextGroup, NoGroupIn, IsFirstGroup, FindsFirst, SearchesTo, JudgesPlace}
 use Rattle.event_log.specs.declared.owner.Owner.{Owner}
 use Rattle.event_log.proofs.Framing.{same_parts, four_split, frame_spread, frame_len}

@@ -1,20 +1,19 @@
 -- Bytes as functions put them together and take them apart.
 use lib.Pointwise.{pointwise}
-use Rattle.std.proofs.Common.{◌≡◌, ℕ, ◌+◌, ◌-◌, ◌<◌, ◌≤◌, ◌^◌, Bool, true, false, nat_eq, List, [], ◌∷◌, ◌++◌, length, take, drop, get_or, Option, Some, None, MatchOption, refl, sym, ◌∙◌, ap, subst, arith, append_assoc, length-append, inl, inr}
+use Rattle.std.proofs.Common.{◌≡◌, ℕ, ◌+◌, ◌-◌, ◌<◌, ◌≤◌, ◌^◌, Bool, true, false, nat_eq, List, [], ◌++◌, length, take, drop, get_or, Option, Some, None, MatchOption, refl, sym, ◌∙◌, ap, subst, arith, append_assoc, length-append, inl, inr}
 use Rattle.std.proofs.lemmas.Bool.{cases_lt}
 use Rattle.std.proofs.Math.Bool.{not, not-not}
 use Rattle.std.specs.Int.{w32, w64, to_be_bytes, from_be_bytes}
-use Rattle.std.proofs.lemmas.List.{append-nil, take_at, drop_at, take-append-drop, length-drop, length-take-le, get_or-drop, take_all}
+use Rattle.std.proofs.lemmas.List.{drop_at, take-append-drop, length-drop, length-take-le, get_or-drop, take_all}
 use Rattle.std.proofs.lemmas.Nat.{be_bytes_4, from_be_bytes-to_be_bytes_8}
 use Rattle.std.specs.Cmp.Lexicographic.{same_text, other_text}
 use Rattle.sqlite_disk.specs.Digest.{digest}
 use Rattle.event_log.specs.Events.{events_bytes}
-use Rattle.event_log.specs.Groups.{body_bytes, framed_bytes, group_bytes, IsGroup, IsGroupOf, IsNoGroup, IsBodyOf, IsNoBody, IsTextOf, SaysText}
+use Rattle.event_log.specs.Groups.{body_bytes, framed_bytes, group_bytes, IsGroupOf, IsNoGroup, IsBodyOf, IsNoBody, IsTextOf, SaysText}
 use Rattle.event_log.specs.Logs.{header_text, header_bytes}
 use Rattle.event_log.specs.declared.owner.Owner.{Owner}
-use Rattle.event_log.specs.declared.header.TheConstants.{FORM}
 use Rattle.event_log.specs.declared.groups.TheConstants.{MAX_GROUP}
-use Rattle.event_log.proofs.Framing.{same_parts, eight_split, four_split, events_one}
+use Rattle.event_log.proofs.Framing.{same_parts, four_split, events_one}
 
 -- ---- made
 

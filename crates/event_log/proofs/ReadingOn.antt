@@ -1,5 +1,5 @@
 -- A log that is read, one group on and at its end.
-use Rattle.std.proofs.Common.{◌≡◌, false, true, ℕ, ◌+◌, ◌≤◌, List, [], ◌∷◌, ◌++◌, length, take, drop, refl, sym, ◌∙◌, ap, subst, arith, append_assoc, length-append}
+use Rattle.std.proofs.Common.{◌≡◌, false, true, ℕ, ◌+◌, ◌≤◌, List, [], ◌++◌, length, take, drop, refl, sym, ◌∙◌, ap, subst, arith, length-append}
 use Rattle.std.proofs.lemmas.List.{append-nil, take-append-drop, length-drop, drop_at, drop-drop}
 use Rattle.sqlite_disk.specs.Disk.{Cut, Follows, Only}
 use Rattle.event_log.specs.Events.{events_bytes}
@@ -10,7 +10,7 @@ use Rattle.event_log.specs.Standing.{IsAt, ReadsGroup, ReadsNone, Stands}
 use Rattle.event_log.specs.declared.owner.Owner.{Owner}
 use Rattle.event_log.specs.declared.log.Log.{Log}
 use Rattle.event_log.specs.declared.reading.Reading.{Reading}
-use Rattle.event_log.proofs.Framing.{text_fits, number_fits, one_group}
+use Rattle.event_log.proofs.Framing.{text_fits, one_group}
 use Rattle.event_log.proofs.Logs.{begins_more, reads_one, reads_keeps, no_group_no_next, damage_shows}
 use Rattle.event_log.proofs.Finds.{text_in_group}
 use Rattle.event_log.proofs.Appending.{cut_begins, cut_keeps}
@@ -48,9 +48,9 @@ tail_is owner reading file events at =
     ap (λ (l : List ℕ). drop reading.place l) at.begins.whole ∙ drop_at front at.tail reading.place place
 
 -- no group there at all
-pub none_read : (owner : Owner) (old new : Reading) (file : List ℕ) (events : List (List ℕ)) → IsAt owner old file events
+pub none_read : (owner : Owner) (old new : Reading) (file : List ℕ) (events : List (List ℕ)) (at : IsAt owner old file events)
     → (BeginsWithGroup old.owner (drop old.place file) → ⊥)
-    → new.owner ≡ old.owner → new.place ≡ old.place → new.len ≡ old.len → new.number ≡ old.number → ReadsNone owner new file events
+    → new.owner ≡ old.owner → new.place ≡ old.place → new.len ≡ old.len → new.number ≡ old.number → ReadsNone owner new file events at.tail
 none_read owner old new file events at none owner_is place_is len_is number_is =
     record {
       at = record {
@@ -61,15 +61,16 @@ none_read owner old new file events at none owner_is place_is len_is number_is =
         len_is = len_is ∙ at.len_is;
         number_is = number_is ∙ at.number_is;
       };
+      tail_is = refl;
       none = no_group_no_next owner (length events) at.tail (λ begins. none
           (subst (λ (o : Owner). BeginsWithGroup o (drop old.place file)) (sym at.owner_is)
           (subst (λ (l : List ℕ). BeginsWithGroup owner l) (sym (tail_is owner old file events at)) begins)));
     }
 
 -- a group of another number there
-pub other_read : (owner : Owner) (old new : Reading) (file group : List ℕ) (events : List (List ℕ)) (number count : ℕ) → IsAt owner old file events
+pub other_read : (owner : Owner) (old new : Reading) (file group : List ℕ) (events : List (List ℕ)) (number count : ℕ) (at : IsAt owner old file events)
     → FindsGroup old.owner (drop old.place file) group number count → (number ≡ old.number → ⊥)
-    → new.owner ≡ old.owner → new.place ≡ old.place → new.len ≡ old.len → new.number ≡ old.number → ReadsNone owner new file events
+    → new.owner ≡ old.owner → new.place ≡ old.place → new.len ≡ old.len → new.number ≡ old.number → ReadsNone owner new file events at.tail
 other_read owner old new file group events number count at finds other owner_is place_is len_is number_is =
     record {
       at = record {
@@ -80,6 +81,7 @@ other_read owner old new file group events number count at finds other owner_is 
         len_is = len_is ∙ at.len_is;
         number_is = number_is ∙ at.number_is;
       };
+      tail_is = refl;
       none = λ next rest is e.
           let there : group_bytes owner number finds.is.events ++ finds.rest ≡ group_bytes owner (length events) next ++ rest =
           ap (λ (o : Owner). group_bytes o number finds.is.events ++ finds.rest) (sym at.owner_is)
@@ -138,9 +140,9 @@ ended_reads owner reading file events at none =
     record { tail = at.tail; begins = at.begins; torn = ended_torn owner reading file events at none }
 
 -- So the file is not damaged.
-pub ended_undamaged : (owner : Owner) (reading : Reading) (file : List ℕ) (events : List (List ℕ)) → ReadsNone owner reading file events
+pub ended_undamaged : (owner : Owner) (reading : Reading) (file : List ℕ) (events : List (List ℕ)) (tail : List ℕ) → ReadsNone owner reading file events tail
     → IsDamaged owner file → NoGroupFrom reading.owner file reading.place → ⊥
-ended_undamaged owner reading file events read damaged none =
+ended_undamaged owner reading file events tail read damaged none =
     damage_shows owner file read.at.tail events read.at.begins read.none damaged (ended_torn owner reading file events read.at none)
 
 module _ {D : Type 0} (seen : D → List ℕ) (may_leave : D → List ℕ → Type 0) (owner : Owner) where

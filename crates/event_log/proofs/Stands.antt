@@ -1,15 +1,15 @@
 -- A log that stands, one event on and one group on.
-use Rattle.std.proofs.Common.{◌≡◌, Bool, IsTrue, ℕ, ◌+◌, ◌<◌, ◌≤◌, ◌^◌, List, [], ◌∷◌, ◌++◌, length, refl, sym, ◌∙◌, ap, subst, arith, append_assoc, length-append}
+use Rattle.std.proofs.Common.{◌≡◌, Bool, IsTrue, ℕ, ◌+◌, ◌<◌, ◌≤◌, ◌^◌, List, [], ◌∷◌, ◌++◌, length, refl, sym, ◌∙◌, ap, subst, arith, length-append}
 use Rattle.std.proofs.lemmas.List.{append-nil, length_push, nil_from_length}
 use Rattle.sqlite_disk.specs.Disk.{Holds, Torn, Follows, Only}
-use Rattle.event_log.specs.Events.{event_bytes, events_bytes}
+use Rattle.event_log.specs.Events.{event_bytes}
 use Rattle.event_log.specs.Groups.{framed_bytes, group_bytes, IsGroup}
 use Rattle.event_log.specs.Logs.{header_bytes, log_bytes, BeginsWith, IsLast, no_group, behind, Keeps}
 use Rattle.event_log.specs.Standing.{Stands, GathersMore}
 use Rattle.event_log.specs.declared.owner.Owner.{Owner}
 use Rattle.event_log.specs.declared.log.Log.{Log}
 use Rattle.event_log.specs.declared.groups.TheConstants.{MAX_GROUP}
-use Rattle.event_log.proofs.Framing.{events_push, frame_len}
+use Rattle.event_log.proofs.Framing.{events_push}
 use Rattle.event_log.proofs.Logs.{begins_more, header_len}
 use Rattle.event_log.proofs.Appending.{written_end, write_crash}
 

@@ -67,9 +67,10 @@ pub record ReadsGroup (owner : Owner) (reading : Reading) (file : List ℕ) (eve
   pub is_group : IsGroup (length events) group
   pub stood : BeginsWith owner events file (group_bytes owner (length events) group ++ at.tail)
 
--- Behind these events no group of the next number stands.
-pub record ReadsNone (owner : Owner) (reading : Reading) (file : List ℕ) (events : List (List ℕ)) : Type 0 where
+-- Behind these events no group of the next number stands. tail: what is behind them.
+pub record ReadsNone (owner : Owner) (reading : Reading) (file : List ℕ) (events : List (List ℕ)) (tail : List ℕ) : Type 0 where
   pub at : IsAt owner reading file events
+  pub tail_is : at.tail ≡ tail
   pub none : HasNoNext owner (length events) at.tail
 
 -- ---- what the calls do
@@ -77,8 +78,8 @@ pub record ReadsNone (owner : Owner) (reading : Reading) (file : List ℕ) (even
 -- If the owner's log was read up to some events, its next group is read now, if there is one. Else it is where it was.
 abbrev pub ReadsNext : Reading → List ℕ → Bool → Reading → Type 0
 ReadsNext old file more new =
-    (owner : Owner) (events : List (List ℕ)) → IsAt owner old file events
-    → MatchBool more (ReadsGroup owner new file events) (ReadsNone owner new file events)
+    (owner : Owner) (events : List (List ℕ)) (at : IsAt owner old file events)
+    → MatchBool more (ReadsGroup owner new file events) (ReadsNone owner new file events at.tail)
 
 -- If the owner's log was read up to some events, no sound group is behind them: the file is read as these events. The log
 -- stands behind them.
@@ -90,7 +91,7 @@ EndsReading seen may_leave reading file log disk =
 -- If the owner's log was read to its end, and is damaged, a crash leaves it as it is.
 abbrev pub LeavesDamage : {D : Type 0} → (D → List ℕ → Type 0) → Reading → List ℕ → D → Type 0
 LeavesDamage may_leave reading file disk =
-    (owner : Owner) (events : List (List ℕ)) (left : List ℕ) → ReadsNone owner reading file events → IsDamaged owner file
+    (owner : Owner) (events : List (List ℕ)) (left tail : List ℕ) → ReadsNone owner reading file events tail → IsDamaged owner file
     → may_leave disk left → left ≡ file
 
 -- Whatever a crash leaves now keeps all events as which the file was read.

@@ -11,5 +11,5 @@ overflow_add-count c = omega (arith, count_fits c.args.bytes.now c.loop-behind.r
 
 pub returns-else-is_empty : goal.returns-else-is_empty
 returns-else-is_empty c =
-    rest_are_none c.args.bytes.now c.loop-behind.rest.now c.loop-behind.count c.loop-behind.invariant c.in_default.ensures 
+    rest_are_none c.args.bytes.now c.loop-behind.rest.now c.loop-behind.count c.loop-behind.invariant c.in_default.ensures
     (some_left (length c.loop-behind.rest.now) c.is_empty.result c.is_empty.ensures c.if-is_empty.false)

@@ -1,4 +1,4 @@
-use Rattle.std.proofs.Common.{◌≡◌, ◌≤◌, List, ℕ, Bool, length, refl, ◌∙◌, sym, ap, subst, arith}
+use Rattle.std.proofs.Common.{List, ℕ, Bool, length, ◌∙◌, sym, ap, subst, arith}
 use Rattle.event_log.specs.Finding.{SearchesTo, NoGroupIn}
 use Rattle.event_log.proofs.Finds.{searched_on, searched_found, searched_all}
 use Rattle.event_log.proofs.finding.find_group.Goals as goal

@@ -1,4 +1,4 @@
-use Rattle.std.proofs.Common.{◌≡◌, ◌+◌, ◌-◌, List, ℕ, length, take, drop, ◌∙◌, sym, ap, subst, arith}
+use Rattle.std.proofs.Common.{List, ℕ, length, take, drop, ◌∙◌, sym, ap, subst, arith}
 use Rattle.std.proofs.lemmas.List.{length-drop}
 use Rattle.event_log.specs.Groups.{SaysNone, SaysText}
 use Rattle.event_log.specs.Finding.{FindsNextGroup, FitsNextGroup}

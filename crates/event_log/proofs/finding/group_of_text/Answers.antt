@@ -1,6 +1,5 @@
-use Rattle.std.proofs.Common.{◌≡◌, ◌+◌, List, ℕ, Option, MatchOption, length, take, drop, ◌∙◌, sym, ap, subst, arith}
+use Rattle.std.proofs.Common.{List, ℕ, MatchOption, drop, subst, arith}
 use Rattle.event_log.specs.Groups.{IsGroupOf, IsNoGroup}
-use Rattle.event_log.specs.Finding.{FindsNextGroup, FitsNextGroup}
 use Rattle.event_log.proofs.Finds.{far_has_none, found_of, fits_of}
 use Rattle.event_log.proofs.finding.group_of_text.Goals as goal
 

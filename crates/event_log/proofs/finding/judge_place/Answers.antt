@@ -1,4 +1,4 @@
-use Rattle.std.proofs.Common.{◌≡◌, List, ℕ, Option, drop, refl, subst}
+use Rattle.std.proofs.Common.{drop, refl, subst}
 use Rattle.event_log.specs.Finding.{FindsNextGroup}
 use Rattle.event_log.proofs.Finds.{judged_found}
 use Rattle.event_log.proofs.finding.judge_place.Goals as goal

@@ -1,7 +1,7 @@
-use Rattle.std.proofs.Common.{◌≡◌, ◌+◌, List, ℕ, Some, None, length, take, drop, ◌∙◌, sym, ap, subst, arith}
+use Rattle.std.proofs.Common.{◌+◌, List, ℕ, Some, None, length, ◌∙◌, sym, ap, subst, arith}
 use Rattle.std.specs.Int.{w64, to_be_bytes}
 use Rattle.memchr.specs.Find.{FindsNeedle}
-use Rattle.event_log.specs.Finding.{NoGroupIn, SearchesTo, JudgesPlace}
+use Rattle.event_log.specs.Finding.{JudgesPlace}
 use Rattle.event_log.proofs.Finds.{none_in_window, searched_mark}
 use Rattle.event_log.proofs.finding.search_window.Goals as goal
 

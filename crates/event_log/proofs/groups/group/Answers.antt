@@ -1,4 +1,4 @@
-use Rattle.std.proofs.Common.{◌≡◌, ◌++◌, List, ℕ, [], length, refl, ◌∙◌, sym, ap, arith}
+use Rattle.std.proofs.Common.{◌++◌, List, ℕ, length, ◌∙◌, ap}
 use Rattle.std.specs.Int.{w32, w64, to_be_bytes}
 use Rattle.event_log.proofs.Making.{three_made, group_made, rest_shown}
 use Rattle.event_log.proofs.groups.group.Goals as goal

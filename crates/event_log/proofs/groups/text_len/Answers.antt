@@ -1,4 +1,4 @@
-use Rattle.std.proofs.Common.{ℕ, ◌∙◌, refl, sym, arith}
+use Rattle.std.proofs.Common.{◌∙◌, arith}
 use Rattle.event_log.proofs.Making.{head_says, compared_same}
 use Rattle.event_log.proofs.groups.text_len.Goals as goal
 

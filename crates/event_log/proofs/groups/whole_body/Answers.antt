@@ -1,4 +1,4 @@
-use Rattle.std.proofs.Common.{List, ℕ, Option, MatchOption, length, sym, subst, arith}
+use Rattle.std.proofs.Common.{ℕ, Option, MatchOption, sym, subst, arith}
 use Rattle.std.proofs.lemmas.List.{take_all, length-drop}
 use Rattle.event_log.specs.Groups.{IsNoBody, IsBodyOf}
 use Rattle.event_log.proofs.Making.{not_below, numbers_overflow}

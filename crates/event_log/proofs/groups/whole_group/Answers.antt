@@ -1,6 +1,5 @@
-use Rattle.std.proofs.Common.{ℕ, ◌∙◌, ◌-◌, length, refl, sym, ap, arith}
+use Rattle.std.proofs.Common.{◌∙◌, sym, ap, arith}
 use Rattle.std.specs.Int.{w64, to_be_bytes}
-use Rattle.sqlite_disk.specs.Digest.{digest}
 use Rattle.event_log.proofs.Making.{no_mark, no_check, group_by_body, split_twice, compared_same, compared_other}
 use Rattle.event_log.proofs.groups.whole_group.Goals.{then-ne-via-then-ne, then-ne-via-else-ne+then-ne-2}
 use Rattle.event_log.proofs.groups.whole_group.Goals as goal

@@ -1,4 +1,4 @@
-use Rattle.std.proofs.Common.{◌≡◌, ◌++◌, List, ℕ, [], refl, ◌∙◌, sym, ap}
+use Rattle.std.proofs.Common.{◌++◌, List, ℕ, ◌∙◌, ap}
 use Rattle.std.specs.Int.{w64, to_be_bytes}
 use Rattle.event_log.specs.declared.header.TheConstants.{FORM}
 use Rattle.event_log.proofs.Making.{three_made, header_made}

@@ -1,4 +1,4 @@
-use Rattle.std.proofs.Common.{◌≡◌, ◌<◌, List, ℕ, [], length, ◌∙◌, refl, sym, ap, subst, arith}
+use Rattle.std.proofs.Common.{◌≡◌, length, ◌∙◌, sym, ap, arith}
 use Rattle.std.proofs.lemmas.List.{nil_from_length}
 use Rattle.event_log.proofs.Stands.{created_stands}
 use Rattle.event_log.proofs.log.Log.create.Goals as goal

@@ -1,5 +1,5 @@
-use Rattle.std.proofs.Common.{◌≡◌, ap, length, arith}
-use Rattle.event_log.proofs.Stands.{stands_keeps, rested, rests_on}
+use Rattle.std.proofs.Common.{arith}
+use Rattle.event_log.proofs.Stands.{rested}
 use Rattle.event_log.proofs.log.Log.rest.Goals as goal
 
 pub returns-clause-rests : goal.returns-clause-rests

@@ -1,4 +1,4 @@
-use Rattle.std.proofs.Common.{◌≡◌, ◌+◌, List, ℕ, length, ◌∙◌, refl, sym, ap, arith}
+use Rattle.std.proofs.Common.{List, ℕ, ◌∙◌, refl, ap, arith}
 use Rattle.std.proofs.lemmas.Bool.{eqb-true}
 use Rattle.event_log.specs.Groups.{framed_bytes}
 use Rattle.event_log.proofs.Stands.{stands_keeps, stands_synced, group_crash}

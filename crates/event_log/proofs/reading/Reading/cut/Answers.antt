@@ -1,4 +1,4 @@
-use Rattle.std.proofs.Common.{◌≡◌, List, ℕ, length, ◌∙◌, refl, sym, ap, subst}
+use Rattle.std.proofs.Common.{List, ℕ, length, ◌∙◌, sym, ap, subst}
 use Rattle.sqlite_disk.specs.Disk.{Cut}
 use Rattle.event_log.proofs.ReadingOn.{cut_crash, ended_stands}
 use Rattle.event_log.proofs.reading.Reading.cut.Goals as goal

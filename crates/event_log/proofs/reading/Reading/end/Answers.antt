@@ -1,7 +1,7 @@
-use Rattle.std.proofs.Common.{◌≡◌, List, ℕ, Option, None, length, ◌∙◌, refl, sym, ap, subst}
+use Rattle.std.proofs.Common.{List, ℕ, Option, ◌∙◌, sym, subst}
 use Rattle.event_log.specs.Finding.{FindsFirst, NoGroupFrom}
 use Rattle.event_log.specs.Logs.{Reads}
-use Rattle.event_log.specs.Standing.{IsAt, Stands}
+use Rattle.event_log.specs.Standing.{IsAt}
 use Rattle.event_log.proofs.ReadingOn.{same_keeps, ended_torn, ended_undamaged}
 use Rattle.event_log.proofs.reading.Reading.end.Goals as goal
 
@@ -46,21 +46,21 @@ returns-in_ok-log-in-None-clause-reads g c clean owner events at =
     )
 
 pub returns-in_err-found-clause-damage : goal.returns-in_err-found-clause-damage
-returns-in_err-found-clause-damage g c clean owner events left read damaged is =
+returns-in_err-found-clause-damage g c clean owner events left tail read damaged is =
     c.requires.restarted left (c.find_group.ensures.crash left is)
 
 pub returns-in-Some-clause-damage : goal.returns-in-Some-clause-damage
-returns-in-Some-clause-damage g c clean owner events left read damaged is =
+returns-in-Some-clause-damage g c clean owner events left tail read damaged is =
     c.requires.restarted left (c.find_group.ensures.crash left is)
 
 pub returns-in_err-log-in-None-clause-damage : goal.returns-in_err-log-in-None-clause-damage
-returns-in_err-log-in-None-clause-damage g c clean owner events left read damaged is =
-    absurd (ended_undamaged owner c.args.self (g.D.Disk.seen c.args.disk.now) events read damaged
+returns-in_err-log-in-None-clause-damage g c clean owner events left tail read damaged is =
+    absurd (ended_undamaged owner c.args.self (g.D.Disk.seen c.args.disk.now) events tail read damaged
     (subst (λ (o : Option ℕ). FindsFirst c.args.self.owner (g.D.Disk.seen c.args.disk.now) c.args.self.place o) c.in-None.is
     (c.in_ok-found.ensures.finds (c.cut.ensures.clean clean) read.at.len_is)))
 
 pub returns-in_ok-log-in-None-clause-damage : goal.returns-in_ok-log-in-None-clause-damage
-returns-in_ok-log-in-None-clause-damage g c clean owner events left read damaged is =
-    absurd (ended_undamaged owner c.args.self (g.D.Disk.seen c.args.disk.now) events read damaged
+returns-in_ok-log-in-None-clause-damage g c clean owner events left tail read damaged is =
+    absurd (ended_undamaged owner c.args.self (g.D.Disk.seen c.args.disk.now) events tail read damaged
     (subst (λ (o : Option ℕ). FindsFirst c.args.self.owner (g.D.Disk.seen c.args.disk.now) c.args.self.place o) c.in-None.is
     (c.in_ok-found.ensures.finds (c.cut.ensures.clean clean) read.at.len_is)))

@@ -1,4 +1,4 @@
-use Rattle.std.proofs.Common.{◌≡◌, ◌-◌, List, ℕ, Option, Some, drop, length, refl, sym, subst, arith}
+use Rattle.std.proofs.Common.{◌-◌, ℕ, Option, drop, refl, subst, arith}
 use Rattle.event_log.specs.Finding.{FindsNextGroup, FitsNextGroup}
 use Rattle.event_log.proofs.ReadingOn.{none_read, other_read, group_read}
 use Rattle.event_log.proofs.reading.Reading.next_group.Goals as goal

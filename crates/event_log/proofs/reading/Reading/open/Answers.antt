@@ -1,4 +1,4 @@
-use Rattle.std.proofs.Common.{◌≡◌, List, ℕ, take, drop, length, refl, ◌∙◌, sym, ap, subst, arith}
+use Rattle.std.proofs.Common.{List, ℕ, take, drop, refl, ◌∙◌, sym, ap, arith}
 use Rattle.event_log.proofs.ReadingOn.{opened_at}
 use Rattle.event_log.proofs.reading.Reading.open.Goals as goal
 
