@@ -1,0 +1,5 @@
+pub mod Events
+pub mod Lasts
+pub mod Lives
+pub mod Repeats
+pub mod Steps
