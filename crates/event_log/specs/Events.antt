@@ -27,4 +27,5 @@ HasRoom out count = vec_len out + count ≤ vec_capacity out
 -- The bytes follow the old ones, and only their own room is gone.
 abbrev pub FillsRoom : {A : Type 0} → List ℕ → Vec ℕ A → Vec ℕ A → Type 0
 FillsRoom bytes old new =
-    (new.items ≡ old.items ++ bytes) × (vec_len new ≡ vec_len old + length bytes) × (vec_capacity old ≤ vec_capacity new)
+    (new.items ≡ old.items ++ bytes) × (vec_len new ≡ vec_len old + length bytes)
+    × (vec_capacity old ≤ vec_capacity new)

@@ -40,7 +40,8 @@ HasNoGroup owner bytes = (place : ℕ) → BeginsWithGroup owner (drop place byt
 -- No group of this number begins these bytes.
 abbrev pub HasNoNext : Owner → ℕ → List ℕ → Type 0
 HasNoNext owner number bytes =
-    (events : List (List ℕ)) (rest : List ℕ) → IsGroup number events → bytes ≡ group_bytes owner number events ++ rest → ⊥
+    (events : List (List ℕ)) (rest : List ℕ) → IsGroup number events
+    → bytes ≡ group_bytes owner number events ++ rest → ⊥
 
 -- ---- what private functions say
 
@@ -53,7 +54,8 @@ pub record IsGroupOf (owner : Owner) (bytes : List ℕ) (number count : ℕ) : T
 
 -- these bytes are no group
 abbrev pub IsNoGroup : Owner → List ℕ → Type 0
-IsNoGroup owner bytes = (number : ℕ) (events : List (List ℕ)) → IsGroup number events → bytes ≡ group_bytes owner number events → ⊥
+IsNoGroup owner bytes =
+    (number : ℕ) (events : List (List ℕ)) → IsGroup number events → bytes ≡ group_bytes owner number events → ⊥
 
 -- these bytes are the body of a group of so many events
 pub record IsBodyOf (bytes : List ℕ) (number count : ℕ) : Type 0 where
@@ -63,7 +65,8 @@ pub record IsBodyOf (bytes : List ℕ) (number count : ℕ) : Type 0 where
   pub whole : bytes ≡ body_bytes number (events_bytes events)
 
 abbrev pub IsNoBody : List ℕ → Type 0
-IsNoBody bytes = (number : ℕ) (events : List (List ℕ)) → IsGroup number events → bytes ≡ body_bytes number (events_bytes events) → ⊥
+IsNoBody bytes =
+    (number : ℕ) (events : List (List ℕ)) → IsGroup number events → bytes ≡ body_bytes number (events_bytes events) → ⊥
 
 -- these bytes are a length, and so many events of it
 pub record IsTextOf (bytes : List ℕ) (count : ℕ) : Type 0 where
@@ -73,7 +76,9 @@ pub record IsTextOf (bytes : List ℕ) (count : ℕ) : Type 0 where
   pub whole : bytes ≡ to_be_bytes w32 (length (events_bytes events)) ++ events_bytes events
 
 abbrev pub IsNoText : List ℕ → Type 0
-IsNoText bytes = (events : List (List ℕ)) → length (events_bytes events) ≤ MAX_GROUP → bytes ≡ to_be_bytes w32 (length (events_bytes events)) ++ events_bytes events → ⊥
+IsNoText bytes =
+    (events : List (List ℕ)) → length (events_bytes events) ≤ MAX_GROUP
+    → bytes ≡ to_be_bytes w32 (length (events_bytes events)) ++ events_bytes events → ⊥
 
 -- These bytes are so many events.
 pub record AreEvents (bytes : List ℕ) (count : ℕ) : Type 0 where
@@ -100,4 +105,6 @@ pub record SaysText (owner : Owner) (head : List ℕ) (count : ℕ) : Type 0 whe
 
 -- It is the head of no group.
 abbrev pub SaysNone : Owner → List ℕ → Type 0
-SaysNone owner head = (number count : ℕ) → count ≤ MAX_GROUP → head ≡ to_be_bytes w64 owner.mark ++ (to_be_bytes w64 number ++ to_be_bytes w32 count) → ⊥
+SaysNone owner head =
+    (number count : ℕ) → count ≤ MAX_GROUP
+    → head ≡ to_be_bytes w64 owner.mark ++ (to_be_bytes w64 number ++ to_be_bytes w32 count) → ⊥

@@ -56,7 +56,8 @@ pub record Reads (owner : Owner) (file : List ℕ) (events : List (List ℕ)) : 
 -- Behind the front events this group stands last in a file, and then the tail. Before any group both are none.
 pub data IsLast (owner : Owner) (file tail : List ℕ) : List (List ℕ) → List (List ℕ) → Type 0 where
   no_group : IsLast owner file tail [] []
-  behind : (front group : List (List ℕ)) → IsGroup (length front) group → BeginsWith owner front file (group_bytes owner (length front) group ++ tail)
+  behind : (front group : List (List ℕ)) → IsGroup (length front) group
+      → BeginsWith owner front file (group_bytes owner (length front) group ++ tail)
       → IsLast owner file tail front group
 
 -- A file is read as the front events, and then those of its last group.

@@ -9,10 +9,10 @@ use Rattle.event_log.specs.declared.owner.Owner.{Owner}
 use Rattle.event_log.specs.declared.log.Log.{Log}
 use Rattle.event_log.specs.declared.reading.Reading.{Reading}
 
--- The disk has a log of the synced events and nothing else, and a crash leaves just that. The owner's log goes on behind
--- them, and gathers the held events for its next group. If it is resting, no event is in the last group.
-pub record Stands {D : Type 0} (seen : D → List ℕ) (may_leave : D → List ℕ → Type 0) (owner : Owner) (log : Log) (disk : D)
-    (synced held : List (List ℕ)) : Type 0 where
+-- The disk has a log of the synced events and nothing else, and a crash leaves just that. The owner's log goes on
+-- behind them, and gathers the held events for its next group. If it is resting, no event is in the last group.
+pub record Stands {D : Type 0} (seen : D → List ℕ) (may_leave : D → List ℕ → Type 0) (owner : Owner) (log : Log)
+    (disk : D) (synced held : List (List ℕ)) : Type 0 where
   pub owner_is : log.owner ≡ owner
   pub file : BeginsWith owner synced (seen disk) []
   pub lasting : Only (seen disk) (may_leave disk)
@@ -68,7 +68,8 @@ pub record ReadsGroup (owner : Owner) (reading : Reading) (file : List ℕ) (eve
   pub stood : BeginsWith owner events file (group_bytes owner (length events) group ++ at.tail)
 
 -- Behind these events no group of the next number stands. tail: what is behind them.
-pub record ReadsNone (owner : Owner) (reading : Reading) (file : List ℕ) (events : List (List ℕ)) (tail : List ℕ) : Type 0 where
+pub record ReadsNone (owner : Owner) (reading : Reading) (file : List ℕ) (events : List (List ℕ)) (tail : List ℕ)
+    : Type 0 where
   pub at : IsAt owner reading file events
   pub tail_is : at.tail ≡ tail
   pub none : HasNoNext owner (length events) at.tail
@@ -81,8 +82,8 @@ ReadsNext old file more new =
     (owner : Owner) (events : List (List ℕ)) (at : IsAt owner old file events)
     → MatchBool more (ReadsGroup owner new file events) (ReadsNone owner new file events at.tail)
 
--- If the owner's log was read up to some events, no sound group is behind them: the file is read as these events. The log
--- stands behind them.
+-- If the owner's log was read up to some events, no sound group is behind them: the file is read as these events. The
+-- log stands behind them.
 abbrev pub EndsReading : {D : Type 0} → (D → List ℕ) → (D → List ℕ → Type 0) → Reading → List ℕ → Log → D → Type 0
 EndsReading seen may_leave reading file log disk =
     (owner : Owner) (events : List (List ℕ)) (at : IsAt owner reading file events)
@@ -91,8 +92,8 @@ EndsReading seen may_leave reading file log disk =
 -- If the owner's log was read to its end, and is damaged, a crash leaves it as it is.
 abbrev pub LeavesDamage : {D : Type 0} → (D → List ℕ → Type 0) → Reading → List ℕ → D → Type 0
 LeavesDamage may_leave reading file disk =
-    (owner : Owner) (events : List (List ℕ)) (left tail : List ℕ) → ReadsNone owner reading file events tail → IsDamaged owner file
-    → may_leave disk left → left ≡ file
+    (owner : Owner) (events : List (List ℕ)) (left tail : List ℕ) → ReadsNone owner reading file events tail
+    → IsDamaged owner file → may_leave disk left → left ≡ file
 
 -- Whatever a crash leaves now keeps all events as which the file was read.
 abbrev pub KeepsRead : {D : Type 0} → (D → List ℕ → Type 0) → Reading → List ℕ → D → Type 0

@@ -108,8 +108,8 @@ pub(crate) fn find_group<D: Disk>(
     Ok(None)
 }
 
-// Searches the window that begins at this place. Gives the place of the first sound group in it, or the place up to which
-// none begins, and whether it found one.
+// Searches the window that begins at this place. Gives the place of the first sound group in it, or the place up to
+// which none begins, and whether it found one.
 fn search_window<D: Disk>(
     disk: &mut D,
     owner: Owner,

@@ -1,7 +1,8 @@
 //! Groups of events, as bytes.
 
 ghost use Rattle.std.specs.Prelude.{◌≡◌, ◌≤◌, ◌+◌, length, IfOk, MatchOption};
-ghost use Rattle.event_log.specs.Groups.{framed_bytes, IsGroupOf, IsNoGroup, IsBodyOf, IsNoBody, IsTextOf, IsNoText, SaysText, SaysNone};
+ghost use Rattle.event_log.specs.Groups.{framed_bytes, IsGroupOf, IsNoGroup, IsBodyOf, IsNoBody, IsTextOf, IsNoText};
+ghost use Rattle.event_log.specs.Groups.{SaysText, SaysNone};
 
 use crate::events::count_events;
 use crate::owner::Owner;
@@ -56,7 +57,8 @@ pub(crate) fn text_len(owner: Owner, head: &[u8]) -> Option<usize>
     Some(len)
 }
 
-/// The number of the first event of the group that these bytes are, and how many events it has. `None` if they are none.
+/// The number of the first event of the group that these bytes are, and how many events it has. `None` if they are
+/// none.
 pub(crate) fn whole_group(owner: Owner, bytes: &[u8]) -> Option<(u64, u64)>
     ensures { MatchOption result (IsNoGroup owner bytes.now) (λ r. IsGroupOf owner bytes.now r.0 r.1) }
 {

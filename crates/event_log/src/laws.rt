@@ -14,5 +14,6 @@ pub fn kept_events_are_read()
 
 /// A damaged file is read as no events.
 pub fn damage_is_not_read()
-    ensures { (owner : Owner) (events : List (List ℕ)) (file : List ℕ) → IsDamaged owner file → Reads owner file events → ⊥ }
+    ensures { (owner : Owner) (events : List (List ℕ)) (file : List ℕ) → IsDamaged owner file
+        → Reads owner file events → ⊥ }
 {}

@@ -27,7 +27,8 @@ pub struct Reading {
 impl Reading {
     ghost use Rattle.std.specs.Prelude.{◌<◌, ℕ, List, [], IfOk, OnOk, IsTrue};
     ghost use Rattle.sqlite_disk.specs.Disk.{Only};
-    ghost use Rattle.event_log.specs.Standing.{IsAt, ReadsNext, EndsReading, LeavesDamage, KeepsRead, Cuts, KeepsCut, text_of, unread};
+    ghost use Rattle.event_log.specs.Standing.{IsAt, ReadsNext, EndsReading, LeavesDamage, KeepsRead, Cuts, KeepsCut};
+    ghost use Rattle.event_log.specs.Standing.{text_of, unread};
 
     /// Begins to read the log of an owner: behind its header.
     ///

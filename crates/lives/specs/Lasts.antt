@@ -17,7 +17,8 @@ pub record Lasts {M D : Type 0} (fits : M → List Event → Type 0) (seen : D �
 -- ---- what the calls do
 
 -- The machine takes an input. If this moved it, one event more is held, and else none.
-abbrev pub Takes : {M D : Type 0} → (M → List Event → Type 0) → (D → List ℕ) → (D → List ℕ → Type 0) → Lasting M D → Lasting M D → List ℕ → Bool → Type 0
+abbrev pub Takes : {M D : Type 0} → (M → List Event → Type 0) → (D → List ℕ) → (D → List ℕ → Type 0)
+    → Lasting M D → Lasting M D → List ℕ → Bool → Type 0
 Takes fits seen may_leave old new input moved =
     (owner : Owner) (synced held : List Event) → Lasts fits seen may_leave owner old synced held
     → MatchBool moved
@@ -25,13 +26,15 @@ Takes fits seen may_leave old new input moved =
     (Lasts fits seen may_leave owner new synced held)
 
 -- The held events are synced, and only then their outputs are given out.
-abbrev pub GivesOut : {M D : Type 0} → (M → List Event → Type 0) → (D → List ℕ) → (D → List ℕ → Type 0) → Lasting M D → Lasting M D → List ℕ → Type 0
+abbrev pub GivesOut : {M D : Type 0} → (M → List Event → Type 0) → (D → List ℕ) → (D → List ℕ → Type 0)
+    → Lasting M D → Lasting M D → List ℕ → Type 0
 GivesOut fits seen may_leave old new given =
     (owner : Owner) (synced held : List Event) → Lasts fits seen may_leave owner old synced held
     → Lasts fits seen may_leave owner new (synced ++ held) [] × (given ≡ outputs_of held)
 
 -- Whatever a crash leaves now keeps the events that were synced.
-abbrev pub KeepsSynced : {M D : Type 0} → (M → List Event → Type 0) → (D → List ℕ) → (D → List ℕ → Type 0) → Lasting M D → Lasting M D → Type 0
+abbrev pub KeepsSynced : {M D : Type 0} → (M → List Event → Type 0) → (D → List ℕ) → (D → List ℕ → Type 0)
+    → Lasting M D → Lasting M D → Type 0
 KeepsSynced fits seen may_leave old new =
     (owner : Owner) (synced held : List Event) (file : List ℕ) → Lasts fits seen may_leave owner old synced held
     → may_leave new.disk file → Keeps owner (map logged synced) file
@@ -52,7 +55,8 @@ pub record Plays {M D : Type 0} (fits : M → List Event → Type 0) (seen : D �
   pub given : again ≡ outputs_of last
 
 -- The same machine, log and outputs are held. If no event is, none is in the last group of the file now.
-abbrev pub Rests : {M D : Type 0} → (M → List Event → Type 0) → (D → List ℕ) → (D → List ℕ → Type 0) → Lasting M D → Lasting M D → Type 0
+abbrev pub Rests : {M D : Type 0} → (M → List Event → Type 0) → (D → List ℕ) → (D → List ℕ → Type 0)
+    → Lasting M D → Lasting M D → Type 0
 Rests fits seen may_leave old new =
     (owner : Owner) (synced held : List Event) → Lasts fits seen may_leave owner old synced held
     → Lasts fits seen may_leave owner new synced held

@@ -11,8 +11,8 @@ pub data BeginsOn (owner : Owner) : List ℕ → List Event → Type 0 where
   played : (file : List ℕ) (history : List Event) → Reads owner file (map logged history) → BeginsOn owner file history
   made : BeginsOn owner [] []
 
--- A crash left this file at the end of these lives, the latest first, each by the events that it had synced: only of these
--- anything went out. Before the first life the file is anything.
+-- A crash left this file at the end of these lives, the latest first, each by the events that it had synced: only of
+-- these anything went out. Before the first life the file is anything.
 pub data Lives (owner : Owner) : List ℕ → List (List Event) → Type 0 where
   none : (file : List ℕ) → Lives owner file []
   life : (file next : List ℕ) (lives : List (List Event)) (history synced : List Event) → Lives owner file lives

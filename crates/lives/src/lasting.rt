@@ -121,14 +121,15 @@ impl<M: Machine + Drop, D: Disk> Lasting<M, D> {
         self.disk
     }
 
-    /// Has the machine take an input, and gives whether this moved it. The event is gathered for the log, and its outputs
-    /// are held back.
+    /// Has the machine take an input, and gives whether this moved it. The event is gathered for the log, and its
+    /// outputs are held back.
     ///
     /// # Errors
     ///
     /// Any ends the life: the machine may be ahead of its log, so each later call is refused as Over.
     pub fn take(&mut self, alloc: Global, input: &[u8]) -> Result<bool, LifeFault>
-        ensures takes { IfOk result (λ moved. Takes M.Machine.fits D.Disk.seen D.Disk.may_leave self.old self.new input.now moved) }
+        ensures takes { IfOk result (λ moved.
+            Takes M.Machine.fits D.Disk.seen D.Disk.may_leave self.old self.new input.now moved) }
         ensures over { OnErr result (IsOver self.new) }
         ensures refused { IsOver self.old → IsErr result }
         ensures disk { self.new.disk ≡ self.old.disk }
@@ -148,15 +149,16 @@ impl<M: Machine + Drop, D: Disk> Lasting<M, D> {
         Ok(true)
     }
 
-    /// Writes the events that were gathered, syncs, and only then gives their outputs, in order. It writes nothing if there
-    /// are none.
+    /// Writes the events that were gathered, syncs, and only then gives their outputs, in order. It writes nothing if
+    /// there are none.
     ///
     /// # Errors
     ///
     /// Any ends the life: what the disk has is unknown, so each later call is refused as Over.
     pub fn sync(&mut self, alloc: Global) -> Result<Vec<u8>, LifeFault>
         requires usable { IsTrue (D.Disk.is_usable self.old.disk) }
-        ensures gives { IfOk result (λ given. GivesOut M.Machine.fits D.Disk.seen D.Disk.may_leave self.old self.new given.items) }
+        ensures gives { IfOk result (λ given.
+            GivesOut M.Machine.fits D.Disk.seen D.Disk.may_leave self.old self.new given.items) }
         ensures over { OnErr result (IsOver self.new) }
         ensures refused { IsOver self.old → IsErr result }
         ensures usable { OnOk result (IsTrue (D.Disk.is_usable self.new.disk)) }
@@ -172,8 +174,8 @@ impl<M: Machine + Drop, D: Disk> Lasting<M, D> {
         Ok(std::mem::replace(&mut self.held, Vec::new(alloc)))
     }
 
-    /// Writes an empty group if no event is held, and syncs: damage to the last events is then told from a torn tail. To be
-    /// called once no input waits.
+    /// Writes an empty group if no event is held, and syncs: damage to the last events is then told from a torn tail.
+    /// To be called once no input waits.
     ///
     /// # Errors
     ///

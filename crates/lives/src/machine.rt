@@ -14,13 +14,14 @@ pub trait Machine {
     /// The machine is what these events leave, the oldest first.
     ghost fits: { Self → List Event → Type 0 };
 
-    /// Takes an input, appends the outputs for it, and gives whether it moved the machine. An input that moves nothing and
-    /// has no outputs need not be kept. At an error the machine takes no more.
+    /// Takes an input, appends the outputs for it, and gives whether it moved the machine. An input that moves nothing
+    /// and has no outputs need not be kept. At an error the machine takes no more.
     fn step(
         &mut self,
         alloc: Global,
         input: &[u8],
         outputs: &mut Vec<u8>,
     ) -> Result<bool, StepFault>
-        ensures { IfOk result (λ moved. Steps fits self.old self.new input.now outputs.old.items outputs.new.items moved) };
+        ensures { IfOk result (λ moved.
+            Steps fits self.old self.new input.now outputs.old.items outputs.new.items moved) };
 }

@@ -10,8 +10,8 @@ use event_log::{Log, Owner, Reading, next_event};
 use sqlite_disk::Disk;
 use std::alloc::Global;
 
-/// Plays the log of a file: has the machine take each event, and compares what it gives. Gives the log, and the outputs of
-/// its last group. It may crash too.
+/// Plays the log of a file: has the machine take each event, and compares what it gives. Gives the log, and the outputs
+/// of its last group. It may crash too.
 pub(crate) fn play<M: Machine, D: Disk>(
     alloc: Global,
     owner: Owner,
@@ -50,7 +50,8 @@ fn repeat_text<M: Machine>(
     first: u64,
     given: &mut Vec<u8>,
 ) -> Result<(), LifeFault>
-    ensures { OnOk result (RepeatsText M.Machine.fits machine.old machine.new text.now given.old.items given.new.items) }
+    ensures { OnOk result (
+        RepeatsText M.Machine.fits machine.old machine.new text.now given.old.items given.new.items) }
 {
     let mut number = first;
     let mut rest = text;
@@ -70,7 +71,8 @@ fn repeat_event<M: Machine>(
     number: u64,
     given: &mut Vec<u8>,
 ) -> Result<(), LifeFault>
-    ensures { OnOk result (Repeats M.Machine.fits machine.old machine.new (event.now ∷ []) given.old.items given.new.items) }
+    ensures { OnOk result (
+        Repeats M.Machine.fits machine.old machine.new (event.now ∷ []) given.old.items given.new.items) }
 {
     let Some((input, outputs)) = next_event(event) else {
         return Err(LifeFault::NoEvent { number });
