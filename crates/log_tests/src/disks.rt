@@ -62,28 +62,28 @@ pub fn read_bytes(
 
 /// Whether a file with these bytes is read as these texts, and is so long then.
 pub fn reads(alloc: Global, bytes: &[u8], texts: &[u8], len: usize) -> bool {
-    match read_bytes(alloc, OWNER, bytes) {
-        Some((Ok(read), disk)) => read.as_slice() == texts
-            && disk.bytes() == &bytes[..len.min(bytes.len())],
-        _ => false,
+    let Some((read, disk)) = read_bytes(alloc, OWNER, bytes) else {
+        return false;
+    };
+    match read {
+        Ok(read) => read.as_slice() == texts && disk.bytes() == &bytes[..len.min(bytes.len())],
+        Err(_) => false,
     }
 }
 
 /// Whether a file with these bytes is refused as damaged at these places, and left as it is.
 pub fn is_damaged(alloc: Global, bytes: &[u8], at: (usize, u64, usize)) -> bool {
-    match read_bytes(alloc, OWNER, bytes) {
-        Some(
-            (
-                Err(
-                    LogFault::Damaged {
-                        place,
-                        number,
-                        sound,
-                    },
-                ),
-                disk,
-            ),
-        ) => { (place, number, sound) == at && disk.bytes() == bytes }
+    let Some((read, disk)) = read_bytes(alloc, OWNER, bytes) else {
+        return false;
+    };
+    match read {
+        Err(
+            LogFault::Damaged {
+                place,
+                number,
+                sound,
+            },
+        ) => (place, number, sound) == at && disk.bytes() == bytes,
         _ => false,
     }
 }

@@ -1,5 +1,7 @@
 //! Disks that fail at each call.
 
+ghost use Rattle.std.specs.Prelude.{IsTrue};
+
 use crate::adder::Adder;
 use crate::disks::{OWNER, ROOM};
 use lives::Lasting;
@@ -14,6 +16,31 @@ struct Course {
     disk: Fuse<Memory>,
 }
 
+// Takes an input, syncs, gives out what is due, and rests. Gives whether all of that succeeded.
+fn takes<D: Disk>(
+    alloc: Global,
+    byte: u8,
+    life: &mut Lasting<Adder, D>,
+    went_out: &mut Vec<u8>,
+) -> bool
+    requires { IsTrue (D.Disk.is_usable life.old.disk) }
+    ensures { IsTrue result → IsTrue (D.Disk.is_usable life.new.disk) }
+{
+    if life.take(alloc, &[byte]).is_err() {
+        return false;
+    }
+    let Ok(given) = life.sync(alloc) else {
+        return false;
+    };
+    if went_out.extend_from_slice(given.as_slice()).is_err() {
+        return false;
+    }
+    match life.rest(alloc) {
+        Ok(()) => true,
+        Err(_) => false,
+    }
+}
+
 // A life that takes one input after another, with a sync behind each, until the disk fails after so many calls.
 fn live(alloc: Global, calls: u64) -> Course {
     let disk = Fuse::new(Memory::new(alloc), calls);
@@ -26,17 +53,9 @@ fn live(alloc: Global, calls: u64) -> Course {
             disk,
         },
     };
-    for byte in [5, 6, 7] {
-        if life.take(alloc, &[byte]).is_err() {
-            break;
-        }
-        let Ok(given) = life.sync(alloc) else {
-            break;
-        };
-        if went_out.extend_from_slice(given.as_slice()).is_err() || life.rest(alloc).is_err() {
-            break;
-        }
-    }
+    let _are_taken = takes(alloc, 5, &mut life, &mut went_out)
+        && takes(alloc, 6, &mut life, &mut went_out)
+        && takes(alloc, 7, &mut life, &mut went_out);
     Course {
         went_out,
         is_made: true,

@@ -21,7 +21,7 @@ enum Refusal {
 }
 
 // How a file with these bytes is refused. It is left as it is.
-fn refusal(alloc: Global, owner: Owner, bytes: &[u8]) -> Refusal {
+fn comes_to(alloc: Global, owner: Owner, bytes: &[u8]) -> Refusal {
     let Some((read, disk)) = read_bytes(alloc, owner, bytes) else {
         return Refusal::Other;
     };
@@ -41,22 +41,22 @@ fn refusal(alloc: Global, owner: Owner, bytes: &[u8]) -> Refusal {
 
 // A header is judged at each of its bytes.
 fn judges_header(alloc: Global) -> bool {
-    (0..8).all(|place| refusal(alloc, OWNER, &changed(alloc, &LOG, place)) == Refusal::NoLog)
-        && (8..32).all(|place| refusal(alloc, OWNER, &changed(alloc, &LOG, place))
+    (0..8).all(|place| comes_to(alloc, OWNER, &changed(alloc, &LOG, place)) == Refusal::NoLog)
+        && (8..32).all(|place| comes_to(alloc, OWNER, &changed(alloc, &LOG, place))
             == Refusal::DamagedHeader)
 }
 
 fn judges_owner(alloc: Global) -> bool {
     let mark = Owner { mark: 1, ..OWNER };
     let key = Owner { key: 1, ..OWNER };
-    refusal(alloc, OWNER, &LOG) == Refusal::None
-        && refusal(alloc, mark, &LOG) == Refusal::Foreign
-        && refusal(alloc, key, &LOG) == Refusal::Foreign
+    comes_to(alloc, OWNER, &LOG) == Refusal::None
+        && comes_to(alloc, mark, &LOG) == Refusal::Foreign
+        && comes_to(alloc, key, &LOG) == Refusal::Foreign
 }
 
 fn judges_length(alloc: Global) -> bool {
-    refusal(alloc, OWNER, &[]) == Refusal::Missing
-        && (1..32).all(|len| refusal(alloc, OWNER, &LOG[..len]) == Refusal::Unmade(len))
+    comes_to(alloc, OWNER, &[]) == Refusal::Missing
+        && (1..32).all(|len| comes_to(alloc, OWNER, &LOG[..len]) == Refusal::Unmade(len))
 }
 
 #[test]
