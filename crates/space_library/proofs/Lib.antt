@@ -1,1 +1,4 @@
-mod Runs
+pub mod Handles
+pub mod Parcels
+pub mod Runs
+pub mod Texts

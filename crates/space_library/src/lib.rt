@@ -14,7 +14,13 @@
 //! That what C passes is there: as many bytes as it says, to be read and to be written, and no two of them the same.
 #![tactic(auto)]
 
+mod applying;
 mod exports;
+mod handle;
+mod lasting;
+mod paging;
+mod parcel;
 mod running;
+mod writing;
 
 pub use exports::{Ran, btspace_run};
