@@ -4,7 +4,8 @@ use Rattle.std.proofs.Common.{arith, append_assoc, length-append, length-drop}
 use Rattle.std.proofs.lemmas.List.{take-append-drop, length-take-le, drop-drop, at_drop_more, at_drop_all}
 use Rattle.std.proofs.Math.Seq.{take-append-add, take-append_seam, drop-append-add, drop-append_seam}
 use Rattle.tuple_tree.specs.Values.{TupleTree}
-use Rattle.tuple_tree.specs.Spelling.{tuple_spelling}
+use Rattle.tuple_tree.specs.Items.{how_many}
+use Rattle.tuple_tree.specs.Spelling.{tuple_spelling, items_spelling, datum_spelling}
 use Rattle.tuple_codec.specs.Spelling.{tuples_spelling}
 use Rattle.space_library.specs.Written.{with_text, PutsAt}
 
@@ -106,3 +107,26 @@ pub tuples_length : (ts : List TupleTree) (i at all : ℕ) → length ts ≤ i �
 tuples_length ts i at all past so_far =
     let none : at + 0 ≡ all = sym (at_drop_all (λ us. at + length (tuples_spelling us)) ts i past) ∙ so_far in
     omega (arith, none)
+
+pub puts_length : (at end : ℕ) (t old new : List ℕ) → at + length t ≤ length old → PutsAt at t old new end → length new ≡ length old
+puts_length at end t old new room puts = ap length puts.put ∙ written_length at t old room
+
+-- A tuple is a count and its items.
+pub tuple_puts : (t : TupleTree) (count at end last : ℕ) (items old mid new : List ℕ) → count ≡ how_many t → items ≡ items_spelling datum_spelling t
+    → at + length (tuple_spelling t) ≤ length old → PutsAt at (count ∷ []) old mid end → PutsAt end items mid new last
+    → PutsAt at (tuple_spelling t) old new last
+tuple_puts t count at end last items old mid new counted spelled room one other =
+    let within : at ≤ length old = omega (arith, room) in
+    subst (λ n. PutsAt at (n ∷ items_spelling datum_spelling t) old new last) counted
+    (subst (λ bs. PutsAt at (count ∷ bs) old new last) spelled
+    (puts_both at end last (count ∷ []) items old mid new within one other))
+
+-- One more tuple has room where all have.
+pub tuple_room : (ts : List TupleTree) (i : ℕ) (t : TupleTree) (at all room : ℕ) → i < length ts → t ≡ get_or ts i t
+    → at + length (tuples_spelling (drop i ts)) ≡ all → all ≤ room → at + length (tuple_spelling t) ≤ room
+tuple_room ts i t at all room p is so_far low =
+    let rest : List ℕ = tuples_spelling (drop (i + 1) ts) in
+    let next : length (tuples_spelling (drop i ts)) ≡ length (tuple_spelling t ++ rest) =
+        ap length (at_drop_more tuples_spelling ts i t p ∙ ap (λ u. tuple_spelling u ++ rest) (sym is)) in
+    let sum = length-append (tuple_spelling t) rest in
+    omega (arith, so_far, low, next, sum)
