@@ -1,6 +1,6 @@
 //! Spaces that last, against runs of the same operations and against docs/formats.md.
 
-use btspace::{answers, Answer, Field, Operation, Refusal, Space, Value, Version, HEADER_LEN, PAGES};
+use btspace::{answers, Answer, Field, Operation, Pages, Refusal, Space, Value, Version, HEADER_LEN, PAGES};
 
 fn job(number: i64) -> Vec<Value> {
     vec!["job".into(), number.into()]
@@ -60,7 +60,10 @@ fn pages_are_the_whole_space() {
         let told = answers(version, &script()).unwrap();
         let last = Operation::RdAll(64, any_job());
         let again: Vec<_> = script().into_iter().chain([last.clone()]).collect();
-        assert_eq!(space.apply(&last).unwrap(), answers(version, &again).unwrap()[told.len()]);
+        assert_eq!(
+            space.apply(&last).unwrap(),
+            answers(version, &again).unwrap()[told.len()]
+        );
     }
 }
 
@@ -72,7 +75,10 @@ fn texts_of_pages() {
     let page = |bytes: &[&[u8]]| bytes.concat();
     let tuple: &[u8] = &[1, 1, 0, 0, 0, 0, 0, 0, 0, 1];
     assert_eq!(space.pages().unwrap().texts, page(&[&[0; 8], tuple]));
-    assert_eq!(space.header(4).unwrap(), [1, 0, 0, 0, 0, 0, 0, 0, 4, 0, 0, 0, 0, 0, 0, 0, 1]);
+    assert_eq!(
+        space.header(4).unwrap(),
+        [1, 0, 0, 0, 0, 0, 0, 0, 4, 0, 0, 0, 0, 0, 0, 0, 1]
+    );
     space.apply(&Operation::Upgrade).unwrap();
     assert_eq!(space.pages().unwrap().texts, page(&[&[0; 8], &[0, 10], tuple]));
     assert_eq!(space.header(4).unwrap()[0], 2);
@@ -110,7 +116,7 @@ fn pages_of_no_space() {
         space.apply(&Operation::Out(job(number))).unwrap();
     }
     let (pages, header) = (space.pages().unwrap(), space.header(1).unwrap());
-    let refused = |pages, header: &[u8]| matches!(Space::from_pages(pages, header), Err(Refusal::Malformed));
+    let refused = |pages: &Pages, header: &[u8]| matches!(Space::from_pages(pages, header), Err(Refusal::Malformed));
     assert!(!refused(&pages, &header));
     // Another length of one page, or of all.
     for page in 0..PAGES {
@@ -143,7 +149,10 @@ fn many_spaces_at_once() {
         space.apply(&Operation::Out(job(number as i64))).unwrap();
     }
     for (number, space) in spaces.iter_mut().enumerate().rev() {
-        assert_eq!(space.apply(&Operation::Inp(any_job())).unwrap(), Answer::Found(job(number as i64)));
+        assert_eq!(
+            space.apply(&Operation::Inp(any_job())).unwrap(),
+            Answer::Found(job(number as i64))
+        );
     }
 }
 
@@ -156,7 +165,11 @@ fn any_bytes() {
         let mut bytes = [0u8; 8];
         for byte in &mut bytes {
             state = state.wrapping_mul(6_364_136_223_846_793_005).wrapping_add(1);
-            *byte = if state >> 63 == 0 { 0x20 + (state >> 40) as u8 % 8 } else { (state >> 50) as u8 % 4 };
+            *byte = if state >> 63 == 0 {
+                0x20 + (state >> 40) as u8 % 8
+            } else {
+                (state >> 50) as u8 % 4
+            };
         }
         for len in 0..=bytes.len() {
             if let Ok(len) = space.apply_bytes(&bytes[..len], &mut answer) {
