@@ -1,3 +1,5 @@
+pub mod Cutting
+pub mod Fitting
 pub mod Handles
 pub mod Parcels
 pub mod Runs

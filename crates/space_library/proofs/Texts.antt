@@ -70,12 +70,15 @@ puts_room at end more t old mid one room =
 -- A text that is written first is the front, and the rest stays.
 pub first_put : (text old new : List ℕ) (len : ℕ) → PutsAt 0 text old new len → take len new ≡ text
 first_put text old new len puts =
-    ap (λ n. take n new) puts.behind ∙ ap (λ s. take (length text) s) puts.put ∙ take-append_seam text (drop (length text) old)
+    let count : 0 + length text ≡ length text = omega arith in
+    ap (λ n. take n new) (puts.behind ∙ count) ∙ ap (λ s. take (length text) s) puts.put
+    ∙ take-append_seam text (drop (0 + length text) old)
 
 pub rest_put : (text old new : List ℕ) (len : ℕ) → PutsAt 0 text old new len → drop len new ≡ drop len old
 rest_put text old new len puts =
-    ap (λ n. drop n new) puts.behind ∙ ap (λ s. drop (length text) s) puts.put ∙ drop-append_seam text (drop (length text) old)
-    ∙ sym (ap (λ n. drop n old) puts.behind)
+    let count : 0 + length text ≡ length text = omega arith in
+    ap (λ n. drop n new) (puts.behind ∙ count) ∙ ap (λ s. drop (length text) s) puts.put
+    ∙ drop-append_seam text (drop (0 + length text) old) ∙ sym (ap (λ n. drop n old) puts.behind)
 
 -- Tuples, from one to the next: what is left to be written on what was, is all.
 pub tuple_written : (ts : List TupleTree) (i : ℕ) (t : TupleTree) (at end : ℕ) (old new whole : List ℕ) → i < length ts → t ≡ get_or ts i t

@@ -34,6 +34,7 @@ pub fn write_page(space: &Space, page: usize, out: &mut [u8]) -> Result<usize, u
 
 /// The space by the texts of its pages, which stand one behind another, and their lengths, and how many batches were
 /// executed by its header.
+#[tactic(auto, using(crate::proofs::Cutting::pages_cut, crate::proofs::Cutting::none_by_total, crate::proofs::Cutting::none_by_pages))]
 pub fn read_pages(
     alloc: Global,
     texts: &[u8],
