@@ -16,9 +16,9 @@ pub one_cut : (ns : List ℕ) (i n : ℕ) (pages more : List (Bor (List ℕ))) (
 one_cut ns i n pages more page rest after whole p is pushed first behind so_far =
     let left : List (List ℕ) = cut (drop (i + 1) ns) after in
     let next : cut (drop i ns) rest ≡ take n rest ∷ cut (drop (i + 1) ns) (drop n rest) =
-        at_drop_more (λ ms. cut ms rest) ns i 0 p ∙ ap (λ m. cut (m ∷ drop (i + 1) ns) rest) (sym is) in
+    at_drop_more (λ ms. cut ms rest) ns i 0 p ∙ ap (λ m. cut (m ∷ drop (i + 1) ns) rest) (sym is) in
     let here : page.now ∷ left ≡ cut (drop i ns) rest =
-        ap (λ t. t ∷ left) first ∙ ap (λ bs. take n rest ∷ cut (drop (i + 1) ns) bs) behind ∙ sym next in
+    ap (λ t. t ∷ left) first ∙ ap (λ bs. take n rest ∷ cut (drop (i + 1) ns) bs) behind ∙ sym next in
     ap (λ ps. texts_of ps ++ left) pushed ∙ ap (λ ts. ts ++ left) (map-append (λ b. b.now) pages (page ∷ []))
     ∙ append_assoc (texts_of pages) (page.now ∷ []) left ∙ ap (λ ts. texts_of pages ++ ts) here ∙ so_far
 

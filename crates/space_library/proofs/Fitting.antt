@@ -3,7 +3,7 @@ use Rattle.std.proofs.Common.{◌≡◌, ℕ, ◌+◌, ◌*◌, ◌≤◌, Bool,
 use Rattle.std.proofs.lemmas.List.{length-take}
 use Rattle.std.specs.Prelude.{is_some}
 use Rattle.tuple_tree.specs.Values.{TupleTree}
-use Rattle.tuple_codec.specs.Operations.{Operation, out, rdp, inp, cas, rd_all, in_all, upgrade, Outcome, done, found, absent}
+use Rattle.tuple_codec.specs.Operations.{Operation, out, rdp, inp, cas, rd_all, in_all, upgrade, Outcome, done}
 use Rattle.tuple_codec.specs.Operations.{swapped, all, full, refused, IsOutcome}
 use Rattle.tuple_codec.specs.Spelling.{outcome_spelling}
 use Rattle.tuple_codec.proofs.Lengths.{tuple_short, tuples_short}
@@ -62,6 +62,6 @@ pub answer_fits : (ts : Contents) (o : Operation) (r : Outcome) (room : ℕ) →
 answer_fits ts o r room is e low =
     let valid : IsOutcome (outcome ts 0 o) = subst IsOutcome e is in
     let fits : Fits (outcome ts 0 o) (most_answer o) =
-        refused_fits (refuses ts.version 0 o) (served_outcome ts o) o (served_fits ts o) valid in
+    refused_fits (refuses ts.version 0 o) (served_outcome ts o) o (served_fits ts o) valid in
     let here : Fits r (most_answer o) = subst (λ s. Fits s (most_answer o)) (sym e) fits in
     omega (arith, here, low)

@@ -1,5 +1,5 @@
 -- Texts that are written one behind another.
-use Rattle.std.proofs.Common.{◌≡◌, ℕ, ◌+◌, ◌<◌, ◌≤◌, List, [], ◌∷◌, ◌++◌, length, take, drop, get_or, ap, sym, ◌∙◌, refl, subst}
+use Rattle.std.proofs.Common.{◌≡◌, ℕ, ◌+◌, ◌<◌, ◌≤◌, List, [], ◌∷◌, ◌++◌, length, take, drop, get_or, ap, sym, ◌∙◌, subst}
 use Rattle.std.proofs.Common.{arith, append_assoc, length-append, length-drop}
 use Rattle.std.proofs.lemmas.List.{take-append-drop, length-take-le, drop-drop, at_drop_more, at_drop_all}
 use Rattle.std.proofs.Math.Seq.{take-append-add, take-append_seam, drop-append-add, drop-append_seam}
@@ -16,10 +16,10 @@ seam : (p t u q : List ℕ)
 seam p t u q =
     let whole : List ℕ = p ++ (t ++ q) in
     let front : take (length p + length t) whole ≡ p ++ t =
-        take-append-add p (t ++ q) (length t) ∙ ap (λ s. p ++ s) (take-append_seam t q) in
+    take-append-add p (t ++ q) (length t) ∙ ap (λ s. p ++ s) (take-append_seam t q) in
     let sum : length p + length t + length u ≡ length p + (length t + length u) = omega arith in
     let back : drop (length p + length t + length u) whole ≡ drop (length u) q =
-        ap (λ n. drop n whole) sum ∙ drop-append-add p (t ++ q) (length t + length u) ∙ drop-append-add t q (length u) in
+    ap (λ n. drop n whole) sum ∙ drop-append-add p (t ++ q) (length t + length u) ∙ drop-append-add t q (length u) in
     ap (λ s. s ++ (u ++ drop (length p + length t + length u) whole)) front ∙ ap (λ s. (p ++ t) ++ (u ++ s)) back
     ∙ append_assoc p t (u ++ drop (length u) q) ∙ ap (λ s. p ++ s) (sym (append_assoc t u (drop (length u) q)))
 
@@ -87,7 +87,7 @@ pub tuple_written : (ts : List TupleTree) (i : ℕ) (t : TupleTree) (at end : �
 tuple_written ts i t at end old new whole p is within puts so_far =
     let rest : List ℕ = tuples_spelling (drop (i + 1) ts) in
     let next : tuples_spelling (drop i ts) ≡ tuple_spelling t ++ rest =
-        at_drop_more tuples_spelling ts i t p ∙ ap (λ u. tuple_spelling u ++ rest) (sym is) in
+    at_drop_more tuples_spelling ts i t p ∙ ap (λ u. tuple_spelling u ++ rest) (sym is) in
     ap (λ n. with_text n rest new) puts.behind ∙ ap (λ m. with_text (at + length (tuple_spelling t)) rest m) puts.put
     ∙ written_both at (tuple_spelling t) rest old within ∙ sym (ap (λ s. with_text at s old) next) ∙ so_far
 
@@ -97,7 +97,7 @@ pub tuple_length : (ts : List TupleTree) (i : ℕ) (t : TupleTree) (at end all :
 tuple_length ts i t at end all p is here so_far =
     let rest : List ℕ = tuples_spelling (drop (i + 1) ts) in
     let next : length (tuples_spelling (drop i ts)) ≡ length (tuple_spelling t ++ rest) =
-        ap length (at_drop_more tuples_spelling ts i t p ∙ ap (λ u. tuple_spelling u ++ rest) (sym is)) in
+    ap length (at_drop_more tuples_spelling ts i t p ∙ ap (λ u. tuple_spelling u ++ rest) (sym is)) in
     let sum = length-append (tuple_spelling t) rest in
     omega (arith, here, so_far, next, sum)
 
@@ -130,6 +130,6 @@ pub tuple_room : (ts : List TupleTree) (i : ℕ) (t : TupleTree) (at all room : 
 tuple_room ts i t at all room p is so_far low =
     let rest : List ℕ = tuples_spelling (drop (i + 1) ts) in
     let next : length (tuples_spelling (drop i ts)) ≡ length (tuple_spelling t ++ rest) =
-        ap length (at_drop_more tuples_spelling ts i t p ∙ ap (λ u. tuple_spelling u ++ rest) (sym is)) in
+    ap length (at_drop_more tuples_spelling ts i t p ∙ ap (λ u. tuple_spelling u ++ rest) (sym is)) in
     let sum = length-append (tuple_spelling t) rest in
     omega (arith, so_far, low, next, sum)

@@ -10,9 +10,9 @@ loop-len-preserved c =
     let i = c.loop-len.len-index in
     let parts = c.split_at.ensures in
     let left = parts.back_len in record {
-  pages = one_cut ns i _ c.loop-len.pages.items _ _ c.loop-len.rest.now _ _ (omega arith) refl c.in-Ok.ensures.items parts.front parts.back so_far.pages;
-  count = one_counted ns i _ _ _ _ (omega arith) refl (omega arith) (omega (arith, left)) so_far.count;
-}
+      pages = one_cut ns i _ c.loop-len.pages.items _ _ c.loop-len.rest.now _ _ (omega arith) refl c.in-Ok.ensures.items parts.front parts.back so_far.pages;
+      count = one_counted ns i _ _ _ _ (omega arith) refl (omega arith) (omega (arith, left)) so_far.count;
+    }
 
 pub returns-then-len-rest-clause-malformed : goal.returns-then-len-rest-clause-malformed
 returns-then-len-rest-clause-malformed c _ =

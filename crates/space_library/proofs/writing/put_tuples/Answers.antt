@@ -24,14 +24,14 @@ loop-tuple-preserved c =
     let room = tuple_room ts i t c.loop-tuple.at _ (length out) (omega arith) c.tuple-item.is so_far.behind low in
     let within : c.loop-tuple.at ≤ length out = omega (arith, room) in
     let puts = c.put_tuple-at.ensures in record {
-  behind = tuple_length ts i t _ _ _ (omega arith) c.tuple-item.is puts.behind so_far.behind;
-  written = tuple_written ts i t _ _ _ _ _ (omega arith) c.tuple-item.is within puts so_far.written;
-  room = puts_length _ _ _ _ _ room puts ∙ so_far.room;
-}
+      behind = tuple_length ts i t _ _ _ (omega arith) c.tuple-item.is puts.behind so_far.behind;
+      written = tuple_written ts i t _ _ _ _ _ (omega arith) c.tuple-item.is within puts so_far.written;
+      room = puts_length _ _ _ _ _ room puts ∙ so_far.room;
+    }
 
 pub returns : goal.returns
 returns c =
     let so_far = c.loop-tuple.invariant in record {
-  behind = tuples_length c.args.tuples.now c.loop-tuple.tuple-index _ _ (omega arith) so_far.behind;
-  put = tuples_written c.args.tuples.now c.loop-tuple.tuple-index _ _ _ (omega arith) so_far.written;
-}
+      behind = tuples_length c.args.tuples.now c.loop-tuple.tuple-index _ _ (omega arith) so_far.behind;
+      put = tuples_written c.args.tuples.now c.loop-tuple.tuple-index _ _ _ (omega arith) so_far.written;
+    }
