@@ -9,8 +9,8 @@
         with btspace.Lock(space, "printer") as held:
             print("term", held.term)
 
-`local` starts a space of its own, in a process that ends with it. A `Space` is over any program that answers each line
-with a line. `btspace.aio` has the same for asyncio.
+`local` starts a space of its own, in a process that ends with it. `connect` calls the space of a cluster. A `Space` is
+over any program that answers each line with a line. `btspace.aio` has the same for asyncio.
 """
 
 from .barriers import Barrier
@@ -33,7 +33,7 @@ from .errors import (
 from .locks import Lock, Semaphore
 from .recipes import Held, Leader, Setting
 from .registers import Config, Election
-from .space import Space, local
+from .space import Space, connect, local
 from .values import ANY, BOOL, BYTES, INT, TEXT, TUPLE, WIDE, Field, Formal, Template, TupleValue, Value, Wide
 
 __all__ = [
@@ -73,5 +73,6 @@ __all__ = [
     "Value",
     "WIDE",
     "Wide",
+    "connect",
     "local",
 ]

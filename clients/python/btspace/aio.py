@@ -20,11 +20,11 @@ from .conversation import CHILD, Conversation, one_line
 from .errors import Error, GivenUp, NoAnswer
 from .operations import Operation
 from .recipes import Held, Leader, Setting, own_name
-from .space import Program, local_command
+from .space import File, Program, connect_command, local_command
 from .values import INT, Template, TupleValue, Value
 from .waiting import Pause, Steps
 
-__all__ = ["Barrier", "Config", "Election", "Lock", "Semaphore", "Space", "local"]
+__all__ = ["Barrier", "Config", "Election", "Lock", "Semaphore", "Space", "connect", "local"]
 
 Result = TypeVar("Result")
 
@@ -141,6 +141,13 @@ class Space:
 def local(program: Program = None, *, version: int = 1, timeout: float = 60.0) -> Space:
     """A space of its own, as `btspace.local`."""
     return Space(local_command(program, version), timeout=timeout)
+
+
+def connect(
+    hosts: File, keys: File, *, node: Program = None, program: Optional[str] = None, timeout: float = 60.0
+) -> Space:
+    """The space of a cluster, as `btspace.connect`."""
+    return Space(connect_command(hosts, keys, node, program), timeout=timeout)
 
 
 class _Permits:

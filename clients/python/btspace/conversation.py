@@ -5,8 +5,8 @@ In place of an answer a refusal may come. `btspace local --keep-going` tells it 
     line 2: refused 6 at byte 5
     no line begins so: out (*
 
-So the program has one pipe for both outputs, where all stands in the order in which it was written. A program that
-tells a refusal on one line begins it with `! `.
+So the program has one pipe for both outputs, where all stands in the order in which it was written. A client of a
+cluster tells a refusal on one line, in place of the answer: `! line 2: refused 6 at byte 5`.
 
 The bytes are moved by `process` with threads, and by `aio` in an event loop.
 """
@@ -35,7 +35,7 @@ CHILD: Dict[str, Any] = {
 
 _ANSWER = re.compile(r"done|absent|full|refused|found \(.*\)|swapped (true|false)|all \d+( \(.*\))?")
 _REFUSED = re.compile(r"line \d+: refused (\d+)(?: at byte (\d+))?")
-_FAULT = re.compile(r"! (?:refused (\d+)(?: at byte (\d+))?)?(.*)")
+_FAULT = re.compile(r"! (?:(?:line \d+: )?refused (\d+)(?: at byte (\d+))?)?(.*)")
 # How many lines that are no answers are kept, to tell what the program said before it ended.
 _KEPT = 20
 

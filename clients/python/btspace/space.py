@@ -13,10 +13,12 @@ from .process import Process
 from .values import Template, TupleValue
 from .waiting import Pause, Steps
 
-__all__ = ["Program", "Space", "local", "local_command"]
+__all__ = ["Program", "Space", "connect", "connect_command", "local", "local_command"]
 
 Result = TypeVar("Result")
 Program = Union[str, Sequence[str], None]
+# A name of a file.
+File = Union[str, "os.PathLike[str]"]
 
 
 class Space:
@@ -117,9 +119,34 @@ def local(program: Program = None, *, version: int = 1, timeout: float = 60.0) -
     return Space(local_command(program, version), timeout=timeout)
 
 
+def connect(
+    hosts: File, keys: File, *, node: Program = None, program: Optional[str] = None, timeout: float = 60.0
+) -> Space:
+    """The space of a cluster, called as the client whose file of keys this is.
+
+    `hosts` is the file that tells where the replicas listen, `keys` the client's file, named as `btspace keys` names it:
+    docs/operating.md has both. Nobody else may use this file at the same time. A call is answered once enough replicas
+    agree; until they can be reached it waits, and NoAnswer comes in the end.
+
+    `node` is the path of btspace-node, or that and words before `client`. Without it the environment variable
+    BTSPACE_NODE says it, and without that it is found on the PATH. `program` is the path of btspace. Without it BTSPACE
+    says it, and without that it is found on the PATH.
+    """
+    return Space(connect_command(hosts, keys, node, program), timeout=timeout)
+
+
 def local_command(program: Program, version: int) -> List[str]:
-    if program is None:
-        program = shlex.split(os.environ.get("BTSPACE", "btspace"))
-    words = [program] if isinstance(program, str) else [*program]
     # It goes on after a refused line, so that one caller's fault doesn't end the space of all.
-    return [*words, "local", "--keep-going", "--space", str(version), "-"]
+    return [*_words(program, "BTSPACE", "btspace"), "local", "--keep-going", "--space", str(version), "-"]
+
+
+def connect_command(hosts: File, keys: File, node: Program, program: Optional[str]) -> List[str]:
+    child = os.environ.get("BTSPACE", "btspace") if program is None else program
+    words = _words(node, "BTSPACE_NODE", "btspace-node")
+    return [*words, "client", "--btspace", child, os.fspath(hosts), os.fspath(keys)]
+
+
+def _words(program: Program, variable: str, name: str) -> List[str]:
+    if program is None:
+        program = shlex.split(os.environ.get(variable, name))
+    return [program] if isinstance(program, str) else [*program]

@@ -118,6 +118,11 @@ class Says(unittest.TestCase):
         with self.assertRaises(btspace.BadByte) as caught:
             self.ask("! refused 6 at byte 4: no line begins so")
         self.assertEqual((4, "no line begins so"), (caught.exception.offset, caught.exception.reason))
+        with self.assertRaises(btspace.BadByte) as caught:
+            self.ask("! line 3: refused 6 at byte 4")
+        self.assertEqual((4, ""), (caught.exception.offset, caught.exception.reason))
+        with self.assertRaises(btspace.TooDeep):
+            self.ask("! line 1: refused 2")
         with self.assertRaises(btspace.Refused) as refused:
             self.ask("! refused 25")
         self.assertEqual(25, refused.exception.number)

@@ -1,4 +1,5 @@
-//! One space of btspace, a Linda tuple space, over its static library: a function from operations to their answers.
+//! One space of btspace, a Linda tuple space, over its static library: a function from operations to their answers, and a
+//! space that lasts ([`Space`]).
 //!
 //! ```
 //! use btspace::{answers, Answer, Field, Operation, Value, Version};
@@ -9,22 +10,24 @@
 //! assert_eq!(answers(Version::One, &script).unwrap(), [Answer::Done, Answer::Found(job(1)), Answer::Absent]);
 //! ```
 //!
-//! The function behind it is proved (`crates/space_library`). This crate is not.
+//! What is behind it is proved (`crates/space_library`). This crate is not.
 
 mod bytes;
+mod space;
 mod values;
 
 pub use bytes::Malformed;
+pub use space::{Pages, Space, HEADER_LEN, PAGES};
 pub use values::{Answer, Field, Operation, Value, Version};
 
-/// Why a run ended before the end of its operations.
+/// Why a run ended before the end of its operations, or why nothing was done to a space.
 #[derive(Clone, Copy, Debug, PartialEq, Eq)]
 pub enum Refusal {
     /// 4, memory ran out.
     NoMemory,
-    /// 5, no front of the rest spells an operation: it is outside the limits of docs/formats.md.
+    /// 5, no front of the rest spells an operation: it is outside the limits of docs/formats.md. Or the pages are no space's.
     Malformed,
-    /// 7, the next answer doesn't fit.
+    /// 7, the answer may not fit.
     TooLarge,
     /// Another number.
     Other(u8),

@@ -1,1 +1,5 @@
+pub mod Applied
+pub mod Held
+pub mod Paged
 pub mod Running
+pub mod Written

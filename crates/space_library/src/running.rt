@@ -26,6 +26,9 @@ pub const STOPPED: u8 = 21;
 /// There is no such version.
 pub const BAD_VERSION: u8 = 25;
 
+/// The handle is closed.
+pub const CLOSED: u8 = 27;
+
 /// How a run ended: how many bytes of operations were applied, and the refusal, if there was one.
 #[derive(Clone, Copy, Debug)]
 pub struct Ended {
