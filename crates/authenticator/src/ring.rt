@@ -85,8 +85,9 @@ impl Model for Ring {
 }
 
 impl Ring {
-    /// The keys that a seed of 32 bytes gives all parties. Of `3 * faults + 1` replicas `faults`, 1 to 3, may be faulty;
-    /// `clients`, 1 to 256, is the number of clients. It derives no key yet and takes no memory, so it gives no error.
+    /// The keys that a seed of 32 bytes gives all parties. Of `3 * faults + 1` replicas `faults`, 1 to 3, may be
+    /// faulty; `clients`, 1 to 256, is the number of clients. It derives no key yet and takes no memory, so it gives no
+    /// error.
     pub fn new(alloc: Global, seed: &[u8; 32], faults: u8, clients: u16) -> Ring
         ensures { result ≡ record {
           faults = faults;
@@ -120,9 +121,9 @@ impl Ring {
         Ok(Ring::from_source(alloc, faults, clients, source))
     }
 
-    /// The keys that a seed gives one party, and no other, as `deal` lists them. They are dealt when the first of them is
-    /// needed; from then on the ring holds this row, and not the seed. It serves who plays all parties, of which most
-    /// never meet. It takes no memory, so it gives no error.
+    /// The keys that a seed gives one party, and no other, as `deal` lists them. They are dealt when the first of them
+    /// is needed; from then on the ring holds this row, and not the seed. It serves who plays all parties, of which
+    /// most never meet. It takes no memory, so it gives no error.
     pub fn dealt(alloc: Global, seed: &[u8; 32], faults: u8, clients: u16, me: Party) -> Ring
         ensures { result ≡ record {
           faults = faults;
@@ -203,8 +204,8 @@ impl Ring {
         self.first_mac(from, to, text)
     }
 
-    // The code under a key that is not ready yet. A function pays for the size of its locals at each call, so the key is
-    // made ready here, apart from those that are kept.
+    // The code under a key that is not ready yet. A function pays for the size of its locals at each call, so the key
+    // is made ready here, apart from those that are kept.
     fn first_mac(&mut self, from: u16, to: u16, text: &[u8]) -> Option<[u8; 32]>
         ensures code { result ≡ shared_mac self.old.keys from to text.now }
         ensures same { self.new ≡ self.old }
@@ -218,7 +219,8 @@ impl Ring {
         Some(code)
     }
 
-    // A party whose keys are not dealt yet takes its row. If there is no room for it, the seed serves until the next key.
+    // A party whose keys are not dealt yet takes its row. If there is no room for it, the seed serves until the next
+    // key.
     fn take_row(&mut self)
         ensures { self.new ≡ self.old }
     {

@@ -97,8 +97,8 @@ impl Client {
     }
 
     /// A client that is started again, and made no call in this life. Its timestamps are those above `start`, up to
-    /// 2^62. What it does is a life of a correct client; behind earlier lives it is that client's if none of theirs had a
-    /// timestamp above `start`. They can't if `start` is a number that a file keeps, or the milliseconds since 1970,
+    /// 2^62. What it does is a life of a correct client; behind earlier lives it is that client's if none of theirs had
+    /// a timestamp above `start`. They can't if `start` is a number that a file keeps, or the milliseconds since 1970,
     /// shifted left by 20 bits: that leaves 2^20 calls for each millisecond, and lasts until May 2109.
     #[tactic(auto, using(crate::proofs::Fitting::fits_new))]
     pub fn start_above(
@@ -147,8 +147,8 @@ impl Client {
     /// # Errors
     ///
     /// The first that applies. Busy comes exactly if a call is open, and changes nothing. Stopped comes if the client
-    /// had stopped, or spent the timestamp 2^62, and NoMemory if there is no memory for the request. After either the call
-    /// counts as made: it is open, and the client has stopped.
+    /// had stopped, or spent the timestamp 2^62, and NoMemory if there is no memory for the request. After either the
+    /// call counts as made: it is open, and the client has stopped.
     #[tactic(auto, using(crate::proofs::Calling::call_leads, crate::proofs::Calling::call_ends, crate::proofs::Calling::call_fails))]
     pub fn invoke(&mut self, alloc: Global, op: Op<Global>) -> Result<Outputs, InvokeFault>
         ensures leads { IfOk result (λ outs. CallLeads self.old op outs.items self.new) }

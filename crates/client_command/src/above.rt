@@ -32,8 +32,8 @@ pub(crate) fn above_of<R: Clock>(rt: &R, asked: Option<u64>) -> Result<Timestamp
 }
 
 /// The timestamp above which a life begins at this time since 1970: 2^20 for each millisecond, as long as there are so
-/// many. It is above all timestamps of earlier lives if none of them made more than 2^20 calls for each millisecond that
-/// it lasted, and the clock didn't go back.
+/// many. It is above all timestamps of earlier lives if none of them made more than 2^20 calls for each millisecond
+/// that it lasted, and the clock didn't go back.
 pub fn above_at(since_1970: Duration) -> Timestamp
     ensures early { milliseconds_of since_1970 < 2 ^ 44 → result.0 ≡ milliseconds_of since_1970 * 2 ^ 20 }
     ensures late { 2 ^ 44 ≤ milliseconds_of since_1970 → result.0 ≡ 2 ^ 64 - 1 }

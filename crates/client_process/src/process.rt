@@ -25,8 +25,8 @@ use terms::NoMemory;
 use tuple_codec::{Answer, Op};
 use tuple_text::write_answer;
 
-// A client between two inputs: its last timer, room for a line, and the records and the result line that are not written
-// yet.
+// A client between two inputs: its last timer, room for a line, and the records and the result line that are not
+// written yet.
 #[derive(Drop)]
 pub(crate) struct Process<C> {
     pub(crate) client: C,

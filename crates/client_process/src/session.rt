@@ -31,9 +31,9 @@ use tuple_text::LineFault;
 ///
 /// # Errors
 ///
-/// NoMemory if memory runs out, and Stopped if the client can make no further call; Unanswered if the records end while a
-/// call is open; Read and Write if reading or writing fails. What was due for the inputs before is written, unless writing
-/// failed.
+/// NoMemory if memory runs out, and Stopped if the client can make no further call; Unanswered if the records end while
+/// a call is open; Read and Write if reading or writing fails. What was due for the inputs before is written, unless
+/// writing failed.
 pub fn converse<C: Caller + Drop, L: Read + Drop, R: Read + Drop, F: Write, W: Write>(
     alloc: Global,
     client: C,

@@ -23,9 +23,9 @@ use std::thread::Threads;
 use std::time::Clock;
 use tuple_codec::Op;
 
-/// Starts a cluster whose journal takes up to `limit` entries, 1 to 65,536 in the program, and has its clients call
-/// the operations. Each faulty replica of the configuration does the drill with its number. Client `i` modulo the number
-/// of clients calls operation `i`, counted from 0. Each client calls its own in their order, in a thread of its own. The
+/// Starts a cluster whose journal takes up to `limit` entries, 1 to 65,536 in the program, and has its clients call the
+/// operations. Each faulty replica of the configuration does the drill with its number. Client `i` modulo the number of
+/// clients calls operation `i`, counted from 0. Each client calls its own in their order, in a thread of its own. The
 /// answers are in the order of the operations, and the parties are as the run left them.
 ///
 /// About each second it tells each client that time went by, and then `watch` how many operations are answered. After

@@ -3,8 +3,8 @@
 //! # What is proved
 //!
 //! [`Config::new`] makes exactly the valid configurations, and its methods answer as the definitions of a
-//! configuration. A [`JournalLimit`] is a number of 1 to 65,536. An [`Entry`] is the protocol's entry, and an [`Output`]
-//! of a party is the entry that it adds to the party's history. An entry does not tell to whom a frame goes;
+//! configuration. A [`JournalLimit`] is a number of 1 to 65,536. An [`Entry`] is the protocol's entry, and an
+//! [`Output`] of a party is the entry that it adds to the party's history. An entry does not tell to whom a frame goes;
 //! `AreSentAsMeant` says that each frame goes exactly to the parties for whom it is: those with a MAC in it, or all
 //! replicas but the sender of a signed one.
 //!

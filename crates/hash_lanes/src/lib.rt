@@ -13,8 +13,8 @@
 //!
 //! # How it is made
 //!
-//! - `src/words.rt` compresses one block into one hash value, `src/lanes.rt` four side by side. Both run the rounds over
-//!   the whole message schedule. If all lanes take the same block, its schedule is made once.
+//! - `src/words.rt` compresses one block into one hash value, `src/lanes.rt` four side by side. Both run the rounds
+//!   over the whole message schedule. If all lanes take the same block, its schedule is made once.
 //! - `src/tail.rt` pads. `src/midstate.rt` and `src/four.rt` put these together.
 //! - The vectors have four words, as each x86-64 processor has. No instruction for SHA-256 is used.
 #![tactic(auto)]

@@ -1,7 +1,7 @@
 //! Prints digests that four lanes give, so that the programs of both compilers are held against outside values.
 //!
-//! What has to be printed was made by Python's hashlib. In lane `l`, from 0, a hash has taken in a block of bytes
-//! `l + 1`. Byte `i` of a text of `n` bytes is `step * i + n` modulo 256. First all lanes share one text of each length,
+//! What has to be printed was made by Python's hashlib. In lane `l`, from 0, a hash has taken in a block of bytes `l +
+//! 1`. Byte `i` of a text of `n` bytes is `step * i + n` modulo 256. First all lanes share one text of each length,
 //! with step 7. Then each lane has a text of its own, with step `3 + 2 l`. At last each lane takes in the block of lane
 //! `3 - l`, and `abc` follows.
 #![tactic(auto)]

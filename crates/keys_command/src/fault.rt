@@ -57,8 +57,8 @@ impl KeysFault {
         }
     }
 
-    /// The complaint about this fault, where the configuration stands at this path. `None` if the words ask for what may
-    /// not be done.
+    /// The complaint about this fault, where the configuration stands at this path. `None` if the words ask for what
+    /// may not be done.
     pub fn complaint<'a>(&self, config: &'a str) -> Option<Complaint<'a>>
         ensures { HasComplaint self.now config.now result }
     {

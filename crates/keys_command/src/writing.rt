@@ -15,7 +15,8 @@ use std::alloc::Global;
 use terms::{ClientId, NoMemory, Party, ReplicaId};
 use trace_text::Name;
 
-/// Puts the file of each party into the folder, replicas before clients. If a file of one of them is there, none is put.
+/// Puts the file of each party into the folder, replicas before clients. If a file of one of them is there, none is
+/// put.
 ///
 /// # Errors
 ///

@@ -2,8 +2,9 @@
 //!
 //! # What is proved
 //!
-//! [`read_keys`] gives the keys that the file's text says, and a text that it refuses is that of no party. Of a file that
-//! is too long it reads one byte more than a file may have. [`KeysFault::complaint`] says how a program ends without keys.
+//! [`read_keys`] gives the keys that the file's text says, and a text that it refuses is that of no party. Of a file
+//! that is too long it reads one byte more than a file may have. [`KeysFault::complaint`] says how a program ends
+//! without keys.
 #![tactic(auto)]
 
 mod fault;

@@ -14,7 +14,8 @@
 //!   never returned: whatever a crash leaves keeps the events that were synced.
 //! - **A further life goes on where the log ends** ([`Lasting::resume`]). The machine is what the log's history left,
 //!   and gave the outputs that it says. A log that differs is refused, and a damaged one is left as it is.
-//! - **What may have stayed goes out again.** The outputs of the last group of the file are given at the start of a life.
+//! - **What may have stayed goes out again.** The outputs of the last group of the file are given at the start of a
+//!   life.
 //! - **What went out lasts** (`what_went_out_lasts`). Over any chain of lives and crashes, also in the midst of
 //!   opening, the history that the file tells begins with every event of which anything went out in any life.
 //! - A call that failed ends the life: each later one is refused.

@@ -12,8 +12,8 @@
 //!
 //! `read_file` is safe and returns, on any bytes. Its result is the party's keys that the text says (`SaysFile`): each
 //! value stands under its key in the text's table, no other key stands there, and all are valid. A refused text says no
-//! party's keys (`JudgesFile`). `PartyKeys::write` appends exactly the file's text, which is read as the same keys and as
-//! no others (`files_are_read`).
+//! party's keys (`JudgesFile`). `PartyKeys::write` appends exactly the file's text, which is read as the same keys and
+//! as no others (`files_are_read`).
 #![tactic(auto)]
 
 mod dealing;

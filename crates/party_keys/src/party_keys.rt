@@ -100,8 +100,8 @@ impl PartyKeys {
         PublicKeys::of_replicas(alloc, Vec::from_slice(alloc, self.publics.as_slice())?)
     }
 
-    /// The signer of a replica, with all leaves unused. A client has none. Each call gives one that begins with the first
-    /// leaf, so a replica takes one in its life.
+    /// The signer of a replica, with all leaves unused. A client has none. Each call gives one that begins with the
+    /// first leaf, so a replica takes one in its life.
     pub fn signer(&self) -> Option<Signer>
         ensures seed { option_map (λ s. s.seed) result ≡ self.now.seed }
         ensures unused { IfSome result (λ s. s.used ≡ 0) }

@@ -2,9 +2,9 @@
 //!
 //! Each party is a process with a history of its own, and no process knows the others'. Each event has a moment: that
 //! at which its step has ended, before a byte of its outputs is written. By these moments the events of all processes
-//! stand in one order, and their entries are a trace. Frames are sent in it before they come, and a call acts between the
-//! reading of its line and the writing of its result. The moments are outside of the proofs: the laws speak of any order
-//! of whole events.
+//! stand in one order, and their entries are a trace. Frames are sent in it before they come, and a call acts between
+//! the reading of its line and the writing of its result. The moments are outside of the proofs: the laws speak of any
+//! order of whole events.
 //!
 //! # What is proved
 //!

@@ -26,8 +26,8 @@ const TAIL: &str = "</svg>\n";
 ///
 /// # Errors
 ///
-/// NoEntry if the trace has entries, but none there. TooHigh or TooWide if the chart would have more than 30,000 pixels.
-/// NoMemory if memory runs out. The bytes are as they were then.
+/// NoEntry if the trace has entries, but none there. TooHigh or TooWide if the chart would have more than 30,000
+/// pixels. NoMemory if memory runs out. The bytes are as they were then.
 pub fn write_picture(
     alloc: Global,
     run: Run<'_>,

@@ -10,9 +10,9 @@ use std::io::{self, ErrorKind, Read, Write};
 use terms::{Party, ReplicaId, Timestamp};
 use tuple_codec::{Answer, Op};
 
-// Sends the number of its call to the replicas 0 to 3, and a byte to replica 1 when time went by. The frame `a` brings the
-// answer that all is done, and `b` that nothing was found; it sends others to replica 2. Memory runs out at its step of
-// this number.
+// Sends the number of its call to the replicas 0 to 3, and a byte to replica 1 when time went by. The frame `a` brings
+// the answer that all is done, and `b` that nothing was found; it sends others to replica 2. Memory runs out at its
+// step of this number.
 #[derive(Drop)]
 struct Made {
     calls: u8,
@@ -84,9 +84,9 @@ fn given(alloc: Global, output: Output) -> Result<Outputs, Stop> {
 
 static SCRIPT: [u8; 57] = *b"# a comment\nout (1 2)\n\nrdp (1 ?int)\r\noops\ninp (3)\nout (4)";
 
-// The records that it reads, and the texts that it then writes, by another implementation of the loop, in Python. In the
-// first call: two links; timer 9; a frame; timer 1; `a`. In the second one: kind 9; the timers 2 to 7; an empty frame; `b`.
-// In the third one: timer 8; `b`. In the fourth one: `a`. And a frame behind the last call.
+// The records that it reads, and the texts that it then writes, by another implementation of the loop, in Python. In
+// the first call: two links; timer 9; a frame; timer 1; `a`. In the second one: kind 9; the timers 2 to 7; an empty
+// frame; `b`. In the third one: timer 8; `b`. In the fourth one: `a`. And a frame behind the last call.
 static READ: [u8; 176] = [
     0x00, 0x00, 0x00, 0x02, 0x03, 0x02, 0x00, 0x00, 0x00, 0x09, 0x02, 0x00, 0x00, 0x00, 0x00, 0x00,
     0x00, 0x00, 0x09, 0x00, 0x00, 0x00, 0x03, 0x01, 0x7a, 0x7a, 0x00, 0x00, 0x00, 0x09, 0x02, 0x00,
@@ -186,8 +186,8 @@ fn end_of(ended: Result<(), ConverseFault>) -> End {
     }
 }
 
-// A session: over so many bytes of the records, so many of either input at a time; to writers that take so many at a time,
-// and so many at most; and memory runs out at the client's step of this number.
+// A session: over so many bytes of the records, so many of either input at a time; to writers that take so many at a
+// time, and so many at most; and memory runs out at the client's step of this number.
 #[derive(Clone, Copy)]
 struct Case {
     len: usize,
@@ -308,8 +308,8 @@ fn a_writer_fails_behind_a_front(rt: HostRuntime) {
     }
 }
 
-// Whether a session ends so over readers that are interrupted, and that fail behind so many bytes of the script and of the
-// records; and whether so much of either text is written.
+// Whether a session ends so over readers that are interrupted, and that fail behind so many bytes of the script and of
+// the records; and whether so much of either text is written.
 fn fails(alloc: Global, script: usize, records: usize, sent: usize, told: usize) -> bool {
     let script = Failing {
         left: &SCRIPT[..script.min(57)],
@@ -382,7 +382,8 @@ fn want_of_memory_stops_it_between_inputs(rt: HostRuntime) {
     }
 }
 
-// A record of no bytes, two of kinds that there aren't, and an answer; and then one that says to have 4,294,967,295 bytes.
+// A record of no bytes, two of kinds that there aren't, and an answer; and then one that says to have 4,294,967,295
+// bytes.
 static STRANGE: [u8; 29] = [
     0x00, 0x00, 0x00, 0x00, 0x00, 0x00, 0x00, 0x02, 0x00, 0x61, 0x00, 0x00, 0x00, 0x03, 0x80, 0x01,
     0x61, 0x00, 0x00, 0x00, 0x02, 0x01, 0x61, 0xff, 0xff, 0xff, 0xff, 0x01, 0x61,
@@ -490,8 +491,8 @@ fn results_for(len: usize) -> usize {
     due
 }
 
-// Gives a byte of the script at a time, and looks whether the results of all lines before were flushed. The last line has
-// no end but the script's.
+// Gives a byte of the script at a time, and looks whether the results of all lines before were flushed. The last line
+// has no end but the script's.
 #[derive(Drop)]
 struct AskingLines<'a> {
     given: usize,

@@ -53,8 +53,8 @@ fn are_replayed(alloc: Global, pipes: &Pipes) -> Option<bool> {
     Some(true)
 }
 
-// How many rows are answered as they should be, and how many frames were carried for them. None if a process wrote other
-// bytes when it was run again.
+// How many rows are answered as they should be, and how many frames were carried for them. None if a process wrote
+// other bytes when it was run again.
 fn answered(alloc: Global, fates: Fates) -> Option<(usize, usize)> {
     let mut pipes = Pipes::new(alloc, fates)?;
     for (number, (line, result)) in ROWS.iter().enumerate() {

@@ -1,7 +1,7 @@
 //! Four replicas and two clients, whose processes are joined by pipes.
 //!
-//! What a process writes follows from what it reads. So one thread is enough: whenever something came to a process, it is
-//! run anew over all that came to it. What it wrote before has to stand at the front of what it then writes.
+//! What a process writes follows from what it reads. So one thread is enough: whenever something came to a process, it
+//! is run anew over all that came to it. What it wrote before has to stand at the front of what it then writes.
 
 use crate::process::{Process, first_record, sent_frame};
 use std::alloc::Global;
@@ -16,8 +16,8 @@ const LAST_REPLICA: usize = 3;
 /// The places of the clients behind the replicas.
 pub const CLIENTS: [usize; 2] = [4, 5];
 
-/// What becomes of a frame on its way to a receiver: it comes, it is lost, it comes twice, it comes behind the next one, or
-/// a changed one comes before it.
+/// What becomes of a frame on its way to a receiver: it comes, it is lost, it comes twice, it comes behind the next
+/// one, or a changed one comes before it.
 #[derive(Clone, Copy, PartialEq, Eq)]
 pub enum Fate {
     Comes,

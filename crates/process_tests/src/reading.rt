@@ -5,9 +5,9 @@ use records::{MAX_RECORD, Notice, RecordReader};
 use std::alloc::Global;
 use std::io::{ErrorKind, Read};
 
-// Made by Python's struct: for each record '>IB' of the length and the kind, and its content. A frame of three bytes; the
-// timer 7; two links; kind 4; a length of 0; a timer of seven bytes, and one of nine; an empty frame; links of two bytes,
-// and of none; kinds 0 and 255; the timer 2^64 - 1; a frame that has the bytes of a record.
+// Made by Python's struct: for each record '>IB' of the length and the kind, and its content. A frame of three bytes;
+// the timer 7; two links; kind 4; a length of 0; a timer of seven bytes, and one of nine; an empty frame; links of two
+// bytes, and of none; kinds 0 and 255; the timer 2^64 - 1; a frame that has the bytes of a record.
 static INPUT: [u8; 117] = [
     0x00, 0x00, 0x00, 0x04, 0x01, 0xa1, 0xb2, 0xc3, 0x00, 0x00, 0x00, 0x09, 0x02, 0x00, 0x00, 0x00,
     0x00, 0x00, 0x00, 0x00, 0x07, 0x00, 0x00, 0x00, 0x02, 0x03, 0x02, 0x00, 0x00, 0x00, 0x03, 0x04,

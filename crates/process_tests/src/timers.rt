@@ -4,8 +4,9 @@ use patience::{Patience, Standing, Timer};
 use state_transfer::Place;
 use terms::{Level, Number, Timestamp, View};
 
-// How a replica stands: it waits for nothing; it is inactive and waits for view 1, or for view 2; it waits for the first
-// page of state 16, or the second one, without or with a request; for the request 1 of client 0; or for its request 2.
+// How a replica stands: it waits for nothing; it is inactive and waits for view 1, or for view 2; it waits for the
+// first page of state 16, or the second one, without or with a request; for the request 1 of client 0; or for its
+// request 2.
 #[derive(Clone, Copy, PartialEq, Eq)]
 enum Stands {
     Idle,

@@ -34,8 +34,8 @@ fn puts_timer(alloc: Global, number: u64, milliseconds: u32, bytes: &[u8]) -> bo
     put_timer(number, milliseconds, &mut text).is_ok() && follow(text.as_slice(), bytes)
 }
 
-// The bytes were made by Python's struct: '>IB', then for a frame a count, '>H' for each receiver and the frame, and for
-// a timer '>QI'.
+// The bytes were made by Python's struct: '>IB', then for a frame a count, '>H' for each receiver and the frame, and
+// for a timer '>QI'.
 #[test]
 fn records_have_their_bytes(rt: HostRuntime) {
     let alloc = rt.alloc();

@@ -12,8 +12,8 @@
 //! [`RecordReader::is_at_hand`] tells whether the next record has come whole. [`put_frame`] and [`put_timer`] append a
 //! record's bytes, or nothing.
 //!
-//! Laws: all bytes tell some list of notices, and one alone (`inputs_tell`, `inputs_tell_one`). What is kept of a record
-//! tells what the record tells (`kept_tell_the_same`).
+//! Laws: all bytes tell some list of notices, and one alone (`inputs_tell`, `inputs_tell_one`). What is kept of a
+//! record tells what the record tells (`kept_tell_the_same`).
 //!
 //! # What it keeps
 //!

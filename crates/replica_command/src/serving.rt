@@ -34,8 +34,8 @@ pub fn serve_file<F: Read + Drop, R: Read + Drop, W: Write>(
     }
 }
 
-/// Serves the replica that has these keys over the records of a reader, and writes records. It gets timeouts only while it
-/// is linked to 2f others. The keys of a client are refused.
+/// Serves the replica that has these keys over the records of a reader, and writes records. It gets timeouts only while
+/// it is linked to 2f others. The keys of a client are refused.
 ///
 /// # Errors
 ///

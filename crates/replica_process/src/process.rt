@@ -32,8 +32,8 @@ const HELD: usize = 65_536;
 ///
 /// # Errors
 ///
-/// NoMemory if memory runs out, and the replica stops; Read and Write if reading or writing fails. Then it served a front
-/// of the records. All that was due for these is written, unless writing failed.
+/// NoMemory if memory runs out, and the replica stops; Read and Write if reading or writing fails. Then it served a
+/// front of the records. All that was due for these is written, unless writing failed.
 pub fn serve<M: Machine + Drop, R: Read + Drop, W: Write>(
     alloc: Global,
     machine: M,
@@ -233,8 +233,8 @@ fn put_frames(outputs: &[Output], text: &mut Vec<u8>) -> Result<(), ServeFault>
     Ok(())
 }
 
-// Writes the held records if there are many, or if the next record has not come whole. The reader may then wait for that
-// one, and its sender may wait for these.
+// Writes the held records if there are many, or if the next record has not come whole. The reader may then wait for
+// that one, and its sender may wait for these.
 fn write_due<R: Read + Drop, W: Write>(
     text: &mut Vec<u8>,
     records: &RecordReader<R>,

@@ -73,8 +73,8 @@ fn is_there(period: u8, me: u8) -> bool
     me <= 3 && period >= 1 && period <= 16
 }
 
-/// The replica of this number below 4, before its first event, with a checkpoint at each multiple of the period and with
-/// the keys that the seed gives it. Where there is none it is as one that stopped.
+/// The replica of this number below 4, before its first event, with a checkpoint at each multiple of the period and
+/// with the keys that the seed gives it. Where there is none it is as one that stopped.
 pub fn replica_of_seed(
     alloc: Global,
     seed: &[u8; 32],
@@ -225,8 +225,8 @@ fn gives_tables(replica: &mut Replica, alloc: Global, tables: &[&[Row<'_>]]) -> 
     Ok(true)
 }
 
-/// Whether the replica of this number, with a checkpoint at each multiple of this period, gives the expected outputs for each frame
-/// of each table.
+/// Whether the replica of this number, with a checkpoint at each multiple of this period, gives the expected outputs
+/// for each frame of each table.
 pub fn runs(alloc: Global, me: u8, period: u8, tables: &[&[Row<'_>]]) -> Verdict {
     match replica_of_period(alloc, period, me) {
         Ok(mut replica) => {

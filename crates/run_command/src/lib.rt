@@ -16,8 +16,8 @@
 //! # What is not
 //!
 //! No contract says what a [`Summary`] tells, nor what a [`Display`] shows on a terminal while the run lasts: these are
-//! safe, and `command_tests` looks at what they tell. A [`Forecast`] is an estimate, for a run in which all replicas keep
-//! up.
+//! safe, and `command_tests` looks at what they tell. A [`Forecast`] is an estimate, for a run in which all replicas
+//! keep up.
 #![tactic(auto)]
 
 mod display;

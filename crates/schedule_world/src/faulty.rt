@@ -68,8 +68,8 @@ impl FaultyParty {
         macs
     }
 
-    // The MAC of a body for a receiver, under the key of this party's row. A schedule may name a receiver with which the
-    // party shares no key. Nobody opens such a frame, and its MAC is under the key that the seed gives the two.
+    // The MAC of a body for a receiver, under the key of this party's row. A schedule may name a receiver with which
+    // the party shares no key. Nobody opens such a frame, and its MAC is under the key that the seed gives the two.
     fn mac_for(&mut self, receiver: Party, body: &[u8]) -> [u8; 32]
         ensures mac { result
             ≡ mac_between (dealt self.old.seed) (party_number self.old.party) (party_number receiver) body.now }

@@ -62,8 +62,8 @@ pub(crate) fn seal_bytes(
     Ok(frame)
 }
 
-/// The bytes of a frame with these bytes as its body, whatever they spell, signed with a leaf of the replica's own keys,
-/// also one that has signed before.
+/// The bytes of a frame with these bytes as its body, whatever they spell, signed with a leaf of the replica's own
+/// keys, also one that has signed before.
 pub(crate) fn sign_bytes(
     alloc: Global,
     config: &Config,

@@ -111,8 +111,8 @@ fn report_of(stage: Stage, alloc: Global, config: &Config) -> Result<Report, NoM
     })
 }
 
-// Plays a step, and returns whether it is allowed; one that is not changes nothing. Faulty parties seal and sign by their
-// own keys.
+// Plays a step, and returns whether it is allowed; one that is not changes nothing. Faulty parties seal and sign by
+// their own keys.
 fn take_step(
     stage: &mut Stage,
     alloc: Global,

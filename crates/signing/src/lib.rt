@@ -2,8 +2,8 @@
 //!
 //! A seed gives 64 one-time keys (Lamport, Constructing digital signatures from a one way function, SRI 1979), whose
 //! digests are the leaves of a tree (Merkle, A certified digital signature, CRYPTO 1989). Its root is the public key.
-//! The hash is SHA-256 (FIPS 180-4); the derivation of the secrets, the sizes and the layout are this project's own. Four
-//! secrets, and four of their hashes, are computed at once (`hash_lanes`).
+//! The hash is SHA-256 (FIPS 180-4); the derivation of the secrets, the sizes and the layout are this project's own.
+//! Four secrets, and four of their hashes, are computed at once (`hash_lanes`).
 //!
 //! # What is proved
 //!

@@ -24,8 +24,8 @@ enum Origin {
 }
 
 /// The public keys of the replicas of one configuration, for all who share them, in any threads. They are known; or a
-/// seed gives them. Then each is derived when it first verifies a text, which takes as long as a tree of keys, unless its
-/// signer handed it in before. If two threads first need it at once, each derives it.
+/// seed gives them. Then each is derived when it first verifies a text, which takes as long as a tree of keys, unless
+/// its signer handed it in before. If two threads first need it at once, each derives it.
 #[derive(Drop)]
 pub struct PublicKeys {
     origin: Origin,

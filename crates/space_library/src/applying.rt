@@ -12,8 +12,8 @@ use std::alloc::Global;
 use tuple_codec::{Op, decode_judged_op, is_op};
 use tuple_tree::MAX_LEN;
 
-/// Applies the operation that the bytes, whole, spell, as client 0's. It writes the answer in front of `answer`, and gives
-/// how many bytes it has. A refusal changes nothing.
+/// Applies the operation that the bytes, whole, spell, as client 0's. It writes the answer in front of `answer`, and
+/// gives how many bytes it has. A refusal changes nothing.
 pub fn apply_spelled(
     alloc: Global,
     space: &mut Space,

@@ -134,8 +134,8 @@ pub extern "C" fn btspace_page(
     }
 }
 
-/// Writes the text of the header of the space after `number` executed batches. It gives 0, or 27 if the handle is closed;
-/// then nothing is written.
+/// Writes the text of the header of the space after `number` executed batches. It gives 0, or 27 if the handle is
+/// closed; then nothing is written.
 #[unsafe(no_mangle)]
 pub extern "C" fn btspace_header(
     alloc: Global,
@@ -157,8 +157,8 @@ pub extern "C" fn btspace_header(
     NONE
 }
 
-/// Opens the space of a state by the texts of its pages 0 to 255, which stand one behind another, with their lengths, and
-/// by its header. It tells how many batches were executed by the header. A space that the handle held is gone.
+/// Opens the space of a state by the texts of its pages 0 to 255, which stand one behind another, with their lengths,
+/// and by its header. It tells how many batches were executed by the header. A space that the handle held is gone.
 ///
 /// It gives 0, or the number of a refusal, which leaves the handle with what it held, and the number as it was:
 ///

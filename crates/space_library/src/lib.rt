@@ -3,11 +3,11 @@
 //!
 //! # What is proved
 //!
-//! [`btspace_run`] is a function of its arguments: it keeps no state, and takes no pointer but to bytes that it reads or
-//! writes. It reads operations one behind another, applies them to a new space as client 0's, and writes their answers.
-//! What it read and wrote is a run (`RunsBytes`), whatever it gives. It gives 0 only if it read all, 5 only if no front of
-//! the rest spells an operation, 7 only if the next answer doesn't fit, and 25 exactly if there is no such version. Behind
-//! the answers the results stay as they were.
+//! [`btspace_run`] is a function of its arguments: it keeps no state, and takes no pointer but to bytes that it reads
+//! or writes. It reads operations one behind another, applies them to a new space as client 0's, and writes their
+//! answers. What it read and wrote is a run (`RunsBytes`), whatever it gives. It gives 0 only if it read all, 5 only if
+//! no front of the rest spells an operation, 7 only if the next answer doesn't fit, and 25 exactly if there is no such
+//! version. Behind the answers the results stay as they were.
 //!
 //! The others are about a space that lasts. A [`Handle`] holds the state of a space, or nothing. That is what their
 //! contracts speak of: which bytes are written, what the handle holds then, and that a refusal changes neither.
@@ -23,8 +23,8 @@
 //!
 //! # What is trusted
 //!
-//! That what C passes is there: as many bytes as it says, to be read and to be written, and no two of them the same; and
-//! that a handle is a null pointer, or as a call of this library left it.
+//! That what C passes is there: as many bytes as it says, to be read and to be written, and no two of them the same;
+//! and that a handle is a null pointer, or as a call of this library left it.
 #![tactic(auto)]
 
 mod applying;
