@@ -109,8 +109,8 @@ impl Transfer {
         &self.held
     }
 
-    /// The pages of the wanted state if the held pages have its root, or `None` while a place is missing. No other pages
-    /// have this root, unless texts over these and over those collide.
+    /// The pages of the wanted state if the held pages have its root, or `None` while a place is missing. No other
+    /// pages have this root, unless texts over these and over those collide.
     pub fn finish(&self) -> Option<&Tree>
         ensures pages { IfSome result (λ pages. pages.now ≡ self.now.held) }
         ensures root { IfSome result (λ pages. root_of pages.now ≡ self.now.root) }
