@@ -12,10 +12,10 @@
 //! it have other digests than wanted, and its children's digests aren't known. None is missing exactly if the held
 //! pages have the wanted root.
 //!
-//! A transfer takes an answer exactly if it is for the place asked for last and has the digest wanted there. Otherwise
-//! it tells the first fault that applies, and nothing changes. Digests that came serve only in their own place, and
-//! only if their own digest is wanted there. `finish` gives the only pages with the wanted root, unless texts over
-//! pages collide (`AreThePagesOf`). Law: `putting_back_restores`.
+//! A transfer takes an answer exactly if it is for the place asked for last and has the digest wanted there.
+//! Otherwise it tells the first fault that applies, and nothing changes. Digests that came serve only in their own
+//! place, and only if their own digest is wanted there. `finish` gives the only pages with the wanted root, unless
+//! texts over pages collide (`AreThePagesOf`). Law: `putting_back_restores`.
 #![tactic(auto)]
 
 mod differences;
