@@ -33,7 +33,9 @@ class Pages(unittest.TestCase):
         self.assertEqual("term 0\n", printed(block, {}))
 
     def test_embedding(self):
-        self.assertEqual(["('printed', 0, 'a page')\n"] * 2, [printed(it, {}) for it in blocks(EMBEDDING, "python")])
+        *locks, carrier = blocks(EMBEDDING, "python")
+        self.assertEqual(["('printed', 0, 'a page')\n"] * 2, [printed(it, {}) for it in locks])
+        self.assertEqual(blocks(EMBEDDING, "text")[-1], printed(carrier, {}))
 
     @unittest.skipUnless(shutil.which("bash"), "coproc is bash's")
     def test_co_process(self):

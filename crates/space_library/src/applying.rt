@@ -1,8 +1,9 @@
 //! One operation that bytes spell, on one space.
 
-ghost use Rattle.std.specs.Prelude.{◌≡◌, ◌≢◌, ◌^◌, ◌≤◌, Err, length, take, drop, IfOk, OnErr};
+ghost use Rattle.std.specs.Prelude.{◌≡◌, ◌≢◌, ◌^◌, ◌≤◌, Err, true, length, take, drop, IfOk, IfErr, OnErr};
 ghost use Rattle.tuple_codec.specs.OperationView.{operation_of};
 ghost use Rattle.tuple_codec.specs.Spelling.{SpellsSomeOperation};
+ghost use Rattle.space_library.specs.Refusals.{is_refusal};
 ghost use Rattle.space_library.specs.Applied.{AppliesSpelled, AsksForMore, most_answer};
 
 use crate::running::{MALFORMED, NO_MEMORY, STOPPED, TOO_LARGE};
@@ -28,6 +29,7 @@ pub fn apply_spelled(
     ensures too_large { result ≡ Err 7 → AsksForMore bytes.now (length answer.old) }
     ensures stopped { result ≡ Err 21 → 2 ^ 62 ≤ space.old.next }
     ensures refusal { (result ≢ Err 0) × (result ≢ Err 27) }
+    ensures number { IfErr result (λ n. is_refusal n ≡ true) }
 {
     if !is_op(bytes) {
         return Err(MALFORMED);

@@ -1,12 +1,13 @@
 //! What C calls for a space that lasts. A handle stands for the space. Each call takes the space out of it, and puts it
 //! back.
 
-ghost use Rattle.std.specs.Prelude.{◌≡◌, ◌≢◌, ◌↔◌, ◌^◌, ◌≤◌, ◌<◌, None, Some, length, take, drop, IfSome};
+ghost use Rattle.std.specs.Prelude.{◌≡◌, ◌≢◌, ◌↔◌, ◌^◌, ◌≤◌, ◌<◌, None, Some, true, length, take, drop, IfSome};
 ghost use Rattle.tuple_codec.specs.Spelling.{SpellsSomeOperation};
 ghost use Rattle.space.specs.Births.{empty_in};
 ghost use Rattle.space.specs.Pages.{tuple_page_text};
 ghost use Rattle.space.specs.declared.version.Version.TheVariants as Version;
 ghost use Rattle.space_library.specs.Applied.{AppliesHeld, AsksForMore};
+ghost use Rattle.space_library.specs.Refusals.{is_refusal};
 ghost use Rattle.space_library.specs.Paged.{IsPageHeld, IsHeaderHeld, HoldsPages, ArePagesOfNone};
 
 use crate::applying::apply_spelled;
@@ -28,6 +29,7 @@ pub extern "C" fn btspace_open(alloc: Global, version: u8, handle: &mut Handle) 
     ensures two { result ≡ 0 → version ≡ 2 → handle.new.held ≡ Some (empty_in Version.Two) }
     ensures refused { result ≢ 0 → handle.new.held ≡ handle.old.held }
     ensures version { (result ≡ 25) ↔ ((version ≢ 1) × (version ≢ 2)) }
+    ensures number { result ≢ 0 → is_refusal result ≡ true }
 {
     let space = match version {
         1 => Space::new(alloc),
@@ -77,6 +79,7 @@ pub extern "C" fn btspace_apply(
     ensures malformed { result ≡ 5 → SpellsSomeOperation operation.now → ⊥ }
     ensures too_large { result ≡ 7 → AsksForMore operation.now (length answer.old) }
     ensures stopped { result ≡ 21 → IfSome handle.old.held (λ s. 2 ^ 62 ≤ s.next) }
+    ensures number { result ≢ 0 → is_refusal result ≡ true }
 {
     *written = 0;
     let Some(mut space) = handle.take(alloc) else {
@@ -118,6 +121,7 @@ pub extern "C" fn btspace_page(
     ensures malformed { result ≡ 5 → PAGES ≤ page }
     ensures too_large { result ≡ 7 → IfSome handle.old.held
         (λ s. length text.old < length (tuple_page_text s page)) }
+    ensures number { result ≢ 0 → is_refusal result ≡ true }
 {
     *written = 0;
     let Some(space) = handle.take(alloc) else {
@@ -176,6 +180,7 @@ pub extern "C" fn btspace_from_pages(
     ensures read { result ≡ 0 → HoldsPages lengths.now texts.now header.now handle.new.held number.new }
     ensures refused { result ≢ 0 → (handle.new.held ≡ handle.old.held) × (number.new ≡ number.old) }
     ensures malformed { result ≡ 5 → ArePagesOfNone lengths.now texts.now header.now }
+    ensures number { result ≢ 0 → is_refusal result ≡ true }
 {
     match read_pages(alloc, texts, lengths, header) {
         Ok((space, executed)) => {

@@ -1,7 +1,8 @@
 //! The page texts of one space, and a space by them.
 
-ghost use Rattle.std.specs.Prelude.{◌≡◌, ◌≢◌, ◌≤◌, ◌<◌, Err, length, take, drop, IfOk, OnErr};
+ghost use Rattle.std.specs.Prelude.{◌≡◌, ◌≢◌, ◌≤◌, ◌<◌, Err, true, length, take, drop, IfOk, IfErr, OnErr};
 ghost use Rattle.space.specs.Pages.{tuple_page_text, texts_of};
+ghost use Rattle.space_library.specs.Refusals.{is_refusal};
 ghost use Rattle.space_library.specs.Paged.{ArePagesCut, ArePagesOfNone, cut, total};
 
 use crate::running::{MALFORMED, NO_MEMORY, TOO_LARGE};
@@ -19,6 +20,7 @@ pub fn write_page(space: &Space, page: usize, out: &mut [u8]) -> Result<usize, u
     ensures malformed { result ≡ Err 5 → PAGES ≤ page }
     ensures too_large { result ≡ Err 7 → length out.old < length (tuple_page_text space.now page) }
     ensures refusal { (result ≢ Err 0) × (result ≢ Err 27) }
+    ensures number { IfErr result (λ n. is_refusal n ≡ true) }
 {
     if page >= PAGES {
         return Err(MALFORMED);
@@ -44,6 +46,7 @@ pub fn read_pages(
     ensures ok { IfOk result (λ x. ArePagesCut lengths.now texts.now header.now x.0 x.1) }
     ensures malformed { result ≡ Err 5 → ArePagesOfNone lengths.now texts.now header.now }
     ensures refusal { result ≢ Err 0 }
+    ensures number { IfErr result (λ n. is_refusal n ≡ true) }
 {
     let pages = cut_pages(alloc, texts, lengths)?;
     match Space::from_pages(alloc, pages.as_slice(), header) {
@@ -59,6 +62,7 @@ fn cut_pages<'t>(alloc: Global, texts: &'t [u8], lengths: &[usize]) -> Result<Ve
     ensures all { IfOk result (λ pages. total lengths.now ≡ length texts.now) }
     ensures malformed { result ≡ Err 5 → total lengths.now ≢ length texts.now }
     ensures refusal { result ≢ Err 0 }
+    ensures number { IfErr result (λ n. is_refusal n ≡ true) }
 {
     let mut pages = Vec::new(alloc);
     let mut rest = texts;
