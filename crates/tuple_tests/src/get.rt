@@ -75,8 +75,7 @@ fn stands_at(alloc: Global, row: (usize, Seen, Seen)) -> Result<bool, Bad> {
     let (tuple, _) = decode_tuple(alloc, TUPLE)?;
     let (template, _) = decode_template(alloc, TEMPLATE)?;
     let (place, in_tuple, in_template) = row;
-    let is_right =
-        value(tuple.get(place)) == in_tuple && field(template.get(place)) == in_template;
+    let is_right = value(tuple.get(place)) == in_tuple && field(template.get(place)) == in_template;
     drop(tuple);
     drop(template);
     Ok(is_right)
