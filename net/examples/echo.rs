@@ -1,4 +1,4 @@
-//! Stands in the place of `btspace` for `net/bench`: it computes nothing, so that a carrier's own time is left.
+//! Stands in the place of `btspace` for `net/bench`. It computes nothing, so that the carriers' own time is left.
 //!
 //! `echo replica KEYS` hands each frame on to the next party that stands in it. `echo client KEYS IN OUT` sends a frame
 //! for each line by as many hops as a write takes, and prints `done` once it has come back. `docs/formats.md` has the

@@ -66,8 +66,8 @@ impl Timer {
 #[cfg(test)]
 mod tests {
     use super::*;
-    use std::sync::Arc;
     use crate::clock::{sleep, timeout};
+    use std::sync::Arc;
 
     /// The number of which the child is told after so many milliseconds at most, if it is told of one.
     async fn told(intake: &Intake, milliseconds: u64) -> Option<u8> {

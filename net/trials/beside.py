@@ -8,17 +8,10 @@ import urllib.request
 from pathlib import Path
 
 from cluster import Cluster, Process, Trouble, await_that, free_ports
-from timing import Caller, figure_of, write_script
+from timing import EXAMPLES, Callers, write_script
 
 NET = Path(__file__).resolve().parent.parent
-EXAMPLES = NET / "out" / "release" / "examples"
 MEMBERS = 3
-
-
-def build_examples():
-    """Builds the echo and etcd's client."""
-    words = [NET / "build", "--example", "echo", "--example", "etcd_client"]
-    subprocess.run(words, check=True, capture_output=True)
 
 
 class Echo(Cluster):
@@ -127,18 +120,10 @@ class Etcd:
                 pass
         return None
 
-    def figure(self, clients, lines_of):
-        """What calls of so many clients cost."""
+    def figure(self, what, lines_of_clients):
+        """What the calls of clients cost that have these lines."""
         words = [EXAMPLES / "etcd_client", str(self.leader()), *(["."] if self.tls else [])]
-        callers = [
-            Caller(words, write_script(self.room / f"c{it}", lines_of(it)), self.room / f"c{it}.log", cwd=self.room)
-            for it in range(clients)
-        ]
-        try:
-            return figure_of(self.members, callers)
-        finally:
-            for it in callers:
-                it.process.kill()
+        return Callers(self.room, what, [(words, lines) for lines in lines_of_clients]).figure(self.members)
 
 
 def run_rate(program, room, faults, clients, writes):

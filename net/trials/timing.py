@@ -1,12 +1,20 @@
-"""Clients that work through scripts, one call after another, and what their calls cost."""
+"""Clients that work through scripts, one call after another, and what their calls cost. `examples/callers.rs` times
+the calls: on a busy machine this process would see answers late."""
 
 import os
-import threading
-import time
+import subprocess
 from pathlib import Path
 from typing import NamedTuple
 
-from cluster import BOUND, Process, Trouble, children_of
+from cluster import HERE, Process, Trouble, children_of
+
+EXAMPLES = HERE.parent / "out" / "release" / "examples"
+
+
+def build_examples():
+    """Builds the programs of net/examples."""
+    words = [HERE.parent / "build", "--examples"]
+    subprocess.run(words, check=True, capture_output=True)
 
 
 def used(pid):
@@ -18,50 +26,14 @@ def used(pid):
         return 0.0
 
 
-class Caller:
-    """A client that works through a script, and the moments of its results."""
-
-    def __init__(self, words, script, log, **given):
-        self.moments, self.calls = [], len(script.read_text().splitlines())
-        with open(script, "rb") as lines:
-            self.process = Process(words, log, stdin=lines, stdout=-1, **given)
-        self.thread = threading.Thread(target=self.read, daemon=True)
-        self.thread.start()
-
-    def read(self):
-        for _ in self.process.begun.stdout:
-            self.moments.append(time.monotonic())
-
-    def end(self):
-        self.process.begun.wait()
-        self.thread.join()
-        if len(self.moments) < self.calls:
-            raise Trouble(f"{len(self.moments)} of {self.calls} calls were answered: {self.process.said()}")
-
-
-def usage(processes):
+def usage(pids):
     """The processor seconds that processes and their children have used so far."""
-    pids = [it.begun.pid for it in processes]
     return sum(map(used, pids)), sum(used(child) for pid in pids for child in children_of(pid))
 
 
-class Sample(NamedTuple):
-    """A moment: how many calls are answered, and what was used for them by servers and clients."""
-
-    moment: float
-    answered: int
-    servers: tuple
-    clients: tuple
-
-    @staticmethod
-    def of(servers, callers):
-        answered = sum(len(it.moments) for it in callers)
-        return Sample(time.monotonic(), answered, usage(servers), usage([it.process for it in callers]))
-
-
 class Figure(NamedTuple):
-    """What calls cost: how many there were in a second, the milliseconds of half of them and of all but one in a
-    hundred, and the microseconds of processor time for each: of servers and their children, and of clients."""
+    """What calls cost: how many there were in a second, the milliseconds of half of them and of 99 in 100, and the
+    microseconds of processor time for each: of servers and their children, and of clients and theirs."""
 
     rate: float
     half: float
@@ -73,30 +45,48 @@ class Figure(NamedTuple):
         return f"{self.rate:.0f} a second, ms p50 {self.half:.2f} p99 {self.most:.2f}"
 
 
-def figure_of(servers, callers):
-    """From when all clients have their first answer until one of them has nine tenths of its answers."""
-    end_of_wait = time.monotonic() + BOUND
-    while not all(it.moments for it in callers):
-        if time.monotonic() > end_of_wait:
-            raise Trouble("\n".join(["no answer", *(it.process.said() for it in callers if not it.moments)]))
-        time.sleep(0.002)
-    begin = Sample.of(servers, callers)
-    while all(len(it.moments) < 0.9 * it.calls and it.thread.is_alive() for it in callers):
-        time.sleep(0.002)
-    end = Sample.of(servers, callers)
-    for it in callers:
-        it.end()
-    return between(begin, end, callers)
+class Callers:
+    """Clients, each with its words and the lines of its script, that call for as long as they have lines."""
 
+    def __init__(self, room, what, clients):
+        self.calls = sum(len(lines) - 1 for _, lines in clients)
+        rows = []
+        for number, (words, lines) in enumerate(clients):
+            script, log = room / f"{what}{number}", room / f"{what}{number}.log"
+            write_script(script, lines)
+            rows.append("\t".join(map(str, (script, log, *words))))
+        write_script(room / what, rows)
+        pipes = {"stdin": subprocess.PIPE, "stdout": subprocess.PIPE}
+        self.process = Process([EXAMPLES / "callers", room / what], room / f"{what}.log", cwd=room, **pipes)
 
-def between(begin, end, callers):
-    count = max(1, end.answered - begin.answered)
-    gaps = sorted(1e3 * (b - a) for it in callers for a, b in zip(it.moments, it.moments[1:]))
-    each = [
-        tuple(1e6 * (now - was) / count for now, was in zip(*both))
-        for both in ((end.servers, begin.servers), (end.clients, begin.clients))
-    ]
-    return Figure(count / (end.moment - begin.moment), gaps[len(gaps) // 2], gaps[int(0.99 * len(gaps))], *each)
+    def await_word(self, word):
+        line = self.process.begun.stdout.readline().decode().split()
+        if line[:1] != [word]:
+            raise Trouble(f"clients: {self.process.said()}")
+        return [int(it) for it in line[1:]]
+
+    def figure(self, servers):
+        """What all calls but the first of each client cost."""
+        begun = self.process.begun
+        try:
+            self.await_word("begun")
+            before = self.usages(servers)
+            begun.stdin.write(b"\n")
+            begun.stdin.flush()
+            answered, microseconds = self.await_word("ended")
+            after = self.usages(servers)
+            begun.stdin.close()
+            took = sorted(int(it) / 1e3 for it in begun.stdout.read().split())
+        finally:
+            self.process.kill()
+        each = [tuple(1e6 * (now - was) / self.calls for now, was in zip(*it)) for it in zip(after, before)]
+        rate = 1e6 * answered / max(1, microseconds)
+        return Figure(rate, took[len(took) // 2], took[int(0.99 * len(took))], *each)
+
+    def usages(self, servers):
+        """What servers and clients have used so far."""
+        self.process.all_running()
+        return usage([it.begun.pid for it in servers]), usage(children_of(self.process.begun.pid))
 
 
 def write_script(path, lines):
