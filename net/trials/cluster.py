@@ -222,16 +222,16 @@ class Cluster:
 
     def executed(self, number):
         """The greatest number whose batch a replica has executed, as its metrics tell."""
-        found = re.search(r"^btspace_executed_number (\d+)$", self.metrics(number), re.MULTILINE)
-        return int(found[1])
+        return self.metric(number, "executed_number")
 
-    def metrics(self, number):
+    def metric(self, number, name):
         def read():
             address = f"http://127.0.0.1:{self.metrics_port(number)}/metrics"
             with urllib.request.urlopen(address, timeout=BOUND) as page:
                 return page.read().decode()
 
-        return self.network.inside(f"r{number}", read)
+        metrics = self.network.inside(f"r{number}", read)
+        return int(re.search(rf"^btspace_{name} (\d+)$", metrics, re.MULTILINE)[1])
 
     def await_executed(self, number, other):
         """Waits until a replica has come as far as another one is now."""

@@ -232,7 +232,8 @@ def lying_clients(cluster, load):
 
 
 def client_that_moves_views(cluster, load):
-    """Its requests can be opened by the primary alone. It isn't shut out yet, so this tells what it costs."""
+    """Each of its requests can be opened by one replica alone. It isn't shut out yet, so this tells what it costs.
+    Calls may stand for good, since each replica goes on to wait for the request that it could open."""
 
     def answered_in(seconds):
         before = sum(it.answered() for it in load.clients)
@@ -240,9 +241,15 @@ def client_that_moves_views(cluster, load):
         return (sum(it.answered() for it in load.clients) - before) / seconds
 
     without = answered_in(5)
-    call_on(cluster, 7, "alone")
-    beside = answered_in(30)
-    return f"{without:.0f} answers a second without it, and {beside:.1f} beside it"
+    liar = call_on(cluster, 7, "alone")
+    beside = answered_in(20)
+    liar.process.kill()
+    after = answered_in(10)
+    for place in range(len(load.clients)):
+        load.kill(place)
+    view, spent = (cluster.metric(1, name) for name in ("view_wanted", "signatures_spent"))
+    rates = f"{without:.0f} answers a second without it, {beside:.1f} beside it, {after:.1f} once it is gone"
+    return f"{rates}; view {view}, {spent} signatures of replica 1"
 
 
 def kill_a_client(cluster, load):
