@@ -23,7 +23,7 @@ def ran(words, text=""):
     """Runs a command of the system's."""
     ended = subprocess.run(words, input=text, capture_output=True, text=True)
     if ended.returncode:
-        raise Trouble(f"{' '.join(map(str, words))}: {ended.stderr.strip()}")
+        raise Trouble(ended.stderr.strip() or f"{words[0]}: status {ended.returncode}")
 
 
 class Namespace:
@@ -157,13 +157,18 @@ def why_not(has_faults=False):
     try:
         namespaces = Namespaces(1)
     except (OSError, Trouble) as why:
-        return f"no network namespace ({why})"
+        return f"no network namespaces ({why})"
     try:
         if has_faults:
             words = "tc qdisc add dev eth0 root netem delay 1ms".split()
             ran([*namespaces.words("r0"), *words])
     except Trouble as why:
-        return f"no netem ({why})"
+        return f"network namespaces without netem ({why})"
     finally:
         namespaces.end()
     return None
+
+
+def told():
+    """What of all this the machine has, in a few words."""
+    return why_not(True) or "network namespaces"

@@ -48,7 +48,7 @@ def run(scenario, programs, room, seed):
     """Runs a scenario. Tells how many calls were answered, and the longest pause between two answers; or why it can't
     run here."""
     if scenario.made.get("network") == "namespaces" and (why := why_not(scenario.act == disturb)):
-        return f"left out, since there is {why}"
+        return f"left out: here are {why}"
     with Cluster(programs, room, seed, **scenario.made) as cluster:
         load = cluster.load(scenario.clients)
         load.go_on(CALLS, "at first")
