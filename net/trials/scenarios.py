@@ -44,11 +44,15 @@ def judge(histories, wanted=LINEAR):
         raise Trouble("\n".join([f"the histories are {found}, not {wanted}", *rows[:SHOWN]]))
 
 
+def why_left_out(scenario):
+    """Why the machine can't run a scenario, or None if it can."""
+    return why_not(scenario.act == disturb) if scenario.made.get("network") == "namespaces" else None
+
+
 def run(scenario, programs, room, seed):
-    """Runs a scenario. Tells how many calls were answered, and the longest pause between two answers; or why it can't
-    run here."""
-    if scenario.made.get("network") == "namespaces" and (why := why_not(scenario.act == disturb)):
-        return f"left out: here are {why}"
+    """Runs a scenario. Tells how many calls were answered, and the longest pause between two answers."""
+    if why_left_out(scenario):
+        return "nothing was done"
     with Cluster(programs, room, seed, **scenario.made) as cluster:
         load = cluster.load(scenario.clients)
         load.go_on(CALLS, "at first")
