@@ -69,8 +69,8 @@ fn message(fields: &[&str]) -> Vec<u8> {
     text
 }
 
-/// The second field of a key's row that an answer to `get` has, if it has one: behind its head stands the row, whose
-/// fields are the key, three numbers, and the value.
+/// The value in an answer to `get`, if the key is there. Behind the key stand three numbers, and then the value by its
+/// head. Nobody here needs the value, so a number that has the byte of that head may be taken for it.
 fn value_in(answer: &[u8], key: &str) -> Option<String> {
     let place = answer.windows(key.len()).position(|it| it == key.as_bytes())? + key.len();
     let rest = &answer[place..];

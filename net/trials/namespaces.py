@@ -14,8 +14,9 @@ from pathlib import Path
 
 from cluster import ENDS_TOO, HERE, Trouble, await_that
 
-# What is between two namespaces beside what setns wants to be told: that it is one of a network.
+# By this setns is told that it is given a network (CLONE_NEWNET).
 NEW_NETWORK = 0x40000000
+# The name of the namespace of all clients.
 CLIENTS = "c"
 
 
@@ -33,7 +34,11 @@ class Namespace:
         words = [*ENDS_TOO, "unshare", "--net", "sleep", "infinity"]
         self.holder = subprocess.Popen(words, stdin=subprocess.DEVNULL, stderr=subprocess.PIPE, start_new_session=True)
         self.path = f"/proc/{self.holder.pid}/ns/net"
-        await_that(self.is_apart, "a network namespace", 10)
+        try:
+            await_that(self.is_apart, "a network namespace", 10)
+        except BaseException:
+            self.end()
+            raise
 
     def is_apart(self):
         if self.holder.poll() is not None:
@@ -75,8 +80,8 @@ class Namespaces:
 
     def __init__(self, count):
         self.parties, self.places, self.lost = {}, {}, set()
+        self.bridge = Namespace()
         try:
-            self.bridge = Namespace()
             self.bridge.ip("link add bridge type bridge", "link set bridge up")
             for place, name in enumerate([*(f"r{it}" for it in range(count)), CLIENTS]):
                 self.parties[name], self.places[name] = Namespace(), place
@@ -145,7 +150,7 @@ class Namespaces:
             ran([*it.words(), "tc", "qdisc", "replace", "dev", "eth0", "root", "netem", *given.split()])
 
     def end(self):
-        for it in [*self.parties.values(), *([self.bridge] if hasattr(self, "bridge") else [])]:
+        for it in (*self.parties.values(), self.bridge):
             it.end()
 
 
