@@ -6,8 +6,8 @@ use std::sync::Arc;
 use tokio::io::AsyncReadExt;
 use tokio::net::{TcpListener, TcpStream};
 use tokio::task::spawn;
-use tokio::time::timeout;
 
+use crate::clock::timeout;
 use crate::link::{self, LinkEnd, Receiver, BEGINNING};
 use crate::log::Level;
 use crate::node::Node;
@@ -38,11 +38,11 @@ async fn meet(node: Arc<Node>, stream: TcpStream, from: SocketAddr) {
     }
 }
 
-async fn greet(node: &Node, stream: TcpStream) -> Result<(Party, Box<dyn Stream>), LinkEnd> {
+async fn greet(node: &Node, stream: TcpStream) -> Result<(Party, Stream), LinkEnd> {
     stream.set_nodelay(true)?;
     let (mut stream, shown) = node.security.accepted(stream).await?;
     let mut word = [0; 7];
-    stream.read_exact(&mut word).await?;
+    stream.reader.read_exact(&mut word).await?;
     let party = Party(u16::from_be_bytes([word[5], word[6]]));
     if !word.starts_with(&FIRST_WORD) {
         Err(LinkEnd::NoCarrier)
@@ -54,7 +54,7 @@ async fn greet(node: &Node, stream: TcpStream) -> Result<(Party, Box<dyn Stream>
 }
 
 /// Carries frames over the link until it ends.
-async fn carry(node: &Node, peer: Party, stream: Box<dyn Stream>, from: SocketAddr) {
+async fn carry(node: &Node, peer: Party, stream: Stream, from: SocketAddr) {
     let (link, traffic) = (node.accept(peer), node.traffic_of(peer));
     let level = if peer.is_replica() { Level::Info } else { Level::Debug };
     traffic.quota.event(level, "link.accepted", format_args!("peer={peer} address={from}"));

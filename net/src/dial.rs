@@ -2,12 +2,12 @@
 
 use std::future::pending;
 use std::sync::Arc;
-use std::time::Duration;
+use std::time::{Duration, Instant};
 
 use tokio::io::{AsyncReadExt, AsyncWriteExt};
 use tokio::net::TcpStream;
-use tokio::time::{interval, sleep, timeout, Instant};
 
+use crate::clock::{sleep, timeout};
 use crate::link::{self, LinkEnd, Receiver, BEGINNING};
 use crate::log::{event, Level};
 use crate::node::{Node, Replica};
@@ -48,17 +48,17 @@ pub async fn keep_dialling(node: Arc<Node>, replica: Arc<Replica>) {
 }
 
 /// A link on which the replica has answered.
-async fn begin_link(node: &Node, replica: &Replica) -> Result<Box<dyn Stream>, LinkEnd> {
+async fn begin_link(node: &Node, replica: &Replica) -> Result<Stream, LinkEnd> {
     let begun = async {
         let stream = TcpStream::connect((replica.address.host.as_str(), replica.address.port)).await?;
         stream.set_nodelay(true)?;
         let mut stream = node.security.dialled(stream, replica.party).await?;
         let mut hello = Vec::new();
         put_record(HELLO, &[&node.me.0.to_be_bytes()], &mut hello);
-        stream.write_all(&hello).await?;
-        stream.flush().await?;
+        stream.writer.write_all(&hello).await?;
+        stream.writer.flush().await?;
         let mut word = [0; 13];
-        stream.read_exact(&mut word).await?;
+        stream.reader.read_exact(&mut word).await?;
         if word.starts_with(&FIRST_WORD) {
             Ok(stream)
         } else {
@@ -69,7 +69,7 @@ async fn begin_link(node: &Node, replica: &Replica) -> Result<Box<dyn Stream>, L
 }
 
 /// Carries frames over the link until it ends.
-async fn carry(node: &Node, replica: &Replica, stream: Box<dyn Stream>) {
+async fn carry(node: &Node, replica: &Replica, stream: Stream) {
     let (peer, address, traffic) = (replica.party, &replica.address, node.traffic_of(replica.party));
     event(Level::Info, "link.up", format_args!("peer={peer} address={address}"));
     replica.outbox.begin_link();
@@ -87,9 +87,8 @@ async fn carry(node: &Node, replica: &Replica, stream: Box<dyn Stream>) {
 
 /// Asks each replica again and again.
 pub async fn keep_asking(node: Arc<Node>) {
-    let mut asking = interval(ASKING);
     loop {
-        asking.tick().await;
+        sleep(ASKING).await;
         node.replicas.iter().for_each(|it| it.outbox.ask());
     }
 }

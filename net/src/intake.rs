@@ -8,17 +8,18 @@ use std::sync::{Arc, Mutex, MutexGuard};
 use std::task::{Context, Poll, Waker};
 
 use tokio::io::{AsyncWrite, AsyncWriteExt};
-use tokio::sync::Notify;
 
 use crate::record::{put_record, LINKS, TIMER};
 
 /// Bytes of whole records that wait in a lane, beside the last one that was put there.
 const ROOM: usize = 65_536;
 
+/// Links of a peer that wait for room: more than it has. What is left of links that ended makes way.
+const LINKS_OF_A_PEER: usize = 8;
+
 /// The records of one peer that the child hasn't got.
 pub struct Lane {
     ready: Mutex<Ready>,
-    has_room: Notify,
     intake: Arc<Intake>,
 }
 
@@ -26,6 +27,8 @@ pub struct Lane {
 struct Ready {
     records: Vec<u8>,
     has_turn: bool,
+    /// Wakes the links of the peer that wait for room.
+    links: Vec<Waker>,
 }
 
 /// All that waits for the child.
@@ -47,7 +50,7 @@ struct Due {
 
 impl Intake {
     pub fn lane(self: &Arc<Intake>) -> Arc<Lane> {
-        Arc::new(Lane { ready: Mutex::default(), has_room: Notify::new(), intake: self.clone() })
+        Arc::new(Lane { ready: Mutex::default(), intake: self.clone() })
     }
 
     pub fn tell_links(&self, count: u8) {
@@ -127,24 +130,23 @@ impl Due {
 impl Lane {
     /// Adds a whole record, once those before have left room.
     pub async fn put(self: &Arc<Lane>, record: &[u8]) {
-        loop {
-            // Who waits from here on is told, even if the room comes before it is looked for.
-            let room = self.has_room.notified();
-            if self.ready.lock().unwrap().records.len() < ROOM {
-                break;
-            }
-            room.await;
-        }
-        if self.add(record) {
+        if poll_fn(|context| self.poll_add(record, context)).await {
             self.intake.give_turn(self);
         }
     }
 
-    /// Adds the record, and gives whether the lane has to be given a turn.
-    fn add(&self, record: &[u8]) -> bool {
+    /// Adds the record if there is room, and gives whether the lane has to be given a turn.
+    fn poll_add(&self, record: &[u8], context: &mut Context<'_>) -> Poll<bool> {
         let mut ready = self.ready.lock().unwrap();
+        if ready.records.len() >= ROOM {
+            if ready.links.len() == LINKS_OF_A_PEER {
+                ready.links.remove(0).wake();
+            }
+            ready.links.push(context.waker().clone());
+            return Poll::Pending;
+        }
         ready.records.extend_from_slice(record);
-        !std::mem::replace(&mut ready.has_turn, true)
+        Poll::Ready(!std::mem::replace(&mut ready.has_turn, true))
     }
 
     /// Appends all records. This was the lane's turn.
@@ -153,7 +155,7 @@ impl Lane {
         ready.has_turn = false;
         text.append(&mut ready.records);
         ready.records.shrink_to(ROOM);
-        self.has_room.notify_waiters();
+        ready.links.drain(..).for_each(Waker::wake);
     }
 }
 

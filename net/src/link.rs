@@ -4,14 +4,14 @@ use std::convert::Infallible;
 use std::fmt;
 use std::future::Future;
 use std::io;
-use std::pin::pin;
+use std::sync::atomic::{AtomicBool, Ordering};
 use std::sync::Arc;
 use std::time::Duration;
 
-use tokio::io::{split, AsyncRead, AsyncReadExt, AsyncWrite, AsyncWriteExt};
+use tokio::io::{AsyncRead, AsyncReadExt, AsyncWrite, AsyncWriteExt};
 use tokio::task::JoinSet;
-use tokio::time::{sleep, Instant};
 
+use crate::clock::sleep;
 use crate::intake::Lane;
 use crate::node::Node;
 use crate::outbox::Outbox;
@@ -72,21 +72,33 @@ impl From<WrongLength> for LinkEnd {
     }
 }
 
-/// Carries what goes and comes over a link until one of both ends, or until it is told to end. What goes is a task of
-/// its own, so that a wake has one of both to look at.
+/// Carries what goes and comes over a link until one of both ends, or until it is told to end. Each is a task of its
+/// own, so that a wake has one of them to look at.
 pub async fn carry(
     receiver: Receiver,
-    stream: Box<dyn Stream>,
+    stream: Stream,
     told_to_end: impl Future<Output = LinkEnd> + Send + 'static,
 ) -> LinkEnd {
-    let (reader, writer) = split(stream);
-    let mut others = JoinSet::new();
-    others.spawn(send(receiver.outbox.clone(), writer));
-    others.spawn(told_to_end);
-    tokio::select! {
-        biased;
-        end = receiver.receive(reader) => end,
-        Some(Ok(end)) = others.join_next() => end,
+    let mut tasks = JoinSet::new();
+    tasks.spawn(send(receiver.outbox.clone(), stream.writer));
+    tasks.spawn(watch(receiver.is_heard.clone()));
+    tasks.spawn(receiver.receive(stream.reader));
+    tasks.spawn(told_to_end);
+    // The others end with the set.
+    match tasks.join_next().await {
+        Some(Ok(end)) => end,
+        _ => LinkEnd::Closed,
+    }
+}
+
+/// Waits until nothing came for a while.
+async fn watch(is_heard: Arc<AtomicBool>) -> LinkEnd {
+    // A timer for each read would cost more than what it watches.
+    loop {
+        sleep(SILENCE).await;
+        if !is_heard.swap(false, Ordering::Relaxed) {
+            return LinkEnd::Silent;
+        }
     }
 }
 
@@ -110,6 +122,8 @@ pub struct Receiver {
     lane: Arc<Lane>,
     traffic: Arc<Traffic>,
     outbox: Arc<Outbox>,
+    /// Whether something came since it was last looked at.
+    is_heard: Arc<AtomicBool>,
     longest: usize,
     frames_came: u64,
     frames_told: u64,
@@ -122,6 +136,7 @@ impl Receiver {
             lane: node.lane_of(party),
             traffic: node.traffic_of(party),
             outbox: outbox.clone(),
+            is_heard: Arc::default(),
             longest: if party.is_replica() { LONGEST } else { LONGEST_OF_CLIENT },
             frames_came: 0,
             frames_told: 0,
@@ -139,26 +154,12 @@ impl Receiver {
 
     async fn take_all(&mut self, mut link: impl AsyncRead + Unpin) -> Result<Infallible, LinkEnd> {
         let mut records = Records::new(self.longest);
-        // A timer for each read would cost more than what it watches.
-        let mut silence = pin!(sleep(SILENCE));
-        let mut is_silent = true;
         loop {
-            tokio::select! {
-                biased;
-                read = link.read(records.room()) => match read? {
-                    0 => return Err(LinkEnd::Closed),
-                    count => records.came(count),
-                },
-                _ = &mut silence => {
-                    if is_silent {
-                        return Err(LinkEnd::Silent);
-                    }
-                    is_silent = true;
-                    silence.as_mut().reset(Instant::now() + SILENCE);
-                    continue;
-                }
+            match link.read(records.room()).await? {
+                0 => return Err(LinkEnd::Closed),
+                count => records.came(count),
             }
-            is_silent = false;
+            self.is_heard.store(true, Ordering::Relaxed);
             self.take_records(&mut records).await?;
         }
     }

@@ -4,7 +4,7 @@
 //! and pipes. Nothing of it is proved, and nothing has to be: it never has a key of the protocol, and the protocol
 //! holds whatever frames are lost, repeated, reordered or invented.
 //!
-//! One thread runs all tasks. They share a [`node::Node`]:
+//! One thread runs all tasks, by one clock ([`clock`]). They share a [`node::Node`]:
 //!
 //! - [`dial`] and [`accept`] begin links of parties, [`welcome`] meets strangers, and [`link`] is what both ends of a
 //!   link have in common;
@@ -20,6 +20,7 @@
 
 mod accept;
 mod child;
+mod clock;
 mod counter;
 mod dial;
 mod hosts;
@@ -129,5 +130,5 @@ fn tell_health(address: SocketAddr) -> u8 {
 }
 
 fn runtime() -> std::io::Result<Runtime> {
-    Builder::new_current_thread().enable_all().build()
+    Builder::new_current_thread().enable_io().build()
 }

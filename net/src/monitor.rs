@@ -9,8 +9,8 @@ use std::time::Duration;
 
 use tokio::io::{AsyncReadExt, AsyncWriteExt};
 use tokio::net::{TcpListener, TcpStream};
-use tokio::time::timeout;
 
+use crate::clock::timeout;
 use crate::node::Node;
 use crate::traffic::Traffic;
 use crate::welcome::keep_accepting;
@@ -96,7 +96,7 @@ pub async fn ask_health(address: SocketAddr) -> io::Result<(String, bool)> {
         let line = text.split("\r\n\r\n").nth(1).unwrap_or_default().trim_end().to_string();
         Ok((line, text.starts_with("HTTP/1.0 200 ")))
     };
-    timeout(LONGEST_WAIT, asked).await.unwrap_or_else(|_| Err(io::ErrorKind::TimedOut.into()))
+    timeout(LONGEST_WAIT, asked).await.unwrap_or_else(|| Err(io::ErrorKind::TimedOut.into()))
 }
 
 /// One metric: its name, its type, what it tells, and its values by their labels.

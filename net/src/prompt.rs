@@ -7,8 +7,8 @@ use std::time::Duration;
 use tokio::io::{AsyncBufReadExt, AsyncWriteExt, BufReader};
 use tokio::process::{ChildStdin, ChildStdout};
 use tokio::sync::mpsc;
-use tokio::time::interval;
 
+use crate::clock::sleep;
 use crate::node::Node;
 
 const PROMPT: &str = "> ";
@@ -80,8 +80,6 @@ fn has_result(line: &[u8]) -> bool {
 /// Waits for the next result, and tells a person of replicas that can't be reached.
 async fn next_result(node: &Node, results: &mut BufReader<ChildStdout>) -> io::Result<Vec<u8>> {
     let mut result = Vec::new();
-    let mut worry = interval(WORRY);
-    worry.tick().await;
     let mut reading = Box::pin(results.read_until(b'\n', &mut result));
     loop {
         tokio::select! {
@@ -90,7 +88,7 @@ async fn next_result(node: &Node, results: &mut BufReader<ChildStdout>) -> io::R
                 drop(reading);
                 return if count == 0 { Err(io::ErrorKind::UnexpectedEof.into()) } else { Ok(result) };
             }
-            _ = worry.tick() => {
+            _ = sleep(WORRY) => {
                 let (linked, all) = (node.count_links(), node.replicas.len());
                 show(&format!("no answer yet: {linked} of {all} replicas are linked\n"))?;
             }

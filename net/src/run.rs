@@ -8,16 +8,16 @@ use std::net::SocketAddr;
 use std::path::PathBuf;
 use std::process::ExitStatus;
 use std::sync::Arc;
-use std::time::Duration;
+use std::time::{Duration, Instant};
 
 use tokio::net::TcpListener;
 use tokio::process::Child;
 use tokio::signal::unix::{signal, Signal, SignalKind};
 use tokio::task::{spawn, JoinHandle};
-use tokio::time::{sleep, timeout, Instant};
 
 use crate::accept::keep_meeting;
 use crate::child::{claim, leave_mark, mark_of, Program, Started};
+use crate::clock::{sleep, timeout};
 use crate::dial::{keep_asking, keep_dialling};
 use crate::hosts::{Address, Hosts};
 use crate::log::{event, Level};
@@ -255,12 +255,12 @@ fn tell_end(end: &RouteEnd) {
 
 /// Waits for the end of a child whose input has ended, and of its records. It is killed if it doesn't end.
 async fn end_child(process: &mut Child, mut routing: JoinHandle<()>) -> u8 {
-    if timeout(ENDING, &mut routing).await.is_err() {
+    if timeout(ENDING, &mut routing).await.is_none() {
         routing.abort();
     }
     match timeout(ENDING, process.wait()).await {
-        Ok(status) => ended_with(status),
-        Err(_) => {
+        Some(status) => ended_with(status),
+        None => {
             event(Level::Warn, "child.killed", format_args!("reason=\"it didn't end with its input\""));
             let _ = process.kill().await;
             KILLED

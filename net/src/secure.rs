@@ -10,7 +10,7 @@ use std::io::{self, BufReader};
 use std::path::Path;
 use std::sync::Arc;
 
-use tokio::io::{AsyncRead, AsyncWrite};
+use tokio::io::{split, AsyncRead, AsyncWrite};
 use tokio::net::TcpStream;
 use tokio_rustls::rustls::server::AllowAnyAuthenticatedClient;
 use tokio_rustls::rustls::{self, Certificate, ClientConfig, PrivateKey, RootCertStore, ServerConfig, ServerName};
@@ -19,10 +19,24 @@ use tokio_rustls::{TlsAcceptor, TlsConnector};
 use crate::hosts::TlsFiles;
 use crate::party::Party;
 
-/// A link's stream of bytes.
-pub trait Stream: AsyncRead + AsyncWrite + Send + Unpin {}
+/// Both directions of a link.
+pub struct Stream {
+    pub reader: Box<dyn AsyncRead + Send + Unpin>,
+    pub writer: Box<dyn AsyncWrite + Send + Unpin>,
+}
 
-impl<S: AsyncRead + AsyncWrite + Send + Unpin> Stream for S {}
+impl Stream {
+    /// The directions of a socket have no lock in common.
+    fn plain(socket: TcpStream) -> Stream {
+        let (reader, writer) = socket.into_split();
+        Stream { reader: Box::new(reader), writer: Box::new(writer) }
+    }
+
+    fn secured(session: impl AsyncRead + AsyncWrite + Send + 'static) -> Stream {
+        let (reader, writer) = split(session);
+        Stream { reader: Box::new(reader), writer: Box::new(writer) }
+    }
+}
 
 /// How links begin at both ends. Without TLS they are as the network brings them.
 #[derive(Clone)]
@@ -55,24 +69,24 @@ impl Security {
     }
 
     /// Begins a link that was dialled to a replica.
-    pub async fn dialled(&self, stream: TcpStream, replica: Party) -> io::Result<Box<dyn Stream>> {
+    pub async fn dialled(&self, stream: TcpStream, replica: Party) -> io::Result<Stream> {
         let Some((connector, _)) = &self.tls else {
-            return Ok(Box::new(stream));
+            return Ok(Stream::plain(stream));
         };
         let name = ServerName::try_from(replica.certified_name().as_str()).map_err(io::Error::other)?;
-        Ok(Box::new(connector.connect(name, stream).await?))
+        Ok(Stream::secured(connector.connect(name, stream).await?))
     }
 
     /// Begins a link that was accepted.
-    pub async fn accepted(&self, stream: TcpStream) -> io::Result<(Box<dyn Stream>, Shown)> {
+    pub async fn accepted(&self, stream: TcpStream) -> io::Result<(Stream, Shown)> {
         let Some((_, acceptor)) = &self.tls else {
-            return Ok((Box::new(stream), Shown(None)));
+            return Ok((Stream::plain(stream), Shown(None)));
         };
         let stream = acceptor.accept(stream).await?;
         let certificates = stream.get_ref().1.peer_certificates();
         let shown = certificates.and_then(|it| it.first()).cloned();
         let shown = shown.ok_or_else(|| io::Error::other("no certificate was shown"))?;
-        Ok((Box::new(stream), Shown(Some(shown))))
+        Ok((Stream::secured(stream), Shown(Some(shown))))
     }
 }
 

@@ -1,11 +1,11 @@
 //! The child's timer. A new one takes the place of the last.
 
 use std::sync::Mutex;
-use std::time::Duration;
+use std::time::{Duration, Instant};
 
 use tokio::sync::Notify;
-use tokio::time::{sleep_until, Instant};
 
+use crate::clock::sleep_until;
 use crate::intake::Intake;
 
 /// A timer that runs, if one does.
@@ -66,8 +66,8 @@ impl Timer {
 #[cfg(test)]
 mod tests {
     use super::*;
+    use crate::clock::{sleep, timeout};
     use std::sync::Arc;
-    use tokio::time::{sleep, timeout};
 
     /// The number of which the child is told after so many milliseconds at most, if it is told of one.
     async fn told(intake: &Intake, milliseconds: u64) -> Option<u8> {
@@ -79,7 +79,7 @@ mod tests {
                 sleep(Duration::from_millis(1)).await;
             }
         };
-        timeout(Duration::from_millis(milliseconds), waiting).await.ok()
+        timeout(Duration::from_millis(milliseconds), waiting).await
     }
 
     #[tokio::test(flavor = "current_thread")]

@@ -7,8 +7,8 @@ use std::time::Duration;
 
 use tokio::net::{TcpListener, TcpStream};
 use tokio::task::{spawn, JoinHandle};
-use tokio::time::sleep;
 
+use crate::clock::sleep;
 use crate::log::{Level, Quota};
 
 /// Strangers at one port. With one more the oldest of them goes, of the address that has most.

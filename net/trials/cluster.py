@@ -17,7 +17,7 @@ from pathlib import Path
 from typing import NamedTuple
 
 from linear import Call
-from network import Network
+from network import Network, Straight
 from space import ANY, INT, cas, inp, out, rd_all, rdp
 
 HERE = Path(__file__).resolve().parent
@@ -148,10 +148,10 @@ def make_certificates(room, names):
 
 
 class Cluster:
-    """`3f + 1` replicas in a folder. `network` says whether links go through one of the test's own, and `liars` which
-    replicas lie and how."""
+    """`3f + 1` replicas in a folder. `network` names what links go through: nothing, the test's own `proxy`, or
+    `namespaces`. `liars` tells which replicas lie and how."""
 
-    def __init__(self, programs, room, seed, faults=1, clients=8, network=False, liars=None, tls=False):
+    def __init__(self, programs, room, seed, faults=1, clients=8, network=None, liars=None, tls=False):
         self.programs, self.room, self.seed, self.liars = programs, room, seed, liars or {}
         self.count, self.tls, self.started, self.replicas = 3 * faults + 1, tls, [], {}
         (room / "cluster.toml").write_text(f"f = {faults}\nclients = {clients}\n")
@@ -160,7 +160,15 @@ class Cluster:
         if tls:
             make_certificates(room, names)
         self.ports = free_ports(2 * self.count)
-        self.network = Network(seed, not tls) if network else None
+        self.network = self.begin_network(network)
+
+    def begin_network(self, kind):
+        if kind == "namespaces":
+            # They need what stands here.
+            from namespaces import Namespaces
+
+            return Namespaces(self.count)
+        return Network(self.seed, not self.tls) if kind else Straight()
 
     def __enter__(self):
         try:
@@ -176,13 +184,8 @@ class Cluster:
         self.end()
 
     def hosts_of(self, name):
-        """The file of addresses of a party: through the network, but for its own."""
-        own = int(name[1:]) if name[0] == "r" else None
-        ports = [
-            self.network.port(name, it, self.ports[it]) if self.network and it != own else self.ports[it]
-            for it in range(self.count)
-        ]
-        rows = ", ".join(f'"127.0.0.1:{port}"' for port in ports)
+        """The file of addresses of a party: those at which it dials replicas."""
+        rows = ", ".join(f'"{self.network.address(name, it, self.ports[it])}"' for it in range(self.count))
         path = self.room / f"{name}.hosts.toml"
         path.write_text(f"replicas = [{rows}]\n" + ('certificates = "tls"\n' if self.tls else ""))
         return path
@@ -190,33 +193,45 @@ class Cluster:
     def words(self, name, *more, btspace=None):
         kind = "replica" if name[0] == "r" else "client"
         keys, program = self.room / "keys" / f"{name}.toml", btspace or self.programs.btspace
-        return [self.programs.node, kind, self.hosts_of(name), keys, "--btspace", program, *more]
+        words = [self.programs.node, kind, self.hosts_of(name), keys, "--btspace", program, *more]
+        return [*self.network.words(name), *words]
 
     def start(self, number):
-        name, environment = f"r{number}", dict(os.environ)
-        program = None
-        if number in self.liars:
-            program = HERE / "liar"
-            environment.update(LIE=self.liars[number], BTSPACE=str(self.programs.btspace))
+        name = f"r{number}"
+        program, environment = self.child(self.liars.get(number))
         words = self.words(name, "--metrics", f"127.0.0.1:{self.metrics_port(number)}", btspace=program)
         process = Process(words, self.room / f"{name}.log", stdin=subprocess.DEVNULL, env=environment)
         self.replicas[number] = process
         self.started.append(process)
+
+    def child(self, lie):
+        """The program that a carrier starts, and its environment, for a party that tells this lie, or none."""
+        if not lie:
+            return self.programs.btspace, None
+        return HERE / "liar", {**os.environ, "LIE": lie, "BTSPACE": str(self.programs.btspace)}
 
     def metrics_port(self, number):
         return self.ports[self.count + number]
 
     def health(self, number):
         """The carrier's word about its health, and whether it is good."""
-        words = [self.programs.node, "health", f"127.0.0.1:{self.metrics_port(number)}"]
+        asked = [self.programs.node, "health", f"127.0.0.1:{self.metrics_port(number)}"]
+        words = [*self.network.words(f"r{number}"), *asked]
         ended = subprocess.run(words, capture_output=True, text=True)
         return ended.stdout.strip(), ended.returncode == 0
 
     def executed(self, number):
         """The greatest number whose batch a replica has executed, as its metrics tell."""
-        with urllib.request.urlopen(f"http://127.0.0.1:{self.metrics_port(number)}/metrics", timeout=BOUND) as page:
-            found = re.search(r"^btspace_executed_number (\d+)$", page.read().decode(), re.MULTILINE)
-        return int(found[1])
+        return self.metric(number, "executed_number")
+
+    def metric(self, number, name):
+        def read():
+            address = f"http://127.0.0.1:{self.metrics_port(number)}/metrics"
+            with urllib.request.urlopen(address, timeout=BOUND) as page:
+                return page.read().decode()
+
+        metrics = self.network.inside(f"r{number}", read)
+        return int(re.search(rf"^btspace_{name} (\d+)$", metrics, re.MULTILINE)[1])
 
     def await_executed(self, number, other):
         """Waits until a replica has come as far as another one is now."""
@@ -227,8 +242,8 @@ class Cluster:
         for it in numbers:
             await_that(lambda: self.health(it)[1], f"r{it} is linked")
 
-    def client(self, number, *more):
-        client = Client(self, f"c{number}", *more)
+    def client(self, number, *more, lie=None):
+        client = Client(self, f"c{number}", *more, lie=lie)
         self.started.append(client.process)
         return client
 
@@ -240,11 +255,11 @@ class Cluster:
 
     def pairs(self, diallers, replicas):
         """The routes from these parties to these replicas."""
-        return [it for it in self.network.routes if it[0] in diallers and it[1] in replicas]
+        return [it for it in self.network.routes() if it[0] in diallers and it[1] in replicas]
 
     def pairs_of(self, number):
         """All routes from and to a replica."""
-        return [it for it in self.network.routes if it[0] == f"r{number}" or it[1] == number]
+        return [it for it in self.network.routes() if it[0] == f"r{number}" or it[1] == number]
 
     def end(self):
         for it in self.started:
@@ -255,8 +270,7 @@ class Cluster:
                 it.begun.wait(10)
             except subprocess.TimeoutExpired:
                 it.kill()
-        if self.network:
-            self.network.end()
+        self.network.end()
         for it in {running for it in self.started for running in it.running}:
             it.send(signal.SIGKILL)
 
@@ -277,10 +291,12 @@ def operations(seed, place):
 class Client:
     """A client's carrier as a co-process, and its calls."""
 
-    def __init__(self, cluster, name, *more):
-        pipes = {"stdin": subprocess.PIPE, "stdout": subprocess.PIPE}
+    def __init__(self, cluster, name, *more, lie=None):
+        program, environment = cluster.child(lie)
+        pipes = {"stdin": subprocess.PIPE, "stdout": subprocess.PIPE, "env": environment}
         self.name, self.calls = name, []
-        self.process = Process(cluster.words(name, *more), cluster.room / f"{name}.log", **pipes)
+        words = cluster.words(name, *more, btspace=program)
+        self.process = Process(words, cluster.room / f"{name}.log", **pipes)
 
     def call(self, op):
         """The result line, or None if none came."""

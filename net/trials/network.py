@@ -39,9 +39,25 @@ class Route:
         self.there, self.back = Way(), Way()
 
 
-class Network:
+class Straight:
+    """No network between: parties dial each other on loopback."""
+
+    def address(self, _dialler, _replica, target):
+        return f"127.0.0.1:{target}"
+
+    def words(self, _party):
+        return []
+
+    def inside(self, _party, act):
+        return act()
+
+    def end(self):
+        pass
+
+
+class Network(Straight):
     def __init__(self, seed, has_records=True):
-        self.random, self.has_records, self.routes = random.Random(seed), has_records, {}
+        self.random, self.has_records, self.links_of = random.Random(seed), has_records, {}
         self.loop = asyncio.new_event_loop()
         self.thread = threading.Thread(target=self.loop.run_forever, daemon=True)
         self.thread.start()
@@ -50,15 +66,20 @@ class Network:
         """Runs a coroutine in the network's thread, and gives what it gives."""
         return asyncio.run_coroutine_threadsafe(work, self.loop).result(10)
 
-    def port(self, dialler, replica, target):
-        """The port at which a party dials a replica that listens at the target."""
+    def address(self, dialler, replica, target):
+        """Where a party dials a replica that listens at the target: a replica itself doesn't dial."""
+        if dialler == f"r{replica}":
+            return f"127.0.0.1:{target}"
 
         async def begin():
-            route = self.routes[dialler, replica] = Route(target)
+            route = self.links_of[dialler, replica] = Route(target)
             server = await asyncio.start_server(lambda *link: self.carry(route, *link), "127.0.0.1", 0)
             return server.sockets[0].getsockname()[1]
 
-        return self.do(begin())
+        return f"127.0.0.1:{self.do(begin())}"
+
+    def routes(self):
+        return list(self.links_of)
 
     async def carry(self, route, reader, writer):
         if route.is_cut:
@@ -109,7 +130,7 @@ class Network:
     def change(self, pairs, act):
         async def all_of_them():
             for pair in pairs:
-                act(self.routes[pair])
+                act(self.links_of[pair])
 
         self.do(all_of_them())
 

@@ -13,7 +13,7 @@ from typing import Callable, NamedTuple
 
 import linear_test
 from cluster import Trouble
-from scenarios import SCENARIOS, find_violation, run
+from scenarios import SCENARIOS, find_violation, run, why_left_out
 
 NET = Path(__file__).resolve().parent.parent
 # Seconds for a build, which compiles all crates below, and for an installation.
@@ -84,5 +84,7 @@ def all_rows(with_long=True):
     yield Row("the carrier's unit tests", unit_tests)
     yield Row("the checker's unit tests", checker_tests)
     for it in (it for it in SCENARIOS if with_long or not it.is_long):
-        yield Row(it.name, lambda *given, it=it: run(it, *given))
+        why = why_left_out(it)
+        name = f"{it.name}: left out, {why}" if why else it.name
+        yield Row(name, lambda *given, it=it: run(it, *given))
     yield Row("three of four replicas lie, and the checker sees it", find_violation)

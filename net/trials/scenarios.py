@@ -11,6 +11,7 @@ from typing import Callable, NamedTuple
 
 from cluster import BOUND, FIRST_CLIENT, Cluster, Trouble, await_that
 from linear import LINEAR, VIOLATED, verdict
+from namespaces import why_not
 from network import Faults
 from space import INT, inp, out, rdp
 
@@ -43,16 +44,23 @@ def judge(histories, wanted=LINEAR):
         raise Trouble("\n".join([f"the histories are {found}, not {wanted}", *rows[:SHOWN]]))
 
 
+def why_left_out(scenario):
+    """Why the machine can't run a scenario, or None if it can."""
+    return why_not(scenario.act == disturb) if scenario.made.get("network") == "namespaces" else None
+
+
 def run(scenario, programs, room, seed):
     """Runs a scenario. Tells how many calls were answered, and the longest pause between two answers."""
+    if why_left_out(scenario):
+        return "nothing was done"
     with Cluster(programs, room, seed, **scenario.made) as cluster:
         load = cluster.load(scenario.clients)
         load.go_on(CALLS, "at first")
-        scenario.act(cluster, load)
+        told = scenario.act(cluster, load)
         histories = load.stop()
         judge(histories)
         answered = sum(it.answered() for it in load.clients)
-        return f"{answered} calls, longest pause {load.longest_pause():.1f} s"
+        return f"{answered} calls, longest pause {load.longest_pause():.1f} s" + (f"; {told}" if told else "")
 
 
 def nothing(cluster, load):
@@ -101,8 +109,7 @@ def cut_off(cluster, load):
     needed."""
     cluster.network.cut(cluster.pairs_of(3))
     load.go_on(2 * CALLS, "without replica 3")
-    if cluster.health(3)[1]:
-        raise Trouble("r3 says that it is linked")
+    await_that(lambda: not cluster.health(3)[1], "r3 says that it is alone")
     cluster.network.heal(cluster.pairs_of(3))
     cluster.await_links([3])
     cluster.await_executed(3, 0)
@@ -118,11 +125,27 @@ def hold_one_direction(cluster, load):
     load.go_on(CALLS, "after it heard of it")
 
 
+def lose_one_direction(cluster, load):
+    """What the primary sends to one backup vanishes. Neither counts the other as linked then. Once they hear of each
+    other again, both are needed."""
+    cluster.network.hold([("r0", 1)])
+    load.go_on(CALLS, "while replica 1 hears nothing of the primary")
+    for it in (0, 1):
+        await_that(lambda: "linked=2" in cluster.health(it)[0], f"r{it} counts a link that is cut in one direction")
+    load.go_on(CALLS, "while they aren't linked")
+    cluster.network.heal([("r0", 1)])
+    for it in (0, 1):
+        await_that(lambda: "linked=3" in cluster.health(it)[0], f"r{it} is linked again")
+    cluster.await_executed(1, 0)
+    cluster.kill(2)
+    load.go_on(CALLS, "without replica 2")
+
+
 def disturb(cluster, load):
     """All frames are delayed, so that they overtake each other, and some are lost or repeated."""
-    cluster.network.disturb(cluster.network.routes, Faults(delay=0.05, lost=0.02, repeated=0.05))
+    cluster.network.disturb(cluster.network.routes(), Faults(delay=0.05, lost=0.02, repeated=0.05))
     load.go_on(CALLS, "while frames are disturbed")
-    cluster.network.heal(cluster.network.routes)
+    cluster.network.heal(cluster.network.routes())
     load.go_on(CALLS, "afterwards")
 
 
@@ -190,6 +213,49 @@ def go_on_beside_liar(cluster, load):
     load.go_on(2 * CALLS, "beside a liar")
 
 
+def call_on(cluster, number, lie):
+    """A client that lies, and calls for as long as the cluster lives. Its tuples have three fields, and no template of
+    the others matches them."""
+    liar = cluster.client(number, lie=lie)
+
+    def run():
+        place = 0
+        while liar.call(out(number, number, place)) is not None:
+            place += 1
+
+    threading.Thread(target=run, daemon=True).start()
+    return liar
+
+
+def lying_clients(cluster, load):
+    """One tells each replica another operation at the same time, and one forges frames of others."""
+    liars = [call_on(cluster, 6, "splits"), call_on(cluster, 7, "forges")]
+    load.go_on(2 * CALLS, "beside lying clients")
+    for it in liars:
+        await_that(lambda: it.answered() > CALLS, f"{it.name}, which lies, is answered")
+
+
+def client_that_moves_views(cluster, load):
+    """Each of its requests can be opened by one replica alone. It isn't shut out yet, so this tells what it costs.
+    Calls may stand for good, since each replica goes on to wait for the request that it could open."""
+
+    def answered_in(seconds):
+        before = sum(it.answered() for it in load.clients)
+        time.sleep(seconds)
+        return (sum(it.answered() for it in load.clients) - before) / seconds
+
+    without = answered_in(5)
+    liar = call_on(cluster, 7, "alone")
+    beside = answered_in(20)
+    liar.process.kill()
+    after = answered_in(10)
+    for place in range(len(load.clients)):
+        load.kill(place)
+    view, spent = (cluster.metric(1, name) for name in ("view_wanted", "signatures_spent"))
+    rates = f"{without:.0f} answers a second without it, {beside:.1f} beside it, {after:.1f} once it is gone"
+    return f"{rates}; view {view}, {spent} signatures of replica 1"
+
+
 def kill_a_client(cluster, load):
     """A client dies in a call. Nobody knows whether that one acted. The others go on, and it does so in two new
     lives, of which the last is told where to begin. Two lives at once are refused."""
@@ -248,7 +314,9 @@ def refuse_false_names(cluster, load):
     load.go_on(CALLS, "with TLS")
 
 
-THROUGH = {"network": True}
+THROUGH = {"network": "proxy"}
+# Addresses that aren't on loopback take TLS.
+APART = {"network": "namespaces", "tls": True}
 SCENARIOS = (
     Scenario("four replicas and three clients", nothing),
     Scenario("seven replicas and three clients", nothing, {"faults": 2}),
@@ -263,8 +331,14 @@ SCENARIOS = (
     Scenario("a replica is cut off, and is needed then", cut_off, THROUGH),
     Scenario("a link is held in one direction", hold_one_direction, THROUGH),
     Scenario("frames are delayed, reordered, lost and repeated", disturb, THROUGH),
+    Scenario("network namespaces: a link is cut and healed, and the primary dies", cut_one_link, APART),
+    Scenario("network namespaces: a replica is cut off, and is needed then", cut_off, APART),
+    Scenario("network namespaces: a link is cut in one direction, and is needed then", lose_one_direction, APART),
+    Scenario("network namespaces: packets are delayed, reordered, lost and repeated", disturb, APART),
     Scenario("noise and floods on each port", floods),
     Scenario("a client dies in a call, and starts again", kill_a_client),
+    Scenario("two clients lie", lying_clients),
+    Scenario("a client makes views change", client_that_moves_views, is_long=True),
     Scenario("SIGTERM in order, and no second life of a replica", stop_in_order),
     Scenario("TLS, and false names", refuse_false_names, {"tls": True}),
     *(
