@@ -1,6 +1,6 @@
-/* Times calls of the static library: operations on small tuples, each by a call from C, and all by one call of btspace_run,
-   which makes the same calls of the space from Rattle. Both in turn, several times. Prints the medians in nanoseconds an
-   operation, and their ratio. */
+/* Times calls of the static library: operations on small tuples, each by a call from C, and all by one call of
+   btspace_run, which makes the same calls of the space from Rattle. Both in turn, several times. Prints the medians in
+   nanoseconds an operation, and their ratio. */
 #include <stdint.h>
 #include <stdio.h>
 #include <stdlib.h>

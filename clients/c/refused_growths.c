@@ -1,7 +1,8 @@
 /* Refuses each growth of memory in turn, by --wrap of the linker.
  *
- * The run then says so, has the answers to the operations in front, and leaves the rest of the results as it was. A call of a
- * space that lasts says so and changes nothing: the same call, made again with memory, goes on as if nothing had been. */
+ * The run then says so, has the answers to the operations in front, and leaves the rest of the results as it was. A call
+ * of a space that lasts says so and changes nothing: the same call, made again with memory, goes on as if nothing had
+ * been. */
 #include <stdint.h>
 #include <stdio.h>
 #include <stdlib.h>
@@ -108,9 +109,10 @@ static void open(struct btspace *space) {
 
 static void apply(struct btspace *space, const struct text *operation, struct told *told) {
     static uint8_t answer[BTSPACE_MOST_ANSWER];
+    const uint8_t *bytes = (const uint8_t *)operation->bytes;
     size_t written = 1;
     memset(answer, UNTOUCHED, sizeof answer);
-    while (again(btspace_apply(space, (const uint8_t *)operation->bytes, operation->len, answer, sizeof answer, &written))) {
+    while (again(btspace_apply(space, bytes, operation->len, answer, sizeof answer, &written))) {
         expect(written == 0, 8);
         expect_untouched(answer, 0, sizeof answer, 9);
     }
@@ -125,8 +127,9 @@ static void save(struct btspace *space, struct btspace *other) {
     size_t lengths[BTSPACE_PAGES], len = 0;
     uint64_t number = 7;
     for (size_t page = 0; page < BTSPACE_PAGES; page++) {
-        while (again(btspace_page(space, page, texts + len, sizeof texts - len, &lengths[page]))) expect(lengths[page] == 0, 11);
-        len += lengths[page];
+        size_t *written = &lengths[page];
+        while (again(btspace_page(space, page, texts + len, sizeof texts - len, written))) expect(*written == 0, 11);
+        len += *written;
     }
     expect(btspace_header(space, 1, header) == 0, 12);
     while (again(btspace_from_pages(texts, len, lengths, header, sizeof header, other, &number))) {

@@ -124,8 +124,8 @@ def connect(
 ) -> Space:
     """The space of a cluster, called as the client whose file of keys this is.
 
-    `hosts` is the file that tells where the replicas listen, `keys` the client's file, named as `btspace keys` names it:
-    docs/operating.md has both. Nobody else may use this file at the same time. A call is answered once enough replicas
+    `hosts` is the file that tells where the replicas listen, and `keys` the client's file, under the name that `btspace
+    keys` gave it: docs/operating.md has both. Nobody else may use this file at the same time. A call is answered once enough replicas
     agree; until they can be reached it waits, and NoAnswer comes in the end.
 
     `node` is the path of btspace-node, or that and words before `client`. Without it the environment variable

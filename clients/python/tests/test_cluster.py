@@ -30,7 +30,8 @@ class Words(unittest.TestCase):
     def test_programs_of_the_environment(self):
         kept = {it: os.environ.pop(it) for it in ("BTSPACE", "BTSPACE_NODE") if it in os.environ}
         try:
-            self.assertEqual(["btspace-node", "client", "--btspace", "btspace", "h", "k"], connect_command("h", "k", None, None))
+            wanted = ["btspace-node", "client", "--btspace", "btspace", "h", "k"]
+            self.assertEqual(wanted, connect_command("h", "k", None, None))
             os.environ.update(BTSPACE="/a b/btspace", BTSPACE_NODE="env node")
             wanted = ["env", "node", "client", "--btspace", "/a b/btspace", "h", "k"]
             self.assertEqual(wanted, connect_command("h", "k", None, None))
@@ -80,7 +81,7 @@ class Clusters(unittest.TestCase):
             self.assertRaises(btspace.NotAllowed, call)
 
     def test_refusals(self):
-        """Each number that a line can be refused by, as the client's process tells it; and the next call is answered."""
+        """Each number of a refused line, as the client's process tells it; and the next call is answered."""
         space = self.connect(2)
         wide = "out (" + "1 " * 33 + ")"
         for line, number in ((wide, 1), ("out (((((((((1)))))))))", 2), (f'out ("{"a" * 1021}")', 3), ("rpd (*)", 6)):

@@ -1,5 +1,5 @@
-//! One space of btspace, a Linda tuple space, over its static library: a function from operations to their answers, and a
-//! space that lasts ([`Space`]).
+//! One space of btspace, a Linda tuple space, over its static library: a function from operations to their answers, and
+//! a space that lasts ([`Space`]).
 //!
 //! ```
 //! use btspace::{answers, Answer, Field, Operation, Value, Version};
@@ -25,7 +25,8 @@ pub use values::{Answer, Field, Operation, Value, Version};
 pub enum Refusal {
     /// 4, memory ran out.
     NoMemory,
-    /// 5, no front of the rest spells an operation: it is outside the limits of docs/formats.md. Or the pages are no space's.
+    /// 5, no front of the rest spells an operation: it is outside the limits of docs/formats.md. Or the pages are no
+    /// space's.
     Malformed,
     /// 7, the answer may not fit.
     TooLarge,

@@ -127,8 +127,8 @@ impl Space {
         Ok(Answer::decode(&self.told[..len]).expect("the library spells an answer"))
     }
 
-    /// Applies the operation that the bytes spell, writes its answer in front of `answer`, and gives how many bytes it has.
-    /// A refusal changes nothing.
+    /// Applies the operation that the bytes spell, writes its answer in front of `answer`, and gives how many bytes it
+    /// has. A refusal changes nothing.
     pub fn apply_bytes(&mut self, operation: &[u8], answer: &mut [u8]) -> Result<usize, Refusal> {
         // SAFETY: the handle is the library's own, and the borrows keep others from it and from the bytes.
         unsafe { apply_bytes(&mut self.handle, operation, answer) }
@@ -147,8 +147,8 @@ impl Space {
         Ok(Pages { texts, lengths })
     }
 
-    /// The text of the header. To be read again, the number has to be below 2^48, and at least a sixteenth of the number of
-    /// operations so far.
+    /// The text of the header. To be read again, the number has to be below 2^48, and at least a sixteenth of the number
+    /// of operations so far.
     pub fn header(&mut self, number: u64) -> Result<[u8; HEADER_LEN], Refusal> {
         let mut header = [0; HEADER_LEN];
         // SAFETY: as of `apply_bytes`, and so many bytes are there.
