@@ -11,7 +11,7 @@ use Rattle.event_log.proofs.Framing.{events_push, events_one}
 use Rattle.event_log.proofs.Counting.{split_events}
 use Rattle.lives.specs.Events.{Event, logged, outputs_of}
 use Rattle.lives.specs.Steps.{Steps}
-use Rattle.lives.specs.Repeats.{Repeated, Repeats, RepeatsText, RepeatsBefore, PlaysUpTo}
+use Rattle.lives.specs.Repeats.{Repeats, RepeatsText, RepeatsBefore, PlaysUpTo}
 
 pub outputs_append : (ls bs : List Event) → outputs_of (ls ++ bs) ≡ outputs_of ls ++ outputs_of bs
 outputs_append [] bs = refl

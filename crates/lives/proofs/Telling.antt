@@ -1,13 +1,12 @@
 -- An event is told by its bytes in a log, and what a log keeps is kept of all lives.
-use Rattle.std.proofs.Common.{◌≡◌, ℕ, ◌+◌, ◌<◌, ◌^◌, List, [], ◌∷◌, ◌++◌, length, get_or, take, drop, map, refl, sym, ◌∙◌, ap, arith, append_assoc, length-append}
-use Rattle.std.specs.Int.{w32, w64, to_be_bytes}
+use Rattle.std.proofs.Common.{◌≡◌, ℕ, ◌<◌, ◌^◌, List, [], ◌∷◌, ◌++◌, length, get_or, drop, map, refl, ◌∙◌, ap, arith, append_assoc, length-append}
 use Rattle.event_log.specs.Events.{event_bytes}
-use Rattle.event_log.specs.Logs.{Keeps, Reads, BeginsWith, Extends, header_bytes, header_text, log_bytes}
+use Rattle.event_log.specs.Logs.{Keeps, Reads, Extends}
 use Rattle.event_log.specs.declared.owner.Owner.{Owner}
 use Rattle.event_log.proofs.Framing.{one_event, event_len}
 use Rattle.event_log.proofs.Logs.{AreShort, begins_short, keeps_reads, log_long}
 use Rattle.lives.specs.Events.{Event, logged}
-use Rattle.lives.specs.Lives.{BeginsOn, HasAll, Lives}
+use Rattle.lives.specs.Lives.{HasAll, Lives}
 use Rattle.lives.specs.Lives.BeginsOn.{played, made}
 use Rattle.lives.specs.Lives.Lives.{none, life}
 

@@ -1,6 +1,5 @@
-use Rattle.std.proofs.Common.{◌≡◌, ◌∙◌, ◌++◌, [], List, ℕ, Bool, MatchBool, map, refl, sym, ap, subst}
-use Rattle.event_log.specs.Logs.{Reads}
-use Rattle.event_log.specs.Standing.{IsAt, ReadsGroup, ReadsNone, ReadsNext, EndsReading, KeepsRead, LeavesDamage}
+use Rattle.std.proofs.Common.{◌∙◌, ◌++◌, List, ℕ, Bool, MatchBool, map, sym, subst}
+use Rattle.event_log.specs.Standing.{ReadsGroup, ReadsNone, ReadsNext, EndsReading, KeepsRead, LeavesDamage}
 use Rattle.event_log.proofs.ReadingOn.{same_keeps}
 use Rattle.lives.specs.Events.{logged}
 use Rattle.lives.specs.Repeats.{Repeats}

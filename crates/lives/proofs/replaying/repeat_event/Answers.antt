@@ -1,4 +1,4 @@
-use Rattle.std.proofs.Common.{◌≡◌, ◌∙◌, ◌++◌, ◌∷◌, [], List, ℕ, Bool, true, refl, sym, ap, subst}
+use Rattle.std.proofs.Common.{◌∙◌, [], List, ℕ, Bool, true, refl, sym, subst}
 use Rattle.lives.specs.Steps.{Steps}
 use Rattle.lives.proofs.Playing.{repeats_event}
 use Rattle.lives.proofs.replaying.repeat_event.Goals as goal

@@ -1,4 +1,4 @@
-use Rattle.std.proofs.Common.{◌≡◌, [], List, map, ap}
+use Rattle.std.proofs.Common.{List, map, ap}
 use Rattle.event_log.proofs.Stands.{stands_keeps}
 use Rattle.lives.specs.Events.{Event, logged}
 use Rattle.lives.proofs.lasting.Lasting.rest.Goals as goal

@@ -1,4 +1,4 @@
-use Rattle.std.proofs.Common.{◌++◌, [], List, sym, subst}
+use Rattle.std.proofs.Common.{◌++◌, List, sym, subst}
 use Rattle.std.proofs.lemmas.List.{append-nil}
 use Rattle.lives.specs.Events.{Event}
 use Rattle.lives.proofs.lasting.Lasting.resume.Goals as goal

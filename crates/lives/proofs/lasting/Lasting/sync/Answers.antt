@@ -1,4 +1,4 @@
-use Rattle.std.proofs.Common.{◌≡◌, ◌∙◌, ◌++◌, [], List, ℕ, map, sym, ap, subst}
+use Rattle.std.proofs.Common.{◌∙◌, ◌++◌, List, map, sym, ap, subst}
 use Rattle.std.proofs.lemmas.List.{append-nil}
 use Rattle.event_log.proofs.Stands.{stands_keeps}
 use Rattle.lives.specs.Events.{Event, logged}

@@ -1,4 +1,4 @@
-use Rattle.std.proofs.Common.{◌≡◌, ◌∙◌, ◌∷◌, List, ℕ, length, arith, sym, ap, subst}
+use Rattle.std.proofs.Common.{◌∙◌, List, ℕ, arith, subst}
 use Rattle.event_log.specs.Standing.{GathersMore}
 use Rattle.lives.specs.Events.{logged}
 use Rattle.lives.proofs.Lasts.{machine_more, machine_same, log_more, given_more, new_outputs}
